@@ -1,0 +1,4 @@
+pub mod Test
+pub mod Number
+pub mod Buffer
+pub mod BufferLaws
