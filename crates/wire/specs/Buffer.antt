@@ -2,8 +2,16 @@
 use Prim.Native.Nat.{ℕ, _+_}
 use mathlib.Core.Bool.{Bool, true, false}
 use mathlib.Core.List.{List, _++_}
-use lib.ListN.{length, take, drop}
+use lib.ListN.{length, take, drop, getD, replicate}
 use Rattle.wire.specs.Test.{if_then_else_, _≤?_}
+
+-- the byte at a place, counted from 0
+abbrev pub byteAt : List ℕ → ℕ → ℕ
+byteAt bytes k = getD bytes k 0
+
+-- so many bytes of 0
+abbrev pub zeros : ℕ → List ℕ
+zeros n = replicate n 0
 
 -- the buffer with these bytes from place `at` on; what lies before and behind them stays
 abbrev pub putAt : List ℕ → ℕ → List ℕ → List ℕ

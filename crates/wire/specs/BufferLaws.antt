@@ -5,11 +5,14 @@ use native.Mathlib.Omega.{arith}
 use native.Mathlib.Nat.{add-assoc, add-zero}
 use native.Mathlib.Numerals.{add-one}
 use mathlib.Core.List.{List, [], _∷_, _++_, append-nil, append-assoc}
-use lib.ListN.{length, take, drop, getD, set, replicate, length-append, length-take, length-drop, take-append-drop}
+use lib.ListN.{length, take, drop, getD, set, length-append, length-take, length-drop, take-append-drop}
 use lib.Seq.{paste, paste-suc, drop-drop, drop-length, take-at, drop-at, take-length, length-take-le}
-use borrow.Author.Tests.{le-leb, lt-leb}
+use mathlib.Core.Bool.{true, false}
+use lib.Dec.{leb}
+use borrow.Author.Tests.{le-leb, lt-leb, leb-true, leb-false}
 use borrow.Rule.Slice.PartMut.{putMid}
-use Rattle.wire.specs.Buffer.{putAt, copied}
+use Rattle.wire.specs.Test.{byTest}
+use Rattle.wire.specs.Buffer.{putAt, copied, zeros}
 
 -- a buffer keeps its length
 pub put-length : (l : List ℕ) (at : ℕ) (x : List ℕ) → at + length x ≤ length l → length (putAt l at x) ≡ length l
@@ -56,5 +59,15 @@ pub copy-end : (l : List ℕ) (at : ℕ) (x : List ℕ) → paste l at x (length
 copy-end l at x = ap (λ (y : List ℕ). take at l ++ y ++ drop (at + length x) l) (take-length x)
 
 -- the end of the loop that zeroes
-pub zeroed : (l : List ℕ) (i : ℕ) {m : List ℕ} → m ≡ replicate i 0 ++ drop i l → i ≡ length l → m ≡ replicate (length l) 0
-zeroed l i e h = e ∙ rw (h, drop-length l) (append-nil (replicate (length l) 0))
+pub zeroed : (l : List ℕ) (i : ℕ) {m : List ℕ} → m ≡ zeros i ++ drop i l → i ≡ length l → m ≡ zeros (length l)
+zeroed l i e h = e ∙ rw (h, drop-length l) (append-nil (zeros (length l)))
+
+-- room behind a place, tested without a sum that could overflow
+pub room-left : (at n room : ℕ) → at ≤ room → leb n (room - at) ≡ leb (at + n) room
+room-left at n room h = byTest (leb n (room - at)) fits not-fits
+  where
+    fits : leb n (room - at) ≡ true → leb n (room - at) ≡ leb (at + n) room
+    fits t = t ∙ sym (le-leb (at + n) room (omega (arith, leb-true n (room - at) t)))
+
+    not-fits : leb n (room - at) ≡ false → leb n (room - at) ≡ leb (at + n) room
+    not-fits t = t ∙ sym (lt-leb (at + n) room (omega (arith, leb-false n (room - at) t)))

@@ -7,7 +7,6 @@ use lib.Dec.{ltb, leb, eqb}
 
 infix 4 if_then_else_
 infix 40 _<?_ _≤?_ _=?_
-
 abbrev pub if_then_else_ {ℓ} : {A : Type ℓ} → Bool → A → A → A
 if_then_else_ true a b = a
 if_then_else_ false a b = b

@@ -1,9 +1,9 @@
 // Bytes on the wire: numbers of two and four bytes, and bytes put into a lent buffer.
 ghost use mathlib.Core.Path.{_≡_};
 ghost use Prim.Native.Nat.{_+_, _≤_, _<_, min};
-ghost use lib.ListN.{length, replicate};
+ghost use lib.ListN.{length};
 ghost use Rattle.wire.specs.Number.{number2, number4};
-ghost use Rattle.wire.specs.Buffer.{putAt, copied};
+ghost use Rattle.wire.specs.Buffer.{putAt, copied, zeros};
 
 // A byte as a wider number.
 pub fn wide(b: u8) -> usize
@@ -52,7 +52,7 @@ pub fn copy_into(out: &mut [u8], at: usize, src: &[u8])
 
 // Zeroes a buffer.
 pub fn clear(out: &mut [u8])
-    ensures { λ _. ⌜ now (out .exit) ≡ replicate (length (now (out .entry))) 0 ⌝ }
+    ensures { λ _. ⌜ now (out .exit) ≡ zeros (length (now (out .entry))) ⌝ }
 {
     let mut i: usize = 0;
     while i < out.len() {
