@@ -1,7 +1,7 @@
 -- The bodies of eight bytes: BEGIN_REQUEST, END_REQUEST and UNKNOWN_TYPE (FastCGI 1.0, sections 5.1, 5.5 and 4.2).
 use Prim.Native.Nat.{ℕ, _%_, _<_}
 use mathlib.Core.Path.{_≡_, refl}
-use mathlib.Core.List.{List, [], _∷_, _++_}
+use mathlib.Core.List.{List, _∷_, _++_}
 use native.Mathlib.Omega.{arith}
 use lib.ListN.{length}
 use Rattle.wire.specs.Test.{_=?_}

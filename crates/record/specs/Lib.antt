@@ -1,11 +1,6 @@
 pub mod Names
 pub mod Header
 pub mod Body
-pub mod Written
-pub mod WrittenLaws
-pub mod StreamLaws
 pub mod Split
 pub mod SplitLaws
-pub mod ReadBack
-pub mod Position
-pub mod PositionLaws
+pub mod Padding

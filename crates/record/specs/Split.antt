@@ -1,6 +1,6 @@
 -- A list of bytes split into whole records and the rest, a record that is cut (FastCGI 1.0, section 3.3).
 use Prim.Native.Nat.{ℕ, zero, suc, _+_}
-use mathlib.Core.Bool.{Bool, true, false}
+use mathlib.Core.Bool.{Bool, false}
 use mathlib.Core.List.{List, [], _∷_, _++_}
 use lib.ListN.{length, take, drop}
 use Rattle.wire.specs.Test.{if_then_else_, _<?_, _≤?_}

@@ -1,15 +1,16 @@
 -- What holds of bytes split into records.
 use Prim.Native.Nat.{ℕ, zero, suc, _+_, _-_, _≤_, _<_}
 use mathlib.Core.Path.{_≡_, refl, sym, ap, ap₂, _∙_}
-use mathlib.Core.Bool.{Bool, true, false}
+use mathlib.Core.Bool.{true, false}
 use mathlib.Core.List.{List, [], _∷_, _++_, append-assoc}
 use native.Mathlib.Omega.{arith}
 use lib.ListN.{length, take, drop, List·getD-append, length-append, length-drop}
-use lib.Seq.{take-append-le, drop-append-le, take-append-add, drop-drop}
-use lib.Dec.{ltb, leb}
-use borrow.Author.Tests.{ltb-true, ltb-false, leb-true, leb-false, le-ltb, le-leb}
-use Rattle.wire.specs.Test.{if_then_else_, byTest}
+use lib.Seq.{take-at, drop-at, take-append-le, drop-append-le}
+use lib.Dec.{ltb}
+use borrow.Author.Tests.{ltb-false, leb-true, le-ltb, le-leb}
+use Rattle.wire.specs.Test.{byTest}
 use Rattle.wire.specs.Buffer.{byteAt}
+use Rattle.record.specs.declared.header.Header.{Header}
 use Rattle.record.specs.Header.{headerOf}
 use Rattle.record.specs.Split.{Record, Split, frontLength, wholeFront, front, allRest, _then-split_, splitIn, split}
 
@@ -116,3 +117,41 @@ split-append c =
 -- The rest has no whole record at its front.
 pub rest-cut : (b : List ℕ) → wholeFront (split b .rest) ≡ false
 rest-cut = by-records (λ b. wholeFront (split b .rest) ≡ false) (λ b t. rw (split-cut b t) t) (λ b t ih. rw (split-whole b t) ih)
+
+-- the record that a header, a content and a padding length make
+abbrev pub recordWith : Header → List ℕ → Record
+recordWith h content = record { version = h .version; kind = h .kind; id = h .id; content = content; padding = h .padding }
+
+-- Eight header bytes, then content and padding of the lengths that they say, whatever bytes the padding has: that record, and then what follows.
+module _ (h x y rest : List ℕ) (eight : length h ≡ 8) (content : length x ≡ headerOf h .content) (padding : length y ≡ headerOf h .padding) where
+  whole : List ℕ
+  whole = h ++ (x ++ (y ++ rest))
+
+  header-whole : headerOf whole ≡ headerOf h
+  unfolding whole
+  header-whole = header-front h (x ++ (y ++ rest)) (omega arith)
+
+  length-whole : frontLength whole ≡ length h + (length x + length y)
+  unfolding frontLength
+  length-whole = rw header-whole (omega arith)
+
+  behind : drop (frontLength whole) whole ≡ rest
+  unfolding whole
+  behind =
+      let e : length (h ++ (x ++ y)) ≡ frontLength whole = length-append h (x ++ y) ∙ ap (λ (n : ℕ). length h + n) (length-append x y) ∙ sym length-whole in
+      let a : whole ≡ (h ++ (x ++ y)) ++ rest = sym (append-assoc h (x ++ y) rest ∙ ap (λ (l : List ℕ). h ++ l) (append-assoc x y rest)) in
+      ap (drop (frontLength whole)) a ∙ drop-at (h ++ (x ++ y)) rest (frontLength whole) e
+
+  front-is : front whole ≡ recordWith (headerOf h) x
+  unfolding front whole
+  front-is =
+      let d : drop 8 whole ≡ x ++ (y ++ rest) = drop-at h (x ++ (y ++ rest)) 8 eight in
+      let t : take (headerOf h .content) (x ++ (y ++ rest)) ≡ x = take-at x (y ++ rest) (headerOf h .content) content in
+      rw (header-whole, d, t)
+
+  pub split-record : split (h ++ (x ++ (y ++ rest))) ≡ (recordWith (headerOf h) x ∷ []) then-split split rest
+  unfolding whole
+  split-record =
+      let l : length whole ≡ length h + (length x + (length y + length rest)) = length-append h (x ++ (y ++ rest)) ∙ ap (λ (n : ℕ). length h + n) (length-append x (y ++ rest) ∙ ap (λ (n : ℕ). length x + n) (length-append y rest)) in
+      let w : wholeFront whole ≡ true = front-whole whole (omega arith) (omega (arith, length-whole)) in
+      split-whole whole w ∙ ap₂ (λ (r : Record) (s : Split). (r ∷ []) then-split s) front-is (ap split behind)

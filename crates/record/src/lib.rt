@@ -1,7 +1,4 @@
-// FastCGI records: headers and bodies read and written, a record and a stream put into a lent buffer,
-// and the position of a reader of records.
+// FastCGI records: the numbers that have names, headers, and the bodies of eight bytes.
 pub mod body;
 pub mod header;
 pub mod names;
-pub mod position;
-pub mod write;

@@ -1,6 +1,6 @@
 -- Bytes put into a lent buffer.
 use Prim.Native.Nat.{ℕ, _+_}
-use mathlib.Core.Bool.{Bool, true, false}
+use mathlib.Core.Bool.{Bool}
 use mathlib.Core.List.{List, _++_}
 use lib.ListN.{length, take, drop, getD, replicate}
 use Rattle.wire.specs.Test.{if_then_else_, _≤?_}

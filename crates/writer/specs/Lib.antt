@@ -1,0 +1,4 @@
+pub mod Written
+pub mod WrittenLaws
+pub mod StreamLaws
+pub mod ReadBack
