@@ -1,0 +1,1 @@
+// Theorems only: the cases that the papers want proved, in specs/.

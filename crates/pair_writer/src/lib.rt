@@ -1,0 +1,68 @@
+// A pair written into a lent buffer.
+use wire::copy_into;
+ghost use mathlib.Core.Path.{_≡_};
+ghost use Prim.Native.Nat.{_+_, _≤_, _<_};
+ghost use lib.ListN.{length};
+ghost use Rattle.wire.specs.Buffer.{putAt};
+ghost use Rattle.pairs.specs.Length.{lengthBytes};
+ghost use Rattle.pair_writer.specs.Write.{answered, pairWritten};
+
+// The bytes written; or the refusals 8, name or value over 65,535 bytes, and 6, the buffer too short.
+pub enum Wrote {
+    Bytes(usize),
+    TooLong,
+    NoRoom,
+}
+
+// How many bytes a length takes.
+fn length_size(n: usize) -> usize
+    ensures { λ r. ⌜ r ≡ length (lengthBytes n) ⌝ }
+{
+    if n < 128 { 1 } else { 4 }
+}
+
+// Writes a length at a place, and answers the place behind it.
+fn put_length(out: &mut [u8], at: usize, n: usize) -> usize
+    requires { ⌜ (n ≤ 65535) × (at + length (lengthBytes n) ≤ length (now out)) ⌝ }
+    ensures { λ r. ⌜ (r ≡ at + length (lengthBytes n)) × (now (out .exit) ≡ putAt (now (out .entry)) at (lengthBytes n)) ⌝ }
+{
+    if n < 128 {
+        let one = [n as u8];
+        copy_into(out, at, &one);
+        return at + 1;
+    }
+    let m = n + 2147483648;
+    let four = [
+        (m / 16777216 % 256) as u8,
+        (m / 65536 % 256) as u8,
+        (m / 256 % 256) as u8,
+        (m % 256) as u8,
+    ];
+    copy_into(out, at, &four);
+    at + 4
+}
+
+// Writes a pair at the start of out, each length in its shorter form. What lies behind it stays.
+pub fn write_pair(out: &mut [u8], name: &[u8], value: &[u8]) -> Wrote
+    ensures { λ r. ⌜ answered r (now (out .exit)) ≡ pairWritten (now (out .entry)) (now (name .entry)) (now (value .entry)) ⌝ }
+{
+    let n = name.len();
+    let v = value.len();
+    if 65535 < n {
+        return Wrote::TooLong;
+    }
+    if 65535 < v {
+        return Wrote::TooLong;
+    }
+    let size = length_size(n) + length_size(v) + n + v;
+    if out.len() < size {
+        return Wrote::NoRoom;
+    }
+    let z: usize = 0;
+    let a = put_length(out, z, n);
+    let b = put_length(out, a, v);
+    copy_into(out, b, name);
+    let c = b + n;
+    copy_into(out, c, value);
+    Wrote::Bytes(size)
+}
