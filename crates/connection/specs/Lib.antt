@@ -1,0 +1,10 @@
+pub mod Sizes
+pub mod Event
+pub mod Numbers
+pub mod Refusal
+pub mod Request
+pub mod Slots
+pub mod Shape
+pub mod Step
+pub mod RequestCalls
+pub mod Calls

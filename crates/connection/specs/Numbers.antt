@@ -1,0 +1,71 @@
+-- What each case of the code's enums is in the scope's numbers and values.
+use Prim.Native.Nat.{ℕ}
+use Rattle.record.specs.Names.{RESPONDER, AUTHORIZER, FILTER, STDIN, STDOUT, STDERR, DATA, OVERLOADED, UNKNOWN-ROLE}
+use Rattle.connection.specs.declared.request.Role.{Role}
+use Rattle.connection.specs.declared.event.Stream.{Stream}
+use Rattle.connection.specs.declared.event.Status.{Status}
+use Rattle.connection.specs.declared.event.Fault.{Fault}
+use Rattle.connection.specs.declared.event.Close.{Close}
+use Rattle.connection.specs.declared.event.Event.{Event as CodeEvent}
+use Rattle.connection.specs.declared.answer.Refusal.{Refusal}
+use Rattle.connection.specs.declared.answer.Output.{Output}
+use Rattle.connection.specs.Event.{Event}
+
+-- the numbers of roles and streams
+abbrev pub roleNumber : Role → ℕ
+roleNumber Role.Responder = RESPONDER
+roleNumber Role.Authorizer = AUTHORIZER
+roleNumber Role.Filter = FILTER
+
+abbrev pub streamType : Stream → ℕ
+streamType Stream.Stdin = STDIN
+streamType Stream.Data = DATA
+
+abbrev pub outputType : Output → ℕ
+outputType Output.Stdout = STDOUT
+outputType Output.Stderr = STDERR
+
+-- why an opening is refused
+abbrev pub statusNumber : Status → ℕ
+statusNumber Status.Overloaded = OVERLOADED
+statusNumber Status.UnknownRole = UNKNOWN-ROLE
+
+-- faults and closes
+abbrev pub faultNumber : Fault → ℕ
+faultNumber Fault.BeginAgain = 21
+faultNumber Fault.OutOfTurn = 22
+faultNumber Fault.WrongType = 23
+faultNumber Fault.TooLong = 24
+faultNumber Fault.Malformed = 25
+
+abbrev pub closeNumber : Close → ℕ
+closeNumber Close.Version = 11
+closeNumber Close.BeginLength = 12
+closeNumber Close.QueryLength = 13
+closeNumber Close.QueryMalformed = 14
+
+-- an event of the code
+abbrev pub eventOf : CodeEvent → Event
+eventOf CodeEvent.Nothing = Event.None
+eventOf (CodeEvent.Open id role keep) = Event.Open id (roleNumber role) keep
+eventOf (CodeEvent.Ready id n) = Event.Ready id n
+eventOf (CodeEvent.Data id stream n) = Event.Data id (streamType stream) n
+eventOf (CodeEvent.End id stream) = Event.End id (streamType stream)
+eventOf (CodeEvent.Abort id) = Event.Abort id
+eventOf (CodeEvent.Refuse id status) = Event.Refuse id (statusNumber status)
+eventOf (CodeEvent.Fault id fault) = Event.Fault id (faultNumber fault)
+eventOf (CodeEvent.Query conns reqs mpxs) = Event.Query conns reqs mpxs
+eventOf (CodeEvent.Unknown kind) = Event.Unknown kind
+eventOf (CodeEvent.Closed close) = Event.Closed (closeNumber close)
+
+-- refusals by their number in the table
+abbrev pub refusalNumber : Refusal → ℕ
+refusalNumber Refusal.Closed = 1
+refusalNumber Refusal.StoreSize = 2
+refusalNumber Refusal.NotActive = 3
+refusalNumber Refusal.NotReady = 4
+refusalNumber Refusal.Ended = 5
+refusalNumber Refusal.NoRoom = 6
+refusalNumber Refusal.NoPair = 7
+refusalNumber Refusal.TooLong = 8
+refusalNumber Refusal.OutOfShape = 9

@@ -1,0 +1,177 @@
+-- The rules for one request. They see the request's record and its own area, and nothing else: no slot, no other request.
+use Prim.Native.Nat.{ℕ, _+_}
+use mathlib.Core.Bool.{Bool, true, false}
+use mathlib.Core.List.{List}
+use lib.ListN.{length, take}
+use Rattle.wire.specs.Test.{if_then_else_, _<?_, _≤?_, _=?_}
+use Rattle.wire.specs.Buffer.{copied, zeros}
+use Rattle.record.specs.Names.{BEGIN-REQUEST, ABORT-REQUEST, PARAMS, STDIN, DATA}
+use Rattle.pairs.specs.List.{wellFormed}
+use Rattle.connection.specs.declared.request.Role.{Role}
+use Rattle.connection.specs.declared.request.Turn.{Turn}
+use Rattle.connection.specs.declared.request.Life.{Life}
+use Rattle.connection.specs.declared.request.Mark.{Mark}
+use Rattle.connection.specs.declared.request.Request.{Request}
+use Rattle.connection.specs.declared.request.Due.{Due}
+use Rattle.connection.specs.Event.{Event}
+use Rattle.connection.specs.Sizes.{AREA}
+
+pub record Held : Type 0 where
+  pub request : Request
+  pub area : List ℕ
+
+-- its list: the area up to its length
+abbrev pub listOf : Held → List ℕ
+listOf h = take (h .request .length) (h .area)
+
+-- ---- marks
+unfoldable pub withTurn : Mark → Turn → Mark
+withTurn m t =
+    record { role = m .role; turn = t; life = m .life; keep = m .keep; «out_ended» = m .«out_ended»; «err_used» = m .«err_used»; «err_ended» = m .«err_ended» }
+
+unfoldable pub withLife : Mark → Life → Mark
+withLife m l =
+    record { role = m .role; turn = m .turn; life = l; keep = m .keep; «out_ended» = m .«out_ended»; «err_used» = m .«err_used»; «err_ended» = m .«err_ended» }
+
+abbrev pub withMark : Request → Mark → Request
+withMark r m = record { id = r .id; length = r .length; mark = m }
+
+-- spent: faulted or aborted
+abbrev pub isSpent : Life → Bool
+isSpent Life.Live = false
+isSpent Life.Faulted = true
+isSpent Life.Aborted = true
+
+-- the turns: PARAMS to its end, then STDIN (responder, filter), then DATA (filter only)
+abbrev pub afterParams : Role → Turn
+afterParams Role.Responder = Turn.Stdin
+afterParams Role.Authorizer = Turn.Done
+afterParams Role.Filter = Turn.Stdin
+
+abbrev pub afterStdin : Role → Turn
+afterStdin Role.Responder = Turn.Done
+afterStdin Role.Authorizer = Turn.Done
+afterStdin Role.Filter = Turn.Data
+
+-- the type of the stream whose turn it is; 0 where none is left
+abbrev pub turnType : Turn → ℕ
+turnType Turn.Params = PARAMS
+turnType Turn.Stdin = STDIN
+turnType Turn.Data = DATA
+turnType Turn.Done = 0
+
+-- ---- what a header does to its request
+pub record Ruled : Type 0 where
+  pub held : Held
+  pub due : Due
+  pub event : Event
+
+abbrev pub ruled : Held → Due → Event → Ruled
+ruled h d e = record { held = h; due = d; event = e }
+
+-- skipped in silence
+abbrev pub skipped : Held → Ruled
+skipped h = ruled h Due.Skip Event.None
+
+-- A fault zeroes the request's area, sets its length to 0 and spends it; the rest of the record is skipped.
+unfoldable pub faulted : Held → ℕ → Ruled
+faulted h n =
+    ruled
+    (record {
+      request = record { id = h .request .id; length = 0; mark = withLife (h .request .mark) Life.Faulted };
+      area = zeros (length (h .area));
+    })
+    Due.Skip (Event.Fault (h .request .id) n)
+
+-- An abort spends the request; its area stays.
+unfoldable pub aborted : Held → Ruled
+aborted h =
+    ruled (record { request = withMark (h .request) (withLife (h .request .mark) Life.Aborted); area = h .area }) Due.Skip
+    (Event.Abort (h .request .id))
+
+-- A stream ends: the turn moves on.
+unfoldable pub turned : Held → Turn → Event → Ruled
+turned h t e =
+    ruled (record { request = withMark (h .request) (withTurn (h .request .mark) t); area = h .area }) Due.Skip e
+
+-- What the end of PARAMS comes to: the number of a fault, or 0.
+unfoldable pub paramsFault : List ℕ → ℕ
+paramsFault list = if wellFormed list then 0 else 25
+
+unfoldable pub paramsEnded : Held → Ruled
+paramsEnded h =
+    if paramsFault (listOf h) =? 0 then turned h (afterParams (h .request .mark .role)) (Event.Ready (h .request .id) (h .request .length))
+    else faulted h (paramsFault (listOf h))
+
+-- Rule 8. PARAMS with n content bytes.
+unfoldable pub onParams : ℕ → Held → Ruled
+onParams n h =
+    if AREA <? h .request .length + n then faulted h 24
+    else if n =? 0 then paramsEnded h
+    else ruled h Due.Params Event.None
+
+-- Rule 9. STDIN and DATA: their content is shown; an empty record ends the stream.
+unfoldable pub onStdin : ℕ → Held → Ruled
+onStdin n h =
+    if n =? 0 then turned h (afterStdin (h .request .mark .role)) (Event.End (h .request .id) STDIN)
+    else ruled h Due.Stdin Event.None
+
+unfoldable pub onData : ℕ → Held → Ruled
+onData n h = if n =? 0 then turned h Turn.Done (Event.End (h .request .id) DATA) else ruled h Due.Data Event.None
+
+-- a record of the stream whose turn it is
+abbrev pub inTurn : Turn → ℕ → Held → Ruled
+inTurn Turn.Params n h = onParams n h
+inTurn Turn.Stdin n h = onStdin n h
+inTurn Turn.Data n h = onData n h
+inTurn Turn.Done n h = faulted h 22
+
+abbrev pub isInput : ℕ → Bool
+isInput kind = if kind =? PARAMS then true else if kind =? STDIN then true else kind =? DATA
+
+-- Rule 7. A record of an input stream that is out of turn is fault 22.
+unfoldable pub onInput : ℕ → ℕ → Held → Ruled
+onInput kind n h =
+    if kind =? turnType (h .request .mark .turn) then inTurn (h .request .mark .turn) n h else faulted h 22
+
+-- Rules 6 to 10: a header of that type with n content bytes, for a request that is not spent.
+unfoldable pub onLive : ℕ → ℕ → Held → Ruled
+onLive kind n h =
+    if kind =? BEGIN-REQUEST then faulted h 21
+    else if kind =? ABORT-REQUEST then aborted h
+    else if isInput kind then onInput kind n h
+    else faulted h 23
+
+-- Rule 5: the records of a spent request are skipped in silence.
+unfoldable pub onHeader : ℕ → ℕ → Held → Ruled
+onHeader kind n h = if isSpent (h .request .mark .life) then skipped h else onLive kind n h
+
+-- ---- what content does to its request
+-- PARAMS content goes into the area behind the list, and the list grows by it. (In a state in shape it does not pass AREA.)
+unfoldable pub grown : Held → List ℕ → Held
+grown h bytes =
+    if h .request .length + length bytes ≤? AREA then record {
+      request = record { id = h .request .id; length = h .request .length + length bytes; mark = h .request .mark };
+      area = copied (h .area) (h .request .length) bytes;
+    }
+    else h
+
+-- Content that is due to a request: PARAMS is kept, STDIN and DATA are shown.
+pub record Fed : Type 0 where
+  pub held : Held
+  pub event : Event
+
+abbrev pub onContent : Due → List ℕ → Held → Fed
+onContent Due.Skip bytes h = record { held = h; event = Event.None }
+onContent Due.Params bytes h = record { held = grown h bytes; event = Event.None }
+onContent Due.Stdin bytes h = record { held = h; event = Event.Data (h .request .id) STDIN (length bytes) }
+onContent Due.Data bytes h = record { held = h; event = Event.Data (h .request .id) DATA (length bytes) }
+
+-- ---- a request as it is opened
+unfoldable pub opened : ℕ → Role → Bool → Request
+opened id role keep =
+    record {
+      id = id;
+      length = 0;
+      mark = record { role = role; turn = Turn.Params; life = Life.Live; keep = keep; «out_ended» = false; «err_used» = false; «err_ended» = false };
+    }

@@ -1,0 +1,22 @@
+-- Sizes, each in one place. The code has the same names in src/sizes.rt.
+use Prim.Native.Nat.{ℕ, _*_}
+
+-- requests that can be active at once
+abbrev pub SLOTS : ℕ
+SLOTS = 16
+
+-- bytes of the store that belong to one slot
+abbrev pub AREA : ℕ
+AREA = 2048
+
+-- the store
+abbrev pub STORE : ℕ
+STORE = SLOTS * AREA
+
+-- the most content bytes of a GET_VALUES record (house rule)
+abbrev pub QUERY : ℕ
+QUERY = 512
+
+-- content bytes of a record of STDOUT or STDERR (house rule)
+abbrev pub CHUNK : ℕ
+CHUNK = 8184

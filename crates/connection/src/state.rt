@@ -1,0 +1,42 @@
+// The state of a connection.
+use crate::request::Mark;
+use reader::Position;
+
+// The requests, slot by slot. Bit i of `occupied` says that slot i is taken.
+pub struct Table {
+    pub ids: [u16; 16],
+    pub lengths: [u16; 16],
+    pub marks: [Mark; 16],
+    pub occupied: u16,
+}
+
+// What the content of the record being read is for: nothing, a request to be opened, a query, or the slot of a request.
+pub enum Target {
+    Skip,
+    Begin(u16),
+    Query,
+    Params(u8),
+    Stdin(u8),
+    Data(u8),
+}
+
+// The record being read: where the reader stands, what its content is for, and how many bytes of a body are
+// gathered. A BEGIN_REQUEST body is held here; a query lies in the 512 bytes that are lent beside the state.
+pub struct Frame {
+    pub position: Position,
+    pub target: Target,
+    pub gathered: usize,
+    pub body: [u8; 8],
+}
+
+pub struct Conn {
+    pub table: Table,
+    pub frame: Frame,
+    pub open: bool,
+}
+
+// A slot found, or none.
+pub enum Slot {
+    At(usize),
+    Nowhere,
+}
