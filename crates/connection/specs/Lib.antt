@@ -8,3 +8,13 @@ pub mod Shape
 pub mod Step
 pub mod RequestCalls
 pub mod Calls
+pub mod Moved
+pub mod SlotsLaws
+pub mod ShapeLaws
+pub mod TableShape
+pub mod RequestShape
+pub mod PieceLaws
+pub mod StateShape
+pub mod HeaderShape
+pub mod ContentShape
+pub mod StepShape

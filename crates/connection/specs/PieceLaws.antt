@@ -1,0 +1,83 @@
+-- What a step of the reader does with a piece, case by case; and bytes that stay below 256.
+use mathlib.Core.Path.{_≡_}
+use Prim.Native.Nat.{ℕ, zero, suc, _+_, _-_, _≤_, _<_, min}
+use mathlib.Core.List.{List, _++_}
+use native.Mathlib.Omega.{arith}
+use lib.ListN.{length, take, drop, getD, length-take, List·getD-append, List·getD-eq-default}
+use lib.Seq.{getD-take, getD-drop, getD-append-add}
+use lib.Dec.{ltb}
+use borrow.Author.Tests.{ltb-true, ltb-false, lt-leb}
+use Rattle.wire.specs.Test.{byTest}
+use Rattle.wire.specs.Buffer.{putAt, zeros}
+use Rattle.record.specs.Header.{headerOf}
+use Rattle.record.specs.declared.header.Header.{Header}
+use Rattle.reader.specs.Position.{behindHeader, heldAnd, inHeader, advanced}
+use Rattle.reader.specs.PositionLaws.{at}
+use Rattle.reader.specs.declared.Position.{Position}
+use Rattle.reader.specs.declared.Phase.{Phase}
+use Rattle.reader.specs.declared.Advanced.{Advanced}
+
+-- ---- bytes
+-- Every element is a byte.
+abbrev pub AllBytes : List ℕ → Type 0
+AllBytes s = (i : ℕ) → getD s i 0 < 256
+
+-- Zeros are bytes.
+pub zeros-bytes : (n : ℕ) → AllBytes (zeros n)
+zeros-bytes zero i = omega arith
+zeros-bytes (suc n) zero = omega arith
+zeros-bytes (suc n) (suc i) = zeros-bytes n i
+
+-- The first of some bytes are bytes.
+pub take-bytes : (n : ℕ) (s : List ℕ) → AllBytes s → AllBytes (take n s)
+take-bytes n s a i =
+    byTest (ltb i n)
+    (λ t. rw (getD-take n s i 0 (ltb-true i n t)) (a i))
+    (λ t. let out : getD (take n s) i 0 ≡ 0 = List·getD-eq-default (take n s) 0 (omega (arith, ltb-false i n t, length-take n s)) in omega arith)
+
+-- And those behind them.
+pub drop-bytes : (n : ℕ) (s : List ℕ) → AllBytes s → AllBytes (drop n s)
+drop-bytes n s a i = rw (getD-drop n s i 0) (a (n + i))
+
+-- And two lists of bytes in one.
+pub append-bytes : (s t : List ℕ) → AllBytes s → AllBytes t → AllBytes (s ++ t)
+append-bytes s t a b i =
+    byTest (ltb i (length s))
+    (λ h. rw (List·getD-append s t 0 i (ltb-true i (length s) h)) (a i))
+    (λ h. let e : i ≡ length s + (i - length s) = omega (arith, ltb-false i (length s) h) in rw (e, getD-append-add s t (i - length s) 0) (b (i - length s)))
+
+-- And bytes put into a buffer of bytes.
+pub put-bytes : (l : List ℕ) (at : ℕ) (x : List ℕ) → AllBytes l → AllBytes x → AllBytes (putAt l at x)
+put-bytes l at x a b = append-bytes (take at l ++ x) (drop (at + length x) l) (append-bytes (take at l) x (take-bytes at l a) b) (drop-bytes (at + length x) l a)
+
+-- A header with content of at most 65,535 bytes and padding of at most 255.
+pub record HeaderFits (h : Header) : Type 0 where
+  pub content : h .content ≤ 65535
+  pub padding : h .padding ≤ 255
+
+-- A header read from bytes is one.
+pub header-fits : (b : List ℕ) → AllBytes b → HeaderFits (headerOf b)
+unfolding headerOf
+header-fits b a = record { content = omega (arith, a 4, a 5); padding = omega (arith, a 6) }
+
+-- ---- a step of the reader
+-- A step is in content, in padding, in a header that it does not end, or it ends a header.
+pub by-step : (P : Advanced → Type 0) (p : Position) (piece : List ℕ) → p .held ≤ 7
+    → (0 < p .content
+    → P (record { used = min (p .content) (length piece); phase = Phase.Content; position = at (p .content - min (p .content) (length piece)) (p .padding) (p .held) (p .header) }))
+    → (p .content ≡ 0 → 0 < p .padding
+    → P (record { used = min (p .padding) (length piece); phase = Phase.Padding; position = at 0 (p .padding - min (p .padding) (length piece)) (p .held) (p .header) }))
+    → (p .content ≡ 0 → (n : ℕ) → n ≤ length piece → p .held + n < 8
+    → P (record { used = n; phase = Phase.Part; position = at 0 0 (p .held + n) (heldAnd (p .held) (p .header) n piece) }))
+    → (p .content ≡ 0 → (n : ℕ) → n ≤ length piece → p .held + n ≡ 8
+    → P (record { used = n; phase = Phase.Whole (headerOf (heldAnd (p .held) (p .header) n piece)); position = behindHeader (headerOf (heldAnd (p .held) (p .header) n piece)) }))
+    → P (advanced p piece)
+unfolding advanced inHeader
+by-step P p piece held content padding part whole =
+    byTest (ltb 0 (p .content))
+    (λ c. simp c (content (ltb-true 0 (p .content) c)))
+    (λ c. let none : p .content ≡ 0 = omega (arith, ltb-false 0 (p .content) c) in byTest (ltb 0 (p .padding))
+    (λ d. simp (c, d) (padding none (ltb-true 0 (p .padding) d)))
+    (λ d. let n = min (8 - p .held) (length piece) in byTest (ltb (p .held + n) 8)
+    (λ e. simp (c, d, lt-leb 8 (p .held) (omega arith), e) (part none n (omega arith) (ltb-true (p .held + n) 8 e)))
+    (λ e. simp (c, d, lt-leb 8 (p .held) (omega arith), e) (whole none n (omega arith) (omega (arith, ltb-false (p .held + n) 8 e))))))

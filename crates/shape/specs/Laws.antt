@@ -1,0 +1,51 @@
+-- What the loops over the slots need.
+use Prim.Native.Nat.{ℕ, zero, suc, _+_, _-_, _≤_, _<_}
+use mathlib.Core.Path.{_≡_, refl, sym, ap, _∙_}
+use mathlib.Core.Bool.{Bool, true, false}
+use mathlib.Core.List.{List}
+use native.Mathlib.Omega.{arith}
+use native.Mathlib.Numerals.{add-one}
+use lib.Dec.{ltb, eqb}
+use borrow.Author.Tests.{ltb-true, eq-eqb, ne-eqb}
+use Rattle.wire.specs.Test.{if_then_else_, byTest}
+use Rattle.connection.specs.declared.state.Slot.{Slot}
+use Rattle.connection.specs.Sizes.{SLOTS}
+use Rattle.connection.specs.Slots.{holdsId, findFrom}
+use Rattle.connection.specs.Shape.{_and_, lengthFits, idFits, slotsFit}
+use Rattle.shape.specs.Fits.{dueOf}
+
+-- a turn of the search for an id, and its end
+pub find-turn : (ids : List ℕ) (occupied id i : ℕ) → i < SLOTS
+    → findFrom (SLOTS - i) ids occupied id i ≡ (if holdsId ids occupied id i then Slot.At i else findFrom (SLOTS - (i + 1)) ids occupied id (i + 1))
+unfolding findFrom
+find-turn ids occupied id i h = let n : SLOTS - i ≡ suc (SLOTS - (i + 1)) = omega arith in rw n
+
+pub find-end : (ids : List ℕ) (occupied id i : ℕ) → SLOTS ≤ i → findFrom (SLOTS - i) ids occupied id i ≡ Slot.Nowhere
+unfolding findFrom
+find-end ids occupied id i h = let n : SLOTS - i ≡ 0 = omega arith in rw n
+
+-- a turn of the test of the slots, and its end
+pub fits-turn : (ids lengths : List ℕ) (occupied i : ℕ) → i < SLOTS
+    → slotsFit (SLOTS - i) ids lengths occupied i
+    ≡ lengthFits lengths i and (idFits ids occupied (SLOTS - (i + 1)) i and slotsFit (SLOTS - (i + 1)) ids lengths occupied (i + 1))
+unfolding slotsFit
+fits-turn ids lengths occupied i h = let n : SLOTS - i ≡ suc (SLOTS - (i + 1)) = omega arith in rw n
+
+pub fits-end : (ids lengths : List ℕ) (occupied i : ℕ) → SLOTS ≤ i → slotsFit (SLOTS - i) ids lengths occupied i ≡ true
+unfolding slotsFit
+fits-end ids lengths occupied i h = let n : SLOTS - i ≡ 0 = omega arith in rw n
+
+-- content that fits is due to one of the slots
+pub due-slot : (occupied i : ℕ) → dueOf occupied i ≡ true → i < SLOTS
+due-slot occupied i e =
+    byTest (ltb i SLOTS) (λ t. ltb-true i SLOTS t) (λ t. let z : _≡_ {A = ℕ} 0 1 = cc (simp t at e) in absurd (omega arith))
+
+-- eight bytes, some of them gathered and some left
+pub eight : (gathered left : ℕ) → gathered ≤ 8 → left ≡ 8 - gathered → eqb (gathered + left) 8 ≡ true
+eight gathered left h e = eq-eqb (gathered + left) 8 (omega arith)
+
+pub not-eight : (gathered left : ℕ) → (left ≡ 8 - gathered → ⊥) → eqb (gathered + left) 8 ≡ false
+not-eight gathered left h = ne-eqb (gathered + left) 8 (λ e. h (omega arith))
+
+pub over-eight : (gathered left : ℕ) → 8 < gathered → eqb (gathered + left) 8 ≡ false
+over-eight gathered left h = ne-eqb (gathered + left) 8 (λ e. omega arith)
