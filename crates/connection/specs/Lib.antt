@@ -18,3 +18,12 @@ pub mod StateShape
 pub mod HeaderShape
 pub mod ContentShape
 pub mod StepShape
+pub mod PartLaws
+pub mod Bytewise
+pub mod Progress
+pub mod StepSizes
+pub mod PlainEvents
+pub mod CuttingContent
+pub mod CuttingRequest
+pub mod Cutting
+pub mod CuttingLeft

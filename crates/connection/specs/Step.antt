@@ -23,6 +23,7 @@ use Rattle.connection.specs.declared.state.Frame.{Frame}
 use Rattle.connection.specs.declared.state.Conn.{Conn}
 use Rattle.connection.specs.Sizes.{SLOTS, STORE, QUERY}
 use Rattle.connection.specs.Event.{Event}
+use Rattle.connection.specs.Numbers.{roleNumber}
 use Rattle.connection.specs.Refusal.{_when_, refusal}
 use Rattle.connection.specs.Request.{Held, Ruled, onHeader, onContent, opened}
 use Rattle.connection.specs.Slots.{heldAt, putRequest, putArea, takeSlot, freeSlotOf, noRequests, find, onSlot}
@@ -169,7 +170,7 @@ opens st store id b role f =
       conn = openWith (takeSlot (st .conn .table) (freeSlotOf (st .conn .table)) (opened id role (b .keep))) f;
       gathered = st .gathered;
       store = store;
-      event = Event.Open id (b .role) (b .keep);
+      event = Event.Open id (roleNumber role) (b .keep);
     }
     else reads st store f (Event.Refuse id OVERLOADED)
 

@@ -1,7 +1,7 @@
 -- The cases marked P: one table, and one theorem, computed by the checker.
 use Prim.Native.Nat.{ℕ}
 use mathlib.Core.Path.{refl}
-use mathlib.Core.Bool.{true, false}
+use mathlib.Core.Bool.{false}
 use mathlib.Core.List.{List, [], _∷_, _++_}
 use Rattle.wire.specs.Number.{number4}
 use Rattle.record.specs.Names.{STDIN}

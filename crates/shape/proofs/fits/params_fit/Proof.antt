@@ -1,5 +1,5 @@
 use native.Mathlib.Omega.{arith}
-use mathlib.Core.Path.{_≡_, sym, _∙_}
+use mathlib.Core.Path.{sym, _∙_}
 use Prim.Native.Nat.{_<_}
 use Rattle.connection.specs.Sizes.{SLOTS}
 use Rattle.shape.specs.Laws.{due-slot}

@@ -1,0 +1,191 @@
+// Content bytes of a record, each given to what they are for.
+use connection::event::Event;
+use connection::event::Status;
+use connection::event::Stream;
+use connection::moved::Change;
+use connection::moved::Moved;
+use connection::request::Request;
+use connection::request::Role;
+use connection::sizes::AREA;
+use connection::sizes::SLOTS;
+use connection::state::Frame;
+use connection::state::Table;
+use connection::state::Target;
+use judge::on_query;
+use judge::quiet;
+use judge::target_if;
+use occupancy::lowest_free;
+use reader::Position;
+use record::body::BeginBody;
+use record::body::read_begin_body;
+use record::names;
+use request::grow;
+use request::open_request;
+use wire::copy_into;
+use wire::least;
+ghost use mathlib.Core.Path.{_≡_};
+ghost use mathlib.Core.List.{List};
+ghost use Prim.Native.Nat.{ℕ, _+_, _≤_, _<_};
+ghost use lib.ListN.{length};
+ghost use Rattle.connection.specs.declared.state.Table.{Table};
+ghost use Rattle.connection.specs.declared.state.Frame.{Frame};
+ghost use Rattle.connection.specs.declared.request.Due.{Due};
+ghost use Rattle.connection.specs.Numbers.{eventOf, streamType};
+ghost use Rattle.connection.specs.Sizes.{SLOTS, STORE, QUERY};
+ghost use Rattle.connection.specs.Slots.{requestAt, areaAt, putArea, freeSlotOf};
+ghost use Rattle.connection.specs.ShapeLaws.{Aimed};
+ghost use Rattle.connection.specs.Step.{within, reads, opens, begun, ofBegin, ofQuery, ofRequest, onTarget};
+ghost use Rattle.connection.specs.Moved.{openState, leftBy};
+
+// The frame within content, with so many bytes of a body gathered.
+fn frame_within(f: Frame, p: Position, n: usize, body: [u8; 8]) -> Frame
+    ensures { λ r. ⌜ r ≡ within f p n body ⌝ }
+{
+    let old = f.target;
+    let target = target_if(p.content, old);
+    Frame {
+        position: p,
+        target: target,
+        gathered: n,
+        body: body,
+    }
+}
+
+// A known role: the request is opened in the lowest-numbered free slot, if there is one.
+fn open_in(free: usize, id: u16, role: Role, b: BeginBody, f: Frame) -> Moved
+    ensures { λ r. ⌜ ((t : Table) (fr : Frame) (g s : List ℕ) → freeSlotOf t ≡ free → leftBy r t g s ≡ opens (openState t fr g) s id b role f) ⌝ }
+{
+    let keep = b.keep;
+    if free < SLOTS {
+        let request = open_request(id, role, keep);
+        return Moved {
+            change: Change::Take(free, request),
+            frame: f,
+            event: Event::Open(id, role, keep),
+        };
+    }
+    quiet(f, Event::Refuse(id, Status::Overloaded))
+}
+
+// A BEGIN_REQUEST body that is whole.
+fn begin(free: usize, id: u16, b: BeginBody, f: Frame) -> Moved
+    ensures { λ r. ⌜ ((t : Table) (fr : Frame) (g s : List ℕ) → freeSlotOf t ≡ free → leftBy r t g s ≡ begun (openState t fr g) s id b f) ⌝ }
+{
+    let role = b.role;
+    if role == names::RESPONDER {
+        return open_in(free, id, Role::Responder, b, f);
+    }
+    if role == names::AUTHORIZER {
+        return open_in(free, id, Role::Authorizer, b, f);
+    }
+    if role == names::FILTER {
+        return open_in(free, id, Role::Filter, b, f);
+    }
+    quiet(f, Event::Refuse(id, Status::UnknownRole))
+}
+
+// Bytes of a BEGIN_REQUEST body.
+fn of_begin(f: Frame, free: usize, id: u16, bytes: &[u8], p: Position) -> Moved
+    requires { ⌜ (f .gathered ≤ QUERY) × (length (now bytes) ≤ 65535) ⌝ }
+    ensures { λ r. ⌜ ((t : Table) (g s : List ℕ) → freeSlotOf t ≡ free → leftBy r t g s ≡ ofBegin (openState t f g) s id (now (bytes .entry)) p) ⌝ }
+{
+    let n = f.gathered;
+    let mut body = f.body;
+    copy_into(&mut body, n, bytes);
+    let left = p.content;
+    if left == 0 {
+        let b = read_begin_body(body);
+        let none = frame_within(f, p, 0, [0; 8]);
+        return begin(free, id, b, none);
+    }
+    let more = frame_within(f, p, n + bytes.len(), body);
+    quiet(more, Event::Nothing)
+}
+
+// Bytes of a query.
+fn of_query(f: Frame, gathered: &mut [u8], bytes: &[u8], p: Position) -> Moved
+    requires { ⌜ (f .gathered ≤ QUERY) × (length (now bytes) ≤ 65535) ⌝ }
+    ensures { λ r. ⌜ ((t : Table) (s : List ℕ) → leftBy r t (now (gathered .exit)) s ≡ ofQuery (openState t f (now (gathered .entry))) s (now (bytes .entry)) p) ⌝ }
+{
+    let n = f.gathered;
+    copy_into(gathered, n, bytes);
+    let m = n + bytes.len();
+    let body = f.body;
+    let left = p.content;
+    if left == 0 {
+        let none = frame_within(f, p, 0, body);
+        let z: usize = 0;
+        let e = least(m, gathered.len());
+        return on_query(&gathered[z..e], none);
+    }
+    let more = frame_within(f, p, m, body);
+    quiet(more, Event::Nothing)
+}
+
+// PARAMS content for the request in slot i; its own area is lent.
+fn of_params(area: &mut [u8], r: Request, i: usize, f: Frame, bytes: &[u8], p: Position) -> Moved
+    ensures { λ x. ⌜ ((t : Table) (g s : List ℕ) → requestAt t i ≡ r → areaAt s i ≡ now (area .entry) → leftBy x t g (putArea s i (now (area .exit))) ≡ ofRequest (openState t f g) s Due.Params i (now (bytes .entry)) p) ⌝ }
+{
+    let grown = grow(r, area, bytes);
+    let gathered = f.gathered;
+    let body = f.body;
+    let frame = frame_within(f, p, gathered, body);
+    Moved {
+        change: Change::Put(i, grown),
+        frame: frame,
+        event: Event::Nothing,
+    }
+}
+
+// Content that is shown or skipped: only the frame changes.
+fn passed(f: Frame, p: Position, e: Event) -> Moved
+    ensures { λ x. ⌜ ((t : Table) (g s : List ℕ) → leftBy x t g s ≡ reads (openState t f g) s (within f p (f .gathered) (f .body)) (eventOf e)) ⌝ }
+{
+    let gathered = f.gathered;
+    let body = f.body;
+    let frame = frame_within(f, p, gathered, body);
+    quiet(frame, e)
+}
+
+// Content bytes of the record being read; p is the position behind them.
+pub fn feed(
+    t: Table,
+    f: Frame,
+    store: &mut [u8],
+    gathered: &mut [u8; 512],
+    bytes: &[u8],
+    p: Position,
+) -> Moved
+    requires { ⌜ (length (now store) ≡ STORE) × (Aimed (f .target) t (f .gathered) (f .position .content)) × (length (now bytes) ≤ 65535) ⌝ }
+    ensures { λ r. ⌜ leftBy r t (now (gathered .exit)) (now (store .exit)) ≡ onTarget (f .target) (openState t f (now (gathered .entry))) (now (store .entry)) (now (bytes .entry)) p ⌝ }
+{
+    let target = f.target;
+    match target {
+        Target::Skip => passed(f, p, Event::Nothing),
+        Target::Begin(id) => {
+            let free = lowest_free(t.occupied) as usize;
+            of_begin(f, free, id, bytes, p)
+        }
+        Target::Query => of_query(f, gathered, bytes, p),
+        Target::Params(i) => {
+            let slot = i as usize;
+            let mark = t.marks[slot];
+            let r = Request {
+                id: t.ids[slot],
+                length: t.lengths[slot],
+                mark: mark,
+            };
+            let a = slot * AREA;
+            let e = a + AREA;
+            of_params(&mut store[a..e], r, slot, f, bytes, p)
+        }
+        Target::Stdin(i) => {
+            let slot = i as usize;
+            passed(f, p, Event::Data(t.ids[slot], Stream::Stdin, bytes.len()))
+        }
+        Target::Data(i) => {
+            let slot = i as usize;
+            passed(f, p, Event::Data(t.ids[slot], Stream::Data, bytes.len()))
+        }
+    }
+}

@@ -1,0 +1,70 @@
+use mathlib.Core.Path.{_≡_, ap, _∙_}
+use Prim.Native.Nat.{ℕ, _-_, _≤_}
+use native.Mathlib.Omega.{arith}
+use lib.ListN.{length, take, length-take}
+use Rattle.reader.specs.declared.Advanced.{Advanced}
+use Rattle.connection.specs.Step.{onPhase, leaves, advances}
+use Rattle.connection.specs.declared.answer.Told.{Told}
+use Rattle.connection.specs.Moved.{openState, leftBy}
+use Rattle.receive.specs.Answer.{steppedBy}
+use Rattle.receive.specs.Laws.{used-fits}
+use borrow.Author.Needs.{needs}
+use Rattle.receive.proofs.step.go_on.Statement.{statement}
+use Rattle.receive.proofs.step.go_on.Tie as tie
+
+advance-requires : tie.Need-advance-requires
+advance-requires c κs = search needs
+
+sub-decide : tie.Need-sub-decide
+sub-decide c = search needs
+
+part-decide-start : tie.Need-part-decide-start
+part-decide-start c = search needs
+
+-- the bytes used are some of the piece, and not too many
+fits : (c : tie.After-advance) → (c .advance .result .used ≤ length (c .before .before .before .before .args .piece .now)) × (c .advance .result .used ≤ 65535)
+fits c =
+    let a = c .before .before .before .before .args in
+    let u = used-fits (a .f .position) (a .piece .now) (c .before .before .before .before .pre .2) in
+    let e : c .advance .result .used ≡ _ = ap (λ (x : Advanced). x .used) (c .advance .ensures) in
+    (omega (arith, u, e), omega (arith, u, e))
+
+part-decide-end : tie.Need-part-decide-end
+part-decide-end c = fits (c .before .before .before) .0
+
+decide-requires : tie.Need-decide-requires
+decide-requires c κs = (c .before .before .before .before .before .before .before .before .pre .0, c .before .before .before .before .before .before .before .before .pre .1, omega (arith, length-take (c .before .before .before .before .advance .result .used - 0) (c .before .before .before .before .before .before .before .before .args .piece .now), fits (c .before .before .before .before)))
+
+applied-requires : tie.Need-applied-requires
+applied-requires c κs = search needs
+
+same-length : tie.Need-same-length
+same-length c = search needs
+
+returns : tie.Need-returns
+unfolding advances
+returns c =
+    let a = c .before .before .before .before .before .before .before .before .before .before .before .before .before .before .before .before .args in
+    let r = c .before .before .before .before .before .before .before .before .before .before .before .before .advance .result in
+    let m = c .before .before .before .before .before .before .before .decide .result in
+    let g = c .before .before .before .before .before .before .before .decide .last .1 .1 .1 .0 in
+    let s = c .before .before .before .before .before .before .before .decide .last .1 .1 .0 in
+    let st = openState (a .t) (a .f) (a .gathered .now) in
+    let n : r .used - 0 ≡ r .used = omega arith in
+    let one : steppedBy (record { used = r .used; told = Told.Event (m .event); conn = c .before .before .applied .result }) g (c .before .before .applied .last .1 .1 .1 .0) ≡ leaves (r .used) (leftBy m (a .t) g s) = simp (c .before .before .applied .ensures .0, c .before .before .applied .ensures .1) in
+    one
+    ∙ ap (leaves (r .used)) (c .before .before .before .before .before .before .before .decide .ensures ∙ ap (λ (k : ℕ). onPhase (r .phase) st (a .store .now) (take k (a .piece .now)) (r .position)) n)
+    ∙ ap (advances st (a .store .now) (a .piece .now)) (c .before .before .before .before .before .before .before .before .before .before .before .before .advance .ensures)
+
+pub go-on-spec : {M : Type 1} → statement M
+go-on-spec =
+    tie.close
+    (tie.spec
+    advance-requires
+    sub-decide
+    part-decide-start
+    part-decide-end
+    decide-requires
+    applied-requires
+    same-length
+    returns)

@@ -1,0 +1,64 @@
+-- What the proofs of this crate share.
+use Prim.Native.Nat.{ℕ, _+_, _-_, _≤_, min}
+use mathlib.Core.Path.{_≡_, refl, sym, ap, _∙_}
+use mathlib.Core.Bool.{Bool, true}
+use mathlib.Core.List.{List, map}
+use native.Mathlib.Omega.{arith}
+use lib.ListN.{length, length-map}
+use lib.Seq.{set-out}
+use lib.Dec.{ltb, leb}
+use Rattle.wire.specs.Test.{byTest}
+use Rattle.reader.specs.declared.Position.{Position}
+use Rattle.reader.specs.Position.{inHeader, advanced}
+use Rattle.connection.specs.declared.request.Request.{Request}
+use Rattle.connection.specs.declared.state.Table.{Table}
+use Rattle.connection.specs.declared.state.Conn.{Conn}
+use Rattle.connection.specs.Slots.{putRequest}
+use Rattle.connection.specs.declared.state.Target.{Target}
+use Rattle.connection.specs.Sizes.{SLOTS}
+use Rattle.connection.specs.Shape.{_and_, slotsFit, positionFits, targetFits, inShape}
+use Rattle.connection.specs.ShapeLaws.{Placed}
+use Rattle.connection.specs.Step.{openWith}
+use Rattle.shape.specs.Fits.{targetOf, shapeOf}
+
+-- a step of the reader uses no more than there is, and never more than a record's content can have
+pub used-fits : (p : Position) (x : List ℕ) → Placed p → (advanced p x .used ≤ length x) × (advanced p x .used ≤ 65535)
+unfolding advanced inHeader
+used-fits p x h =
+    byTest (ltb 0 (p .content))
+    (λ t. simp t (omega (arith, h), omega (arith, h)))
+    (λ t. byTest (ltb 0 (p .padding))
+    (λ u. simp (t, u) (omega (arith, h), omega (arith, h)))
+    (λ u. byTest (leb 8 (p .held))
+    (λ v. simp (t, u, v) (omega arith, omega arith))
+    (λ v. byTest (ltb (p .held + min (8 - p .held) (length x)) 8)
+    (λ w. simp (t, u, v, w) (omega arith, omega arith))
+    (λ w. simp (t, u, v, w) (omega arith, omega arith)))))
+
+-- the shape of a state depends on these parts of it alone
+pub shape-of : (c : Conn) → shapeOf (c .table .ids) (c .table .lengths) (c .table .occupied) (c .frame) ≡ inShape c
+unfolding inShape
+shape-of c =
+    ap (λ (b : Bool). slotsFit SLOTS (c .table .ids) (c .table .lengths) (c .table .occupied) 0 and (positionFits (c .frame .position) and b)) (target-same (c .frame .target))
+  where
+    target-same : (target : Target) → targetOf target (c .table .ids) (c .table .lengths) (c .table .occupied) (c .frame .gathered) (c .frame .position .content)
+        ≡ targetFits target (c .table) (c .frame .gathered) (c .frame .position .content)
+    target-same Target.Skip = refl
+    target-same (Target.Begin id) = refl
+    target-same Target.Query = refl
+    target-same (Target.Params i) = refl
+    target-same (Target.Stdin i) = refl
+    target-same (Target.Data i) = refl
+
+-- there is no slot to put a request into behind the last one
+pub put-out : (t : Table) (i : ℕ) (r : Request) → length (t .ids) ≤ i → length (t .lengths) ≤ i → length (t .marks) ≤ i → t ≡ putRequest t i r
+unfolding putRequest
+put-out t i r a b m = sym (rw (set-out (t .ids) i (r .id) a, set-out (t .lengths) i (r .length) b, set-out (t .marks) i (r .mark) m))
+
+-- the length of an array of structs
+pub mapped-length {ℓ κ} : {A : Type ℓ} {B : Type κ} (f : A → B) (l : List A) (n : ℕ) → length (map f l) ≡ n → length l ≡ n
+mapped-length f l n e = sym (length-map l f) ∙ e
+
+-- a connection that is open
+pub opened-is : (c : Conn) → c .«open» ≡ true → openWith (c .table) (c .frame) ≡ c
+opened-is c e = ap (λ (b : Bool). record { table = c .table; frame = c .frame; «open» = b }) (sym e)

@@ -1,0 +1,3 @@
+// The two calls that read a connection: start, and one step.
+pub mod start;
+pub mod step;
