@@ -1,0 +1,164 @@
+// Replays a captured connection from standard input: a line for each event and for each byte of data.
+use connection::answer::Told;
+use connection::event::Event;
+use connection::event::Stream;
+use connection::state::Conn;
+use libc::STDIN_FILENO;
+use libc::STDOUT_FILENO;
+use lines::LONGEST;
+use lines::write_byte_line;
+use lines::write_line;
+use receive::start::start;
+use receive::step::step;
+
+// Writes out what the buffer holds, and answers where the next line goes: at its start.
+fn flush(out: &[u8], at: usize) -> usize {
+    let start: usize = 0;
+    if at <= out.len() {
+        io::write_all(STDOUT_FILENO, &out[start..at]);
+    }
+    start
+}
+
+// Where the next line goes, with room for it.
+fn with_room(out: &[u8], at: usize) -> usize {
+    if at <= out.len() {
+        if LONGEST <= out.len() - at {
+            return at;
+        }
+    }
+    flush(out, at)
+}
+
+// A line for each byte.
+fn show_bytes(out: &mut [u8], at: usize, id: u16, stream: Stream, bytes: &[u8]) -> usize {
+    let mut place = at;
+    let mut i: usize = 0;
+    while i < bytes.len() {
+        let room = with_room(out, place);
+        place = write_byte_line(out, room, id, stream, bytes[i]);
+        i += 1;
+    }
+    place
+}
+
+// The lines of an event; the bytes are those that its step used.
+fn show(out: &mut [u8], at: usize, e: Event, bytes: &[u8]) -> usize {
+    if let Event::Data(id, stream, _) = e {
+        return show_bytes(out, at, id, stream, bytes);
+    }
+    let room = with_room(out, at);
+    write_line(out, room, e)
+}
+
+// A connection, and the place of the next line.
+struct Replay {
+    conn: Conn,
+    at: usize,
+}
+
+// Steps through a piece, to its end or to a close.
+fn replay_piece(
+    r: Replay,
+    store: &mut [u8],
+    gathered: &mut [u8; 512],
+    piece: &[u8],
+    out: &mut [u8],
+) -> Replay {
+    let mut conn = r.conn;
+    let mut at = r.at;
+    let mut from: usize = 0;
+    while from < piece.len() {
+        let end = piece.len();
+        let s = step(conn, store, gathered, &piece[from..end]);
+        let used = s.used;
+        let told = s.told;
+        conn = s.conn;
+        if used == 0 {
+            return Replay { conn: conn, at: at };
+        }
+        if piece.len() - from < used {
+            return Replay { conn: conn, at: at };
+        }
+        let next = from + used;
+        if let Told::Event(e) = told {
+            at = show(out, at, e, &piece[from..next]);
+        }
+        from = next;
+    }
+    Replay { conn: conn, at: at }
+}
+
+// How it stops: closed, cut inside a record, or open between two.
+fn stop(c: Conn) {
+    let f = c.frame;
+    let p = f.position;
+    if c.open {} else {
+        io::write_all(STDOUT_FILENO, b"stop closed\n");
+        return;
+    }
+    if p.held == 0 && p.content == 0 && p.padding == 0 {
+        io::write_all(STDOUT_FILENO, b"stop open\n");
+        return;
+    }
+    io::write_all(STDOUT_FILENO, b"stop cut\n");
+}
+
+// A replay, and whether there may be more to read.
+struct Turn {
+    replay: Replay,
+    more: bool,
+}
+
+// Reads a piece of at most 64 KiB and steps through it. At the end of the input or after a close there is no more.
+fn read_on(r: Replay, store: &mut [u8], gathered: &mut [u8; 512], out: &mut [u8]) -> Turn {
+    let mut piece = io::large_buffer();
+    let got = libc::read(STDIN_FILENO, &mut piece);
+    if got <= 0 {
+        return Turn {
+            replay: r,
+            more: false,
+        };
+    }
+    let n = io::count(got, &piece);
+    let start: usize = 0;
+    let after = replay_piece(r, store, gathered, &piece[start..n], out);
+    let c = after.conn;
+    Turn {
+        replay: after,
+        more: c.open,
+    }
+}
+
+// Reads to the end. A proved loop has to end, and nothing says that the input does: so it counts its turns down, from
+// a number that no run uses up.
+fn replay_all(r: Replay, store: &mut [u8], gathered: &mut [u8; 512], out: &mut [u8]) -> Replay {
+    let mut replay = r;
+    let mut turns = u64::MAX;
+    while turns > 0 {
+        let t = read_on(replay, store, gathered, out);
+        replay = t.replay;
+        if t.more {} else {
+            return replay;
+        }
+        turns -= 1;
+    }
+    replay
+}
+
+fn main() {
+    let mut store = [0u8; 32768];
+    let mut gathered = [0u8; 512];
+    let mut out = io::large_buffer();
+    let s = start(&mut store, &mut gathered);
+    let c = s.conn;
+    let end = replay_all(
+        Replay { conn: c, at: 0 },
+        &mut store,
+        &mut gathered,
+        &mut out,
+    );
+    flush(&out, end.at);
+    let last = end.conn;
+    stop(last);
+}
