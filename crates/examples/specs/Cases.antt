@@ -1,17 +1,28 @@
 -- The cases marked P: one table, and one theorem, computed by the checker.
 use Prim.Native.Nat.{ℕ}
 use mathlib.Core.Path.{refl}
-use mathlib.Core.Bool.{false}
+use mathlib.Core.Bool.{true, false}
 use mathlib.Core.List.{List, [], _∷_, _++_}
+use Rattle.record.specs.Names.{PARAMS, STDIN}
 use Rattle.wire.specs.Number.{number4}
-use Rattle.record.specs.Names.{STDIN}
+use Rattle.wire.specs.Buffer.{copied}
+use Rattle.occupancy.specs.Word.{taken, lowestFree, withBit, withSlot}
 use Rattle.record.specs.Header.{headerOf}
+use Rattle.record.specs.Body.{beginBodyOf}
+use Rattle.reader.specs.Position.{advanced, inHeader}
 use Rattle.pairs.specs.Length.{fourAt, lengthAt}
 use Rattle.pairs.specs.Pair.{pairAt}
 use Rattle.pairs.specs.List.{pairsIn, pairsFrom, endingOf, wellFormed}
+use Rattle.connection.specs.Request.{withTurn, withLife, faulted, turned, paramsFault, paramsEnded, onParams, onInput, onLive, onHeader, opened}
+use Rattle.connection.specs.Slots.{requestAt, areaAt, putRequest, putArea, takeSlot, holdsId, findFrom}
+use Rattle.connection.specs.Shape.{idFits, slotsFit, positionFits, inShape}
+use Rattle.connection.specs.Step.{onInactive, onActive, judged, opens, begun, ofBegin, advances, stepRefusal, stepped, started}
+use Rattle.connection.specs.Bytewise.{Note, fed}
+use Rattle.examples.specs.Fed.{told, lastOf, begin, empty, begins}
 use Rattle.pairs.specs.declared.length.Length.{Length}
 use Rattle.pairs.specs.declared.pair.Read.{Read}
 use Rattle.pairs.specs.declared.list.Ending.{Ending}
+use Rattle.connection.specs.Event.{Event}
 use Rattle.examples.specs.Row.{Row, _gives_, Holds}
 
 -- 0B 02 SERVER_PORT80, and the same without its last byte
@@ -34,8 +45,12 @@ table =
     ∷ (pairAt port 0 gives Read.Pair (record { name = 2; «name_len» = 11; value = 13; «value_len» = 2 }) 15)
     ∷ (pairAt portCut 0 gives Read.Malformed 0)
     ∷ (wellFormed portCut gives false)
+    ∷ (told 3 (begin 1 1 ++ empty PARAMS 1) gives Note.Told (Event.Open 1 1 true) ∷ Note.Told (Event.Ready 1 0) ∷ [])
+    ∷ (lastOf (told 34 (begins 16 ++ begin 17 4)) gives Note.Told (Event.Refuse 17 3))
+    ∷ (lastOf (told 34 (begins 16 ++ begin 17 1)) gives Note.Told (Event.Refuse 17 2))
+    ∷ (lastOf (told 3 (begin 1 1 ++ empty STDIN 1)) gives Note.Told (Event.Fault 1 22))
     ∷ []
 
 pub cases : Holds table
-unfolding headerOf lengthAt fourAt number4 pairAt pairsIn pairsFrom endingOf wellFormed
-cases = (refl, (refl, (refl, (refl, (refl, (refl, (refl, (refl, (refl, (refl, tt))))))))))
+unfolding number4 copied taken lowestFree withBit withSlot headerOf beginBodyOf advanced inHeader fourAt lengthAt pairAt pairsIn pairsFrom endingOf wellFormed withTurn withLife faulted turned paramsFault paramsEnded onParams onInput onLive onHeader opened requestAt areaAt putRequest putArea takeSlot holdsId findFrom idFits slotsFit positionFits inShape onInactive onActive judged opens begun ofBegin advances stepRefusal stepped started fed told lastOf begin empty begins
+cases = (refl, (refl, (refl, (refl, (refl, (refl, (refl, (refl, (refl, (refl, (refl, (refl, (refl, (refl, tt))))))))))))))
