@@ -16,8 +16,8 @@ use Rattle.connection.specs.declared.state.Target.{Target}
 use Rattle.connection.specs.declared.state.Frame.{Frame}
 use Rattle.connection.specs.Event.{Event}
 use Rattle.connection.specs.Slots.{requestAt}
-use Rattle.connection.specs.SlotsLaws.{put-same, area-put-same}
-use Rattle.connection.specs.ShapeLaws.{Aimed}
+use Rattle.connection.specs.Laws.SlotsLaws.{put-same, area-put-same}
+use Rattle.connection.specs.Laws.ShapeLaws.{Aimed}
 use Rattle.connection.specs.Step.{within, reads, ofRequest}
 use Rattle.connection.specs.Moved.{openState}
 

@@ -33,7 +33,7 @@ ghost use Rattle.connection.specs.declared.request.Due.{Due};
 ghost use Rattle.connection.specs.Numbers.{eventOf, streamType};
 ghost use Rattle.connection.specs.Sizes.{SLOTS, STORE, QUERY};
 ghost use Rattle.connection.specs.Slots.{requestAt, areaAt, putArea, freeSlotOf};
-ghost use Rattle.connection.specs.ShapeLaws.{Aimed};
+ghost use Rattle.connection.specs.Laws.ShapeLaws.{Aimed};
 ghost use Rattle.connection.specs.Step.{within, reads, opens, begun, ofBegin, ofQuery, ofRequest, onTarget};
 ghost use Rattle.connection.specs.Moved.{openState, leftBy};
 

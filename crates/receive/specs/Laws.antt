@@ -17,7 +17,7 @@ use Rattle.connection.specs.Slots.{putRequest}
 use Rattle.connection.specs.declared.state.Target.{Target}
 use Rattle.connection.specs.Sizes.{SLOTS}
 use Rattle.connection.specs.Shape.{_and_, slotsFit, positionFits, targetFits, inShape}
-use Rattle.connection.specs.ShapeLaws.{Placed}
+use Rattle.connection.specs.Laws.ShapeLaws.{Placed}
 use Rattle.connection.specs.Step.{openWith}
 use Rattle.shape.specs.Fits.{targetOf, shapeOf}
 

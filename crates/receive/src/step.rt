@@ -28,7 +28,7 @@ ghost use lib.ListN.{length, take};
 ghost use Rattle.connection.specs.declared.state.Conn.{Conn};
 ghost use Rattle.connection.specs.declared.answer.Told.{Told};
 ghost use Rattle.connection.specs.Sizes.{SLOTS, STORE};
-ghost use Rattle.connection.specs.ShapeLaws.{Aimed, Placed};
+ghost use Rattle.connection.specs.Laws.ShapeLaws.{Aimed, Placed};
 ghost use Rattle.connection.specs.Step.{moved, onPhase, openWith, advances, stepped};
 ghost use Rattle.connection.specs.Slots.{putRequest, takeSlot};
 ghost use Rattle.reader.specs.Position.{advanced};

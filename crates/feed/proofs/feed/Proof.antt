@@ -6,9 +6,9 @@ use lib.ListN.{length}
 use Rattle.connection.specs.declared.state.Target.{Target}
 use Rattle.connection.specs.Sizes.{SLOTS, QUERY}
 use Rattle.connection.specs.Slots.{requestAt}
-use Rattle.connection.specs.SlotsLaws.{put-same, area-put-same}
-use Rattle.connection.specs.ShapeLaws.{Aimed}
-use Rattle.connection.specs.PartLaws.{part-lent, part-back}
+use Rattle.connection.specs.Laws.SlotsLaws.{put-same, area-put-same}
+use Rattle.connection.specs.Laws.ShapeLaws.{Aimed}
+use Rattle.connection.specs.Laws.PartLaws.{part-lent, part-back}
 use Rattle.connection.specs.Step.{onTarget}
 use Rattle.feed.specs.Laws.{aimed-at, stdin-passes, data-passes}
 use Rattle.connection.specs.Moved.{openState, leftBy}

@@ -5,8 +5,8 @@ use native.Mathlib.Omega.{arith}
 use borrow.Author.Tests.{eq-eqb, ne-eqb}
 use Rattle.connection.specs.Sizes.{SLOTS}
 use Rattle.connection.specs.Slots.{requestAt}
-use Rattle.connection.specs.SlotsLaws.{find-at}
-use Rattle.connection.specs.PartLaws.{part-lent, part-back}
+use Rattle.connection.specs.Laws.SlotsLaws.{find-at}
+use Rattle.connection.specs.Laws.PartLaws.{part-lent, part-back}
 use Rattle.connection.specs.Step.{judged}
 use Rattle.connection.specs.Moved.{leftBy}
 use borrow.Author.Needs.{needs}

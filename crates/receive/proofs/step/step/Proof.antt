@@ -2,7 +2,7 @@ use mathlib.Core.Path.{_≡_, sym, ap, _∙_}
 use mathlib.Core.Bool.{true, false}
 use borrow.Author.Tests.{eq-eqb, ne-eqb}
 use Rattle.connection.specs.Shape.{inShape}
-use Rattle.connection.specs.ShapeLaws.{shaped}
+use Rattle.connection.specs.Laws.ShapeLaws.{shaped}
 use Rattle.connection.specs.declared.state.Conn.{Conn}
 use Rattle.connection.specs.Step.{advances, stepRefusal, stepped}
 use Rattle.reader.specs.Position.{advanced}

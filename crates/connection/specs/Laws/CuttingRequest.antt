@@ -14,15 +14,15 @@ use Rattle.connection.specs.declared.state.Frame.{Frame}
 use Rattle.connection.specs.Sizes.{SLOTS, AREA}
 use Rattle.connection.specs.Request.{Held, grown, onContent}
 use Rattle.connection.specs.Slots.{requestAt, heldAt, putRequest, putArea}
-use Rattle.connection.specs.SlotsLaws.{Sized, request-of-put, area-of-put, area-length, put-area-length}
-use Rattle.connection.specs.ShapeLaws.{InUse, Grows, Aimed, shaped}
-use Rattle.connection.specs.TableShape.{tidy-put, use-put, length-put}
-use Rattle.connection.specs.RequestShape.{Room}
+use Rattle.connection.specs.Laws.SlotsLaws.{Sized, request-of-put, area-of-put, area-length, put-area-length}
+use Rattle.connection.specs.Laws.ShapeLaws.{InUse, Grows, Aimed, shaped}
+use Rattle.connection.specs.Laws.TableShape.{tidy-put, use-put, length-put}
+use Rattle.connection.specs.Laws.RequestShape.{Room}
 use Rattle.connection.specs.Step.{State, Left, openWith, putsBack, targetIf, ofRequest, onTarget}
 use Rattle.connection.specs.Bytewise.{showing, notes}
-use Rattle.connection.specs.Progress.{Fits, lessContent}
-use Rattle.connection.specs.StepSizes.{Sizes, content-area}
-use Rattle.connection.specs.CuttingContent.{Cuts, stateOf, standing, keeps-target, grown-room, grown-grown, put-twice, area-twice, cut-by, cut-skip, cut-begin, cut-query}
+use Rattle.connection.specs.Laws.Progress.{Fits, lessContent}
+use Rattle.connection.specs.Laws.StepSizes.{Sizes, content-area}
+use Rattle.connection.specs.Laws.CuttingContent.{Cuts, stateOf, standing, keeps-target, grown-room, grown-grown, put-twice, area-twice, cut-by, cut-skip, cut-begin, cut-query}
 
 -- ---- a request that content is due to
 -- its id stays, its length does not pass AREA

@@ -22,11 +22,11 @@ use Rattle.connection.specs.declared.state.Frame.{Frame}
 use Rattle.connection.specs.Sizes.{SLOTS, AREA, QUERY}
 use Rattle.connection.specs.Request.{opened, grown}
 use Rattle.connection.specs.Slots.{requestAt, heldAt, putRequest, freeSlotOf, find}
-use Rattle.connection.specs.SlotsLaws.{take-sized}
-use Rattle.connection.specs.ShapeLaws.{InUse, Begins, Grows, Aimed}
-use Rattle.connection.specs.TableShape.{tidy-take, length-of, use-put, length-put}
-use Rattle.connection.specs.RequestShape.{grows}
-use Rattle.connection.specs.StateShape.{GoodFrame, Good, aimed-if, either, good-reads, good-back, good-queried}
+use Rattle.connection.specs.Laws.SlotsLaws.{take-sized}
+use Rattle.connection.specs.Laws.ShapeLaws.{InUse, Begins, Grows, Aimed}
+use Rattle.connection.specs.Laws.TableShape.{tidy-take, length-of, use-put, length-put}
+use Rattle.connection.specs.Laws.RequestShape.{grows}
+use Rattle.connection.specs.Laws.StateShape.{GoodFrame, Good, aimed-if, either, good-reads, good-back, good-queried}
 use Rattle.connection.specs.Step.{State, noBody, within, openWith, opens, begun, ofBegin, ofQuery, ofRequest, onTarget}
 
 -- bytes copied into a buffer keep its length, whether they fit or not

@@ -15,11 +15,11 @@ use Rattle.reader.specs.declared.Position.{Position}
 use Rattle.reader.specs.declared.Advanced.{Advanced}
 use Rattle.connection.specs.Sizes.{STORE}
 use Rattle.connection.specs.Shape.{inShape}
-use Rattle.connection.specs.ShapeLaws.{Placed, shaped, fresh-in-shape, closed-in-shape}
-use Rattle.connection.specs.PieceLaws.{AllBytes, take-bytes, put-bytes, header-fits, by-step}
-use Rattle.connection.specs.StateShape.{Arrays, Good, good, good-arrays, good-shape, fresh-arrays, good-reads}
-use Rattle.connection.specs.HeaderShape.{good-judged}
-use Rattle.connection.specs.ContentShape.{good-target}
+use Rattle.connection.specs.Laws.ShapeLaws.{Placed, shaped, fresh-in-shape, closed-in-shape}
+use Rattle.connection.specs.Laws.PieceLaws.{AllBytes, take-bytes, put-bytes, header-fits, by-step}
+use Rattle.connection.specs.Laws.StateShape.{Arrays, Good, good, good-arrays, good-shape, fresh-arrays, good-reads}
+use Rattle.connection.specs.Laws.HeaderShape.{good-judged}
+use Rattle.connection.specs.Laws.ContentShape.{good-target}
 use Rattle.connection.specs.Step.{State, moved, openWith, advances, stepRefusal, stepped, started}
 
 -- ---- a step that is not refused

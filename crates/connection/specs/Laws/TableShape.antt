@@ -13,8 +13,8 @@ use Rattle.connection.specs.declared.state.Table.{Table}
 use Rattle.connection.specs.declared.state.Slot.{Slot}
 use Rattle.connection.specs.Sizes.{SLOTS, AREA}
 use Rattle.connection.specs.Slots.{requestAt, putRequest, takeSlot, freeSlot, find}
-use Rattle.connection.specs.SlotsLaws.{Sized, Holds, put-ids, put-occupied, request-of-put, request-of-other, request-of-take, other-of-take, taken-of-take-other, request-of-free, other-of-free, taken-of-free, taken-of-free-other, find-nowhere}
-use Rattle.connection.specs.ShapeLaws.{Tidy, InUse}
+use Rattle.connection.specs.Laws.SlotsLaws.{Sized, Holds, put-ids, put-occupied, request-of-put, request-of-other, request-of-take, other-of-take, taken-of-take-other, request-of-free, other-of-free, taken-of-free, taken-of-free-other, find-nowhere}
+use Rattle.connection.specs.Laws.ShapeLaws.{Tidy, InUse}
 
 -- the id that a table has for a slot is its request's
 id-of : (t : Table) (i : ℕ) → requestAt t i .id ≡ getD (t .ids) i 0

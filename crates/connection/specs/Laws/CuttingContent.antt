@@ -18,11 +18,11 @@ use Rattle.connection.specs.Sizes.{SLOTS, AREA, STORE, QUERY}
 use Rattle.connection.specs.Event.{Event}
 use Rattle.connection.specs.Request.{Held, grown}
 use Rattle.connection.specs.Slots.{putRequest, putArea}
-use Rattle.connection.specs.ShapeLaws.{Tidy, Placed, Begins, Aimed, shaped, in-shape}
+use Rattle.connection.specs.Laws.ShapeLaws.{Tidy, Placed, Begins, Aimed, shaped, in-shape}
 use Rattle.connection.specs.Step.{State, Left, Stepped, leaves, openWith, closes, targetIf, queried, opens, begun, ofBegin, ofQuery, onTarget, advances, stepped}
 use Rattle.connection.specs.Bytewise.{notes}
-use Rattle.connection.specs.PlainEvents.{Plain, plain-begin, plain-query}
-use Rattle.connection.specs.Progress.{Fits, fits-admitted, lessContent, in-content, step-advances}
+use Rattle.connection.specs.Laws.PlainEvents.{Plain, plain-begin, plain-query}
+use Rattle.connection.specs.Laws.Progress.{Fits, fits-admitted, lessContent, in-content, step-advances}
 
 -- ---- a byte and then more
 -- the state that a step leaves

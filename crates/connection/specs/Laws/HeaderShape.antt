@@ -16,12 +16,12 @@ use Rattle.connection.specs.declared.state.Target.{Target}
 use Rattle.connection.specs.Sizes.{AREA, QUERY}
 use Rattle.connection.specs.Request.{onHeader}
 use Rattle.connection.specs.Slots.{requestAt, heldAt, putRequest, find, onSlot}
-use Rattle.connection.specs.SlotsLaws.{find-at}
-use Rattle.connection.specs.ShapeLaws.{InUse, Aimed}
-use Rattle.connection.specs.TableShape.{length-of, use-put, length-put}
-use Rattle.connection.specs.RequestShape.{Room, keeps-header}
-use Rattle.connection.specs.PieceLaws.{zeros-bytes, HeaderFits}
-use Rattle.connection.specs.StateShape.{GoodFrame, Good, aimed-if, either, good-closes, good-reads, good-back, good-queried}
+use Rattle.connection.specs.Laws.SlotsLaws.{find-at}
+use Rattle.connection.specs.Laws.ShapeLaws.{InUse, Aimed}
+use Rattle.connection.specs.Laws.TableShape.{length-of, use-put, length-put}
+use Rattle.connection.specs.Laws.RequestShape.{Room, keeps-header}
+use Rattle.connection.specs.Laws.PieceLaws.{zeros-bytes, HeaderFits}
+use Rattle.connection.specs.Laws.StateShape.{GoodFrame, Good, aimed-if, either, good-closes, good-reads, good-back, good-queried}
 use Rattle.connection.specs.Step.{State, behind, onManagement, onInactive, dueTo, onActive, judged}
 
 -- a frame behind a header

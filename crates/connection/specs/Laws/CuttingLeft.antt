@@ -10,9 +10,9 @@ use borrow.Author.Tests.{eqb-true, eqb-false, eq-eqb, ne-eqb}
 use Rattle.wire.specs.Test.{byTest}
 use Rattle.connection.specs.Step.{State, Stepped, stepRefusal, stepped}
 use Rattle.connection.specs.Bytewise.{leftOf, unread}
-use Rattle.connection.specs.Progress.{step-refused, step-nothing, step-uses-no-more, used-only, less-left}
-use Rattle.connection.specs.StepSizes.{Sizes, sizes-stay}
-use Rattle.connection.specs.Cutting.{cut-step, used-admitted}
+use Rattle.connection.specs.Laws.Progress.{step-refused, step-nothing, step-uses-no-more, used-only, less-left}
+use Rattle.connection.specs.Laws.StepSizes.{Sizes, sizes-stay}
+use Rattle.connection.specs.Laws.Cutting.{cut-step, used-admitted}
 
 -- a state that refuses a step reads nothing
 left-refused : (k : ℕ) (st : State) (store x : List ℕ) → (stepRefusal (st .conn) store ≡ 0 → ⊥) → leftOf k st store x ≡ x

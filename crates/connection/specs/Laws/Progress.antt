@@ -18,7 +18,7 @@ use Rattle.reader.specs.declared.Phase.{Phase}
 use Rattle.connection.specs.declared.state.Conn.{Conn}
 use Rattle.connection.specs.Sizes.{STORE}
 use Rattle.connection.specs.Shape.{inShape}
-use Rattle.connection.specs.ShapeLaws.{shaped}
+use Rattle.connection.specs.Laws.ShapeLaws.{shaped}
 use Rattle.connection.specs.Step.{State, Stepped, stays, leaves, onPhase, advances, stepRefusal, stepped}
 use Rattle.connection.specs.Bytewise.{Run, notes, resting, single, _then-run_, fed, leftOf, stepsOf}
 

@@ -28,10 +28,10 @@ use Rattle.connection.specs.Sizes.{SLOTS, AREA, STORE, QUERY}
 use Rattle.connection.specs.Event.{Event}
 use Rattle.connection.specs.Request.{Held, listOf, isSpent, faulted, aborted, turned, paramsFault, paramsEnded, onParams, onStdin, onData, inTurn, isInput, turnType, onInput, onLive, onHeader, grown, onContent}
 use Rattle.connection.specs.Slots.{heldAt, find, onSlot, freeSlotOf}
-use Rattle.connection.specs.SlotsLaws.{Sized, put-sized, take-sized, area-length, put-area-length, find-at}
-use Rattle.connection.specs.ShapeLaws.{Aimed, shaped}
+use Rattle.connection.specs.Laws.SlotsLaws.{Sized, put-sized, take-sized, area-length, put-area-length, find-at}
+use Rattle.connection.specs.Laws.ShapeLaws.{Aimed, shaped}
 use Rattle.connection.specs.Step.{State, Left, reads, closes, putsBack, queried, onManagement, onInactive, onActive, judged, opens, begun, ofBegin, ofQuery, ofRequest, onTarget, onPhase, advances, stepRefusal, stepped, started}
-use Rattle.connection.specs.Progress.{admitted-fits, step-advances, step-refused, step-nothing}
+use Rattle.connection.specs.Laws.Progress.{admitted-fits, step-advances, step-refused, step-nothing}
 
 -- The lengths that the code's types give, and the store's.
 pub record Sizes (st : State) (store : List ℕ) : Type 0 where

@@ -16,11 +16,11 @@ use Rattle.connection.specs.declared.state.Frame.{Frame}
 use Rattle.connection.specs.declared.state.Conn.{Conn}
 use Rattle.connection.specs.Sizes.{AREA}
 use Rattle.connection.specs.Slots.{requestAt, putRequest, noRequests}
-use Rattle.connection.specs.SlotsLaws.{Sized, put-sized}
+use Rattle.connection.specs.Laws.SlotsLaws.{Sized, put-sized}
 use Rattle.connection.specs.Shape.{inShape}
-use Rattle.connection.specs.ShapeLaws.{Tidy, Placed, Aimed, Shaped, shaped, in-shape, closed-in-shape}
-use Rattle.connection.specs.TableShape.{tidy-put}
-use Rattle.connection.specs.PieceLaws.{AllBytes, zeros-bytes}
+use Rattle.connection.specs.Laws.ShapeLaws.{Tidy, Placed, Aimed, Shaped, shaped, in-shape, closed-in-shape}
+use Rattle.connection.specs.Laws.TableShape.{tidy-put}
+use Rattle.connection.specs.Laws.PieceLaws.{AllBytes, zeros-bytes}
 use Rattle.connection.specs.Step.{State, Left, noFrame, targetIf, openWith, closedConn, closes, queried}
 
 -- The arrays have their lengths, and the header bytes held are bytes.

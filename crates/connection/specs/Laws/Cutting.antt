@@ -19,17 +19,17 @@ use Rattle.reader.specs.declared.Position.{Position}
 use Rattle.reader.specs.declared.Advanced.{Advanced}
 use Rattle.connection.specs.Event.{Event}
 use Rattle.connection.specs.Shape.{inShape}
-use Rattle.connection.specs.ShapeLaws.{Aimed, shaped, in-shape}
-use Rattle.connection.specs.PieceLaws.{AllBytes, take-bytes}
-use Rattle.connection.specs.StateShape.{Arrays}
-use Rattle.connection.specs.StepShape.{step-in-shape, step-keeps-arrays}
+use Rattle.connection.specs.Laws.ShapeLaws.{Aimed, shaped, in-shape}
+use Rattle.connection.specs.Laws.PieceLaws.{AllBytes, take-bytes}
+use Rattle.connection.specs.Laws.StateShape.{Arrays}
+use Rattle.connection.specs.Laws.StepShape.{step-in-shape, step-keeps-arrays}
 use Rattle.connection.specs.Step.{State, Stepped, leaves, reads, moved, openWith, closes, queried, onManagement, onInactive, onActive, judged, advances, stepRefusal, stepped}
 use Rattle.connection.specs.Bytewise.{Note, notes, Run, resting, single, _then-run_, byByte, fed, leftOf, fedPieces, joined}
-use Rattle.connection.specs.Progress.{Fits, fits-admitted, admitted-fits, lessPadding, in-content, in-padding, in-header, in-part, in-whole, by-position, by-header, step-advances, step-refused, step-nothing, less-left, step-uses-no-more, used-only, fed-refused, steps-enough}
-use Rattle.connection.specs.StepSizes.{Sizes, sizes-stay}
-use Rattle.connection.specs.PlainEvents.{plain-judged}
-use Rattle.connection.specs.CuttingContent.{Cuts, cuts}
-use Rattle.connection.specs.CuttingRequest.{cut-content}
+use Rattle.connection.specs.Laws.Progress.{Fits, fits-admitted, admitted-fits, lessPadding, in-content, in-padding, in-header, in-part, in-whole, by-position, by-header, step-advances, step-refused, step-nothing, less-left, step-uses-no-more, used-only, fed-refused, steps-enough}
+use Rattle.connection.specs.Laws.StepSizes.{Sizes, sizes-stay}
+use Rattle.connection.specs.Laws.PlainEvents.{plain-judged}
+use Rattle.connection.specs.Laws.CuttingContent.{Cuts, cuts}
+use Rattle.connection.specs.Laws.CuttingRequest.{cut-content}
 
 -- ---- padding and headers, a byte and more
 -- a state with another position, within no content

@@ -16,7 +16,7 @@ use Rattle.connection.specs.declared.state.Target.{Target}
 use Rattle.connection.specs.declared.state.Conn.{Conn}
 use Rattle.connection.specs.Sizes.{SLOTS, AREA, QUERY}
 use Rattle.connection.specs.Slots.{findFrom, find, isFound, noRequests}
-use Rattle.connection.specs.SlotsLaws.{Holds, HoldsFrom, Distinct, all-slots, of-all-slots, none-from, nowhere-from, found-false}
+use Rattle.connection.specs.Laws.SlotsLaws.{Holds, HoldsFrom, Distinct, all-slots, of-all-slots, none-from, nowhere-from, found-false}
 use Rattle.connection.specs.Shape.{_and_, lengthFits, idFits, slotsFit, positionFits, dueFits, targetFits, inShape}
 use Rattle.connection.specs.Step.{openWith, closedConn, noFrame}
 

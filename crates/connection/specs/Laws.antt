@@ -1,0 +1,23 @@
+-- What holds of the definitions.
+pub mod SlotsLaws
+pub mod ShapeLaws
+pub mod TableShape
+pub mod RequestShape
+pub mod PieceLaws
+pub mod StateShape
+pub mod HeaderShape
+pub mod ContentShape
+pub mod StepShape
+pub mod PartLaws
+pub mod Progress
+pub mod StepSizes
+pub mod PlainEvents
+pub mod CuttingContent
+pub mod CuttingRequest
+pub mod Cutting
+pub mod CuttingLeft
+pub mod Ways
+pub mod Closing
+pub mod Causes
+pub mod Faults
+pub mod Gathered
