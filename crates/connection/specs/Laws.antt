@@ -21,3 +21,4 @@ pub mod Closing
 pub mod Causes
 pub mod Faults
 pub mod Gathered
+pub mod NumbersLaws
