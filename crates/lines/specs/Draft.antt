@@ -1,4 +1,4 @@
--- A line in the making.
+-- A line in the making, as the code holds it.
 use Prim.Native.Nat.{ℕ, _+_, _≤_}
 use mathlib.Core.Path.{_≡_}
 use mathlib.Core.List.{List, _++_}

@@ -9,7 +9,7 @@ use Rattle.wire.specs.Buffer.{copied}
 use Rattle.wire.specs.BufferLaws.{copied-room}
 use Rattle.lines.specs.declared.draft.Draft.{Draft}
 use Rattle.lines.specs.Draft.{textOf, Says, Adds}
-use Rattle.lines.specs.Line.{line}
+use Rattle.lines.specs.Line.{LONGEST, line}
 
 -- bytes copied behind the first n
 pub added : (l : List ℕ) (n : ℕ) (x : List ℕ) {m : List ℕ} → n + length x ≤ length l → m ≡ copied l n x
@@ -25,13 +25,13 @@ adds-both {d} {e} {f} {x} {y} most p q h =
 
 -- a word, so many fields and a newline make a line
 module _ {c d e : Draft} {word x : List ℕ} {k m : ℕ} (begun : Says c word k) (one : Adds c d (32 ∷ x) m) where
-  pub line-of-1 : Adds d e (10 ∷ []) 1 → k + m < 27 → Says e (line word (x ∷ [])) 27
+  pub line-of-1 : Adds d e (10 ∷ []) 1 → k + m < LONGEST → Says e (line word (x ∷ [])) LONGEST
   line-of-1 done h = record { text = done .text ∙ simp (one .text, begun .text, append-assoc); upto = omega arith }
 
   module _ {f : Draft} {y : List ℕ} {n : ℕ} (two : Adds d e (32 ∷ y) n) where
-    pub line-of-2 : Adds e f (10 ∷ []) 1 → k + m + n < 27 → Says f (line word (x ∷ y ∷ [])) 27
+    pub line-of-2 : Adds e f (10 ∷ []) 1 → k + m + n < LONGEST → Says f (line word (x ∷ y ∷ [])) LONGEST
     line-of-2 done h = record { text = done .text ∙ simp (two .text, one .text, begun .text, append-assoc); upto = omega arith }
 
-    pub line-of-3 : {g : Draft} {z : List ℕ} {o : ℕ} → Adds e f (32 ∷ z) o → Adds f g (10 ∷ []) 1 → k + m + n + o < 27
-        → Says g (line word (x ∷ y ∷ z ∷ [])) 27
+    pub line-of-3 : {g : Draft} {z : List ℕ} {o : ℕ} → Adds e f (32 ∷ z) o → Adds f g (10 ∷ []) 1 → k + m + n + o < LONGEST
+        → Says g (line word (x ∷ y ∷ z ∷ [])) LONGEST
     line-of-3 three done h = record { text = done .text ∙ simp (three .text, two .text, one .text, begun .text, append-assoc); upto = omega arith }

@@ -62,7 +62,7 @@ fieldsText (field ∷ fields) = 32 ∷ (field ++ fieldsText fields)
 abbrev pub line : List ℕ → List (List ℕ) → List ℕ
 line word fields = word ++ fieldsText fields
 
--- The line of an event. No event has none, and the bytes of a data event have their own lines.
+-- The line of an event. None has no line, and Data has one for each byte, below.
 unfoldable pub eventLine : Event → List ℕ
 eventLine Event.None = []
 eventLine (Event.Open id role keep) = line openWord (decimal id ∷ roleWord role ∷ keptWord keep ∷ [])

@@ -65,6 +65,7 @@ fn abort_line(id: u16) -> Draft
     line_of_one(b"abort", id)
 }
 
+// The numbers of end statuses, faults and closes.
 fn status_number(status: Status) -> u16
     ensures { λ r. ⌜ r ≡ statusNumber status ⌝ }
 {

@@ -1,18 +1,19 @@
 use native.Mathlib.Omega.{arith}
 use mathlib.Core.Path.{_≡_}
 use lib.ListN.{length, length-take}
+use Rattle.lines.specs.Line.{LONGEST}
 use borrow.Author.Needs.{needs}
 use Rattle.lines.proofs.put_draft.Statement.{statement}
 use Rattle.lines.proofs.put_draft.Tie as tie
 
 array-share-prefix-bytes : tie.Need-array-share-prefix-bytes
 array-share-prefix-bytes c =
-    let n : length (c .before .before .before .args .d .bytes) ≡ 27 = search needs in
+    let n : length (c .before .before .before .args .d .bytes) ≡ LONGEST = search needs in
     omega (arith, n)
 
 slice-aggregate-put-text : tie.Need-slice-aggregate-put-text
 slice-aggregate-put-text c =
-    let n : length (c .before .before .before .before .args .d .bytes) ≡ 27 = search needs in
+    let n : length (c .before .before .before .before .args .d .bytes) ≡ LONGEST = search needs in
     simp length-take (omega (arith, n))
 
 put-text-requires : tie.Need-put-text-requires

@@ -1,4 +1,4 @@
-use Prim.Native.Nat.{ℕ, _<_, _+_, _/_, _%_}
+use Prim.Native.Nat.{ℕ, _<_, _≤_, _+_, _/_, _%_}
 use mathlib.Core.Path.{ap}
 use mathlib.Core.List.{[], _∷_, _++_}
 use lib.ListN.{length, length-append}
@@ -42,7 +42,7 @@ add-decimal-add-digit-requires : (t : ℕ) → add-decimal-lts.Need-add-digit-re
   add-decimal.Post,
 ) (add-decimal-at t) add-decimal.Post
 add-decimal-add-digit-requires t c κs =
-    (omega arith, omega (arith, ap length (decimal-one (c .before .args .n) (c .if1 .taken)), c .before .pre .1))
+    (omega arith, omega (arith, ap length (decimal-one (c .before .args .n) (omega arith)), c .before .pre .1))
 
 add-decimal-returns : (t : ℕ) → add-decimal-lts.Need-returns (
   add-digit-reads.Asked,
@@ -50,7 +50,7 @@ add-decimal-returns : (t : ℕ) → add-decimal-lts.Need-returns (
   add-decimal-below t,
   add-decimal.Post,
 ) (add-decimal-at t) add-decimal.Post
-add-decimal-returns t c = rw (decimal-one (c .before .before .args .n) (c .before .if1 .taken)) (c .add-digit .ensures)
+add-decimal-returns t c = rw (decimal-one (c .before .before .args .n) (omega arith)) (c .add-digit .ensures)
 
 add-decimal-add-decimal-requires : (t : ℕ) → add-decimal-lts.Need-add-decimal-requires (
   add-digit-reads.Asked,
@@ -59,7 +59,7 @@ add-decimal-add-decimal-requires : (t : ℕ) → add-decimal-lts.Need-add-decima
   add-decimal.Post,
 ) (add-decimal-at t) add-decimal.Post
 add-decimal-add-decimal-requires t c κs =
-    (omega (arith, c .before .pre .0), omega (arith, decimal-size (c .before .args .n) (c .if1 .left), c .before .pre .1))
+    (omega (arith, c .before .pre .0), omega (arith, decimal-size (c .before .args .n) (omega arith), c .before .pre .1))
 
 add-decimal-cast-add-digit-2 : (t : ℕ) → add-decimal-lts.Need-cast-add-digit-2 (
   add-digit-reads.Asked,
@@ -77,7 +77,7 @@ add-decimal-add-digit-requires-2 : (t : ℕ) → add-decimal-lts.Need-add-digit-
 ) (add-decimal-at t) add-decimal.Post
 add-decimal-add-digit-requires-2 t c κs =
     let a = c .before .before in
-    (omega arith, omega (arith, decimal-size (a .args .n) (c .before .if1 .left), a .pre .1, c .add-decimal .ensures))
+    (omega arith, omega (arith, decimal-size (a .args .n) (omega arith), a .pre .1, c .add-decimal .ensures))
 
 add-decimal-returns-2 : (t : ℕ) → add-decimal-lts.Need-returns-2 (
   add-digit-reads.Asked,
@@ -87,7 +87,7 @@ add-decimal-returns-2 : (t : ℕ) → add-decimal-lts.Need-returns-2 (
 ) (add-decimal-at t) add-decimal.Post
 add-decimal-returns-2 t c =
     let a = c .before .before .before .args in
-    let h = c .before .before .if1 .left in
+    let h : 10 ≤ a .n = omega arith in
     let e = decimal-size (a .n) h in
     rw (decimal-more (a .n) h) (adds-both (length (decimal (a .n / 10) ++ ((48 + a .n % 10) ∷ []))) (c .before .add-decimal .ensures) (c .add-digit2 .ensures) (simp length-append (omega arith)))
 

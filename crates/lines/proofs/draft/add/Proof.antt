@@ -2,6 +2,7 @@ use native.Mathlib.Omega.{arith}
 use mathlib.Core.Path.{_≡_}
 use lib.ListN.{length}
 use Rattle.lines.specs.DraftLaws.{added}
+use Rattle.lines.specs.Line.{LONGEST}
 use borrow.Author.Needs.{needs}
 use Rattle.lines.proofs.draft.add.Statement.{statement}
 use Rattle.lines.proofs.draft.add.Tie as tie
@@ -18,7 +19,7 @@ add-t10 c = search needs
 returns : tie.Need-returns
 returns c =
     let a = c .before .before .before .before .before .args in
-    let n : length (a .d .bytes) ≡ 27 = search needs in
+    let n : length (a .d .bytes) ≡ LONGEST = search needs in
     record { text = added (a .d .bytes) (a .d .n) (a .text .now) (omega (arith, n, c .before .before .before .before .before .pre)) (c .before .copy-into .ensures); upto = search needs }
 
 pub add-spec : {M : Type 1} → statement M
