@@ -1,6 +1,6 @@
 -- What the proofs of this crate share.
 use Prim.Native.Nat.{ℕ, _+_, _-_, _≤_, min}
-use mathlib.Core.Path.{_≡_, refl, sym, ap, _∙_}
+use mathlib.Core.Path.{_≡_, sym, ap, _∙_}
 use mathlib.Core.Bool.{Bool, true}
 use mathlib.Core.List.{List, map}
 use native.Mathlib.Omega.{arith}
@@ -14,12 +14,8 @@ use Rattle.connection.specs.declared.request.Request.{Request}
 use Rattle.connection.specs.declared.state.Table.{Table}
 use Rattle.connection.specs.declared.state.Conn.{Conn}
 use Rattle.connection.specs.Slots.{putRequest}
-use Rattle.connection.specs.declared.state.Target.{Target}
-use Rattle.connection.specs.Sizes.{SLOTS}
-use Rattle.connection.specs.Shape.{_and_, slotsFit, positionFits, targetFits, inShape}
 use Rattle.connection.specs.Laws.ShapeLaws.{Placed}
 use Rattle.connection.specs.Step.{openWith}
-use Rattle.shape.specs.Fits.{targetOf, shapeOf}
 
 -- a step of the reader uses no more than there is, and never more than a record's content can have
 pub used-fits : (p : Position) (x : List ℕ) → Placed p → (advanced p x .used ≤ length x) × (advanced p x .used ≤ 65535)
@@ -34,21 +30,6 @@ used-fits p x h =
     (λ v. byTest (ltb (p .held + min (8 - p .held) (length x)) 8)
     (λ w. simp (t, u, v, w) (omega arith, omega arith))
     (λ w. simp (t, u, v, w) (omega arith, omega arith)))))
-
--- the shape of a state depends on these parts of it alone
-pub shape-of : (c : Conn) → shapeOf (c .table .ids) (c .table .lengths) (c .table .occupied) (c .frame) ≡ inShape c
-unfolding inShape
-shape-of c =
-    ap (λ (b : Bool). slotsFit SLOTS (c .table .ids) (c .table .lengths) (c .table .occupied) 0 and (positionFits (c .frame .position) and b)) (target-same (c .frame .target))
-  where
-    target-same : (target : Target) → targetOf target (c .table .ids) (c .table .lengths) (c .table .occupied) (c .frame .gathered) (c .frame .position .content)
-        ≡ targetFits target (c .table) (c .frame .gathered) (c .frame .position .content)
-    target-same Target.Skip = refl
-    target-same (Target.Begin id) = refl
-    target-same Target.Query = refl
-    target-same (Target.Params i) = refl
-    target-same (Target.Stdin i) = refl
-    target-same (Target.Data i) = refl
 
 -- there is no slot to put a request into behind the last one
 pub put-out : (t : Table) (i : ℕ) (r : Request) → length (t .ids) ≤ i → length (t .lengths) ≤ i → length (t .marks) ≤ i → t ≡ putRequest t i r

@@ -1,7 +1,7 @@
 -- What the loops over the slots need.
 use Prim.Native.Nat.{ℕ, suc, _+_, _-_, _≤_, _<_}
-use mathlib.Core.Path.{_≡_}
-use mathlib.Core.Bool.{true, false}
+use mathlib.Core.Path.{_≡_, refl, ap}
+use mathlib.Core.Bool.{Bool, true, false}
 use mathlib.Core.List.{List}
 use native.Mathlib.Omega.{arith}
 use lib.Dec.{ltb, eqb}
@@ -10,8 +10,10 @@ use Rattle.wire.specs.Test.{if_then_else_, byTest}
 use Rattle.connection.specs.declared.state.Slot.{Slot}
 use Rattle.connection.specs.Sizes.{SLOTS}
 use Rattle.connection.specs.Slots.{holdsId, findFrom}
-use Rattle.connection.specs.Shape.{_and_, lengthFits, idFits, slotsFit}
-use Rattle.shape.specs.Fits.{dueOf}
+use Rattle.connection.specs.declared.state.Target.{Target}
+use Rattle.connection.specs.declared.state.Conn.{Conn}
+use Rattle.connection.specs.Shape.{_and_, lengthFits, idFits, slotsFit, positionFits, targetFits, inShape}
+use Rattle.shape.specs.Fits.{dueOf, targetOf, shapeOf}
 
 -- a turn of the search for an id, and its end
 pub find-turn : (ids : List ℕ) (occupied id i : ℕ) → i < SLOTS
@@ -48,3 +50,18 @@ not-eight gathered left h = ne-eqb (gathered + left) 8 (λ e. h (omega arith))
 
 pub over-eight : (gathered left : ℕ) → 8 < gathered → eqb (gathered + left) 8 ≡ false
 over-eight gathered left h = ne-eqb (gathered + left) 8 (λ e. omega arith)
+
+-- the shape of a state depends on these parts of it alone
+pub shape-of : (c : Conn) → shapeOf (c .table .ids) (c .table .lengths) (c .table .occupied) (c .frame) ≡ inShape c
+unfolding inShape
+shape-of c =
+    ap (λ (b : Bool). slotsFit SLOTS (c .table .ids) (c .table .lengths) (c .table .occupied) 0 and (positionFits (c .frame .position) and b)) (target-same (c .frame .target))
+  where
+    target-same : (target : Target) → targetOf target (c .table .ids) (c .table .lengths) (c .table .occupied) (c .frame .gathered) (c .frame .position .content)
+        ≡ targetFits target (c .table) (c .frame .gathered) (c .frame .position .content)
+    target-same Target.Skip = refl
+    target-same (Target.Begin id) = refl
+    target-same Target.Query = refl
+    target-same (Target.Params i) = refl
+    target-same (Target.Stdin i) = refl
+    target-same (Target.Data i) = refl

@@ -7,7 +7,8 @@ use Rattle.connection.specs.declared.state.Conn.{Conn}
 use Rattle.connection.specs.Step.{advances, stepRefusal, stepped}
 use Rattle.reader.specs.Position.{advanced}
 use Rattle.receive.specs.Answer.{stateOf}
-use Rattle.receive.specs.Laws.{shape-of, opened-is}
+use Rattle.shape.specs.Laws.{shape-of}
+use Rattle.receive.specs.Laws.{opened-is}
 use borrow.Author.Needs.{needs}
 use Rattle.receive.proofs.step.step.Statement.{statement}
 use Rattle.receive.proofs.step.step.Tie as tie

@@ -1,0 +1,67 @@
+// What every call asks first: the rows of the table of refusals that are not the request's own, and the slot of its id.
+use connection::answer::Refusal;
+use connection::sizes::STORE;
+use connection::state::Conn;
+use connection::state::Slot;
+use occupancy::taken_count;
+use shape::find::find_from;
+use shape::fits::in_shape;
+ghost use mathlib.Core.Path.{_≡_};
+ghost use lib.ListN.{length};
+ghost use Rattle.connection.specs.Calls.{activeCount};
+ghost use Rattle.admit.specs.Admission.{admittedBy, callAdmission, lentAdmission, countedBy};
+
+// The slot of the request that a call names, or why the call is refused.
+pub enum Admitted {
+    At(usize),
+    Refused(Refusal),
+}
+
+pub enum Count {
+    Active(u32),
+    Refused(Refusal),
+}
+
+// Rows 9, 1 and 3: of a call that is not lent the store.
+pub fn admit(c: Conn, id: u16) -> Admitted
+    ensures { λ r. ⌜ admittedBy r ≡ callAdmission c id ⌝ }
+{
+    let t = c.table;
+    let f = c.frame;
+    if in_shape(&t.ids, &t.lengths, t.occupied, f) {} else {
+        return Admitted::Refused(Refusal::OutOfShape);
+    }
+    if c.open {} else {
+        return Admitted::Refused(Refusal::Closed);
+    }
+    let slot = find_from(&t.ids, t.occupied, id, 0);
+    let Slot::At(i) = slot else {
+        return Admitted::Refused(Refusal::NotActive);
+    };
+    Admitted::At(i)
+}
+
+// Rows 2, 9, 1 and 3: of a call that is lent the store, which has so many bytes.
+pub fn admit_lent(c: Conn, store: &[u8], id: u16) -> Admitted
+    ensures { λ r. ⌜ admittedBy r ≡ lentAdmission c (now (store .entry)) id ⌝ }
+{
+    if store.len() == STORE {
+        return admit(c, id);
+    }
+    Admitted::Refused(Refusal::StoreSize)
+}
+
+// The number of active requests (rows 9 and 1).
+pub fn active_count(c: Conn) -> Count
+    ensures { λ r. ⌜ countedBy r ≡ activeCount c ⌝ }
+{
+    let t = c.table;
+    let f = c.frame;
+    if in_shape(&t.ids, &t.lengths, t.occupied, f) {} else {
+        return Count::Refused(Refusal::OutOfShape);
+    }
+    if c.open {} else {
+        return Count::Refused(Refusal::Closed);
+    }
+    Count::Active(taken_count(t.occupied))
+}
