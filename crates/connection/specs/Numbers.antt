@@ -9,6 +9,7 @@ use Rattle.connection.specs.declared.event.Close.{Close}
 use Rattle.connection.specs.declared.event.Event.{Event as CodeEvent}
 use Rattle.connection.specs.declared.answer.Refusal.{Refusal}
 use Rattle.connection.specs.declared.answer.Output.{Output}
+use Rattle.connection.specs.declared.answer.Wrote.{Wrote}
 use Rattle.connection.specs.Event.{Event}
 
 -- the numbers of roles and streams
@@ -69,3 +70,12 @@ refusalNumber Refusal.NoRoom = 6
 refusalNumber Refusal.NoPair = 7
 refusalNumber Refusal.TooLong = 8
 refusalNumber Refusal.OutOfShape = 9
+
+-- what a call wrote: the number of its refusal, 0 for none, and the bytes
+abbrev pub wroteRefusal : Wrote → ℕ
+wroteRefusal (Wrote.Bytes n) = 0
+wroteRefusal (Wrote.Refused r) = refusalNumber r
+
+abbrev pub wroteBytes : Wrote → ℕ
+wroteBytes (Wrote.Bytes n) = n
+wroteBytes (Wrote.Refused r) = 0

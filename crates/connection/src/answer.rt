@@ -43,3 +43,14 @@ pub struct Stepped {
     pub told: Told,
     pub conn: Conn,
 }
+
+// The bytes that a call wrote at the start of the lent buffer, or why it wrote none.
+pub enum Wrote {
+    Bytes(usize),
+    Refused(Refusal),
+}
+
+pub struct Written {
+    pub wrote: Wrote,
+    pub conn: Conn,
+}

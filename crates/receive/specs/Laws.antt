@@ -1,19 +1,15 @@
 -- What the proofs of this crate share.
 use Prim.Native.Nat.{ℕ, _+_, _-_, _≤_, min}
-use mathlib.Core.Path.{_≡_, sym, ap, _∙_}
+use mathlib.Core.Path.{_≡_, sym, ap}
 use mathlib.Core.Bool.{Bool, true}
-use mathlib.Core.List.{List, map}
+use mathlib.Core.List.{List}
 use native.Mathlib.Omega.{arith}
-use lib.ListN.{length, length-map}
-use lib.Seq.{set-out}
+use lib.ListN.{length}
 use lib.Dec.{ltb, leb}
 use Rattle.wire.specs.Test.{byTest}
 use Rattle.reader.specs.declared.Position.{Position}
 use Rattle.reader.specs.Position.{inHeader, advanced}
-use Rattle.connection.specs.declared.request.Request.{Request}
-use Rattle.connection.specs.declared.state.Table.{Table}
 use Rattle.connection.specs.declared.state.Conn.{Conn}
-use Rattle.connection.specs.Slots.{putRequest}
 use Rattle.connection.specs.Laws.ShapeLaws.{Placed}
 use Rattle.connection.specs.Step.{openWith}
 
@@ -30,15 +26,6 @@ used-fits p x h =
     (λ v. byTest (ltb (p .held + min (8 - p .held) (length x)) 8)
     (λ w. simp (t, u, v, w) (omega arith, omega arith))
     (λ w. simp (t, u, v, w) (omega arith, omega arith)))))
-
--- there is no slot to put a request into behind the last one
-pub put-out : (t : Table) (i : ℕ) (r : Request) → length (t .ids) ≤ i → length (t .lengths) ≤ i → length (t .marks) ≤ i → t ≡ putRequest t i r
-unfolding putRequest
-put-out t i r a b m = sym (rw (set-out (t .ids) i (r .id) a, set-out (t .lengths) i (r .length) b, set-out (t .marks) i (r .mark) m))
-
--- the length of an array of structs
-pub mapped-length {ℓ κ} : {A : Type ℓ} {B : Type κ} (f : A → B) (l : List A) (n : ℕ) → length (map f l) ≡ n → length l ≡ n
-mapped-length f l n e = sym (length-map l f) ∙ e
 
 -- a connection that is open
 pub opened-is : (c : Conn) → c .«open» ≡ true → openWith (c .table) (c .frame) ≡ c

@@ -2,16 +2,13 @@
 use connection::answer::Refusal;
 use connection::answer::Start;
 use connection::answer::Started;
-use connection::request::Life;
-use connection::request::Mark;
-use connection::request::Role;
-use connection::request::Turn;
 use connection::sizes::STORE;
 use connection::state::Conn;
 use connection::state::Frame;
 use connection::state::Table;
 use connection::state::Target;
 use reader::between;
+use table::no_mark;
 use wire::clear;
 ghost use mathlib.Core.Path.{_≡_};
 ghost use Rattle.connection.specs.Slots.{noRequests};
@@ -21,15 +18,7 @@ ghost use Rattle.receive.specs.Answer.{startedBy};
 fn no_requests() -> Table
     ensures { λ r. ⌜ r ≡ noRequests ⌝ }
 {
-    let mark = Mark {
-        role: Role::Responder,
-        turn: Turn::Params,
-        life: Life::Live,
-        keep: false,
-        out_ended: false,
-        err_used: false,
-        err_ended: false,
-    };
+    let mark = no_mark();
     Table {
         ids: [0; 16],
         lengths: [0; 16],

@@ -6,8 +6,6 @@ use connection::answer::Told;
 use connection::event::Event;
 use connection::moved::Change;
 use connection::moved::Moved;
-use connection::request::Request;
-use connection::sizes::SLOTS;
 use connection::sizes::STORE;
 use connection::state::Conn;
 use connection::state::Frame;
@@ -15,11 +13,12 @@ use connection::state::Table;
 use feed::feed;
 use judge::judge;
 use judge::quiet;
-use occupancy::take_slot;
 use reader::Phase;
 use reader::Position;
 use reader::advance;
 use shape::fits::in_shape;
+use table::put_request;
+use table::take_request;
 use wire::clear;
 ghost use mathlib.Core.Path.{_≡_};
 ghost use mathlib.Core.List.{List};
@@ -27,10 +26,9 @@ ghost use Prim.Native.Nat.{ℕ, _≤_, _<_};
 ghost use lib.ListN.{length, take};
 ghost use Rattle.connection.specs.declared.state.Conn.{Conn};
 ghost use Rattle.connection.specs.declared.answer.Told.{Told};
-ghost use Rattle.connection.specs.Sizes.{SLOTS, STORE};
+ghost use Rattle.connection.specs.Sizes.{STORE};
 ghost use Rattle.connection.specs.Laws.ShapeLaws.{Aimed, Placed};
 ghost use Rattle.connection.specs.Step.{moved, onPhase, openWith, advances, stepped};
-ghost use Rattle.connection.specs.Slots.{putRequest, takeSlot};
 ghost use Rattle.reader.specs.Position.{advanced};
 ghost use Rattle.connection.specs.Moved.{openState, leftBy, connAfter, storeAfter};
 ghost use Rattle.receive.specs.Answer.{stateOf, steppedBy};
@@ -68,29 +66,6 @@ fn decide(
         Phase::Part => quiet(frame_at(f, p), Event::Nothing),
         Phase::Whole(h) => judge(t, store, h),
     }
-}
-
-// Slot i with that request. There is no slot from 16 on.
-fn put_request(t: Table, i: usize, r: Request) -> Table
-    ensures { λ x. ⌜ x ≡ putRequest t i r ⌝ }
-{
-    let mut table = t;
-    if i < SLOTS {
-        let mark = r.mark;
-        table.ids[i] = r.id;
-        table.lengths[i] = r.length;
-        table.marks[i] = mark;
-    }
-    table
-}
-
-// A free slot taken by that request.
-fn take_request(t: Table, i: usize, r: Request) -> Table
-    ensures { λ x. ⌜ x ≡ takeSlot t i r ⌝ }
-{
-    let mut table = put_request(t, i, r);
-    table.occupied = take_slot(t.occupied, i);
-    table
 }
 
 // An open connection.

@@ -12,7 +12,7 @@ use Rattle.connection.specs.Sizes.{SLOTS}
 use Rattle.connection.specs.Slots.{holdsId, findFrom}
 use Rattle.connection.specs.declared.state.Target.{Target}
 use Rattle.connection.specs.declared.state.Conn.{Conn}
-use Rattle.connection.specs.Shape.{_and_, lengthFits, idFits, slotsFit, positionFits, targetFits, inShape}
+use Rattle.connection.specs.Shape.{_and_, slotsFit, positionFits, targetFits, inShape}
 use Rattle.shape.specs.Fits.{dueOf, targetOf, shapeOf}
 
 -- a turn of the search for an id, and its end
@@ -24,17 +24,6 @@ find-turn ids occupied id i h = let n : SLOTS - i ≡ suc (SLOTS - (i + 1)) = om
 pub find-end : (ids : List ℕ) (occupied id i : ℕ) → SLOTS ≤ i → findFrom (SLOTS - i) ids occupied id i ≡ Slot.Nowhere
 unfolding findFrom
 find-end ids occupied id i h = let n : SLOTS - i ≡ 0 = omega arith in rw n
-
--- a turn of the test of the slots, and its end
-pub fits-turn : (ids lengths : List ℕ) (occupied i : ℕ) → i < SLOTS
-    → slotsFit (SLOTS - i) ids lengths occupied i
-    ≡ lengthFits lengths i and (idFits ids occupied (SLOTS - (i + 1)) i and slotsFit (SLOTS - (i + 1)) ids lengths occupied (i + 1))
-unfolding slotsFit
-fits-turn ids lengths occupied i h = let n : SLOTS - i ≡ suc (SLOTS - (i + 1)) = omega arith in rw n
-
-pub fits-end : (ids lengths : List ℕ) (occupied i : ℕ) → SLOTS ≤ i → slotsFit (SLOTS - i) ids lengths occupied i ≡ true
-unfolding slotsFit
-fits-end ids lengths occupied i h = let n : SLOTS - i ≡ 0 = omega arith in rw n
 
 -- content that fits is due to one of the slots
 pub due-slot : (occupied i : ℕ) → dueOf occupied i ≡ true → i < SLOTS

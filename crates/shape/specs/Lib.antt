@@ -1,2 +1,5 @@
 pub mod Fits
 pub mod Laws
+pub mod Quick
+pub mod QuickLaws
+pub mod QuickRow

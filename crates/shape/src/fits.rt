@@ -1,5 +1,7 @@
 // Whether a state is in shape (row 9 of the table of refusals).
 use crate::find::find_from;
+use crate::slots::number;
+use crate::slots::slots_fit;
 use connection::sizes::AREA;
 use connection::sizes::QUERY;
 use connection::sizes::SLOTS;
@@ -11,54 +13,10 @@ use reader::Position;
 ghost use mathlib.Core.Path.{_≡_};
 ghost use mathlib.Core.List.{[]};
 ghost use lib.Dec.{leb};
-ghost use Prim.Native.Nat.{_+_, _-_, _<_};
-ghost use Rattle.connection.specs.Sizes.{SLOTS};
+ghost use Prim.Native.Nat.{_+_};
 ghost use Rattle.connection.specs.declared.state.Target.{Target};
-ghost use Rattle.connection.specs.Shape.{idFits, slotsFit, positionFits};
+ghost use Rattle.connection.specs.Shape.{positionFits};
 ghost use Rattle.shape.specs.Fits.{dueOf, targetOf, shapeOf};
-
-// A length as a wider number.
-fn number(n: u16) -> usize
-    ensures { λ r. ⌜ r ≡ n ⌝ }
-{
-    n as usize
-}
-
-// The id of slot i, if it is taken, is not 0, and no slot behind it has the same.
-fn id_fits(ids: &[u16; 16], occupied: u16, i: usize) -> bool
-    requires { ⌜ i < SLOTS ⌝ }
-    ensures { λ r. ⌜ r ≡ idFits (now (ids .entry)) occupied (SLOTS - (i + 1)) i ⌝ }
-{
-    if is_taken(occupied, i) {} else {
-        return true;
-    }
-    let id = ids[i];
-    if id == 0 {
-        return false;
-    }
-    let again = find_from(ids, occupied, id, i + 1);
-    match again {
-        Slot::At(_) => false,
-        Slot::Nowhere => true,
-    }
-}
-
-// No area's length is over AREA, and every id fits.
-fn slots_fit<'a>(ids: &'a [u16; 16], lengths: &'a [u16; 16], occupied: u16) -> bool
-    ensures { λ r. ⌜ r ≡ slotsFit SLOTS (now (ids .entry)) (now (lengths .entry)) occupied 0 ⌝ }
-{
-    let mut i: usize = 0;
-    while i < SLOTS {
-        if AREA < number(lengths[i]) {
-            return false;
-        }
-        if id_fits(ids, occupied, i) {} else {
-            return false;
-        }
-        i += 1;
-    }
-    true
-}
 
 fn position_fits(p: Position) -> bool
     ensures { λ r. ⌜ r ≡ positionFits p ⌝ }

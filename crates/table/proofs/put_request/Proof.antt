@@ -2,10 +2,10 @@ use mathlib.Core.Path.{_≡_, refl}
 use native.Mathlib.Omega.{arith}
 use lib.ListN.{length}
 use Rattle.connection.specs.Slots.{putRequest}
-use Rattle.receive.specs.Laws.{put-out, mapped-length}
+use Rattle.table.specs.Laws.{put-out, mapped-length}
 use borrow.Author.Needs.{needs}
-use Rattle.receive.proofs.step.put_request.Statement.{statement}
-use Rattle.receive.proofs.step.put_request.Tie as tie
+use Rattle.table.proofs.put_request.Statement.{statement}
+use Rattle.table.proofs.put_request.Tie as tie
 
 mul-table : tie.Need-mul-table
 mul-table c = search needs

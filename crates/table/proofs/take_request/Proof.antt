@@ -1,7 +1,7 @@
 use Rattle.connection.specs.Slots.{takeSlot}
 use borrow.Author.Needs.{needs}
-use Rattle.receive.proofs.step.take_request.Statement.{statement}
-use Rattle.receive.proofs.step.take_request.Tie as tie
+use Rattle.table.proofs.take_request.Statement.{statement}
+use Rattle.table.proofs.take_request.Tie as tie
 
 put-request-requires : tie.Need-put-request-requires
 put-request-requires c κs = search needs
