@@ -19,7 +19,7 @@ use reader::Position;
 use reader::between;
 use record::header::Header;
 use record::names;
-use request::on_header;
+use ruling::on_header;
 use shape::find::find_from;
 ghost use mathlib.Core.Path.{_≡_};
 ghost use mathlib.Core.List.{List};

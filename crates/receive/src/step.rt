@@ -24,7 +24,9 @@ ghost use mathlib.Core.Path.{_≡_};
 ghost use mathlib.Core.List.{List};
 ghost use Prim.Native.Nat.{ℕ, _≤_, _<_};
 ghost use lib.ListN.{length, take};
-ghost use Rattle.connection.specs.declared.state.Conn.{Conn};
+ghost use mathlib.Core.Bool.{Bool, true};
+ghost use Rattle.connection.specs.declared.moved.Change.{Change};
+ghost use Rattle.connection.specs.Shape.{inShape};
 ghost use Rattle.connection.specs.declared.answer.Told.{Told};
 ghost use Rattle.connection.specs.Sizes.{STORE};
 ghost use Rattle.connection.specs.Laws.ShapeLaws.{Aimed, Placed};
@@ -32,6 +34,8 @@ ghost use Rattle.connection.specs.Step.{moved, onPhase, openWith, advances, ste
 ghost use Rattle.reader.specs.Position.{advanced};
 ghost use Rattle.connection.specs.Moved.{openState, leftBy, connAfter, storeAfter};
 ghost use Rattle.receive.specs.Answer.{stateOf, steppedBy};
+ghost use Rattle.receive.specs.declared.step.Leave.{Leave};
+ghost use Rattle.receive.specs.Outcome.{leaveOf, connOf, outcomeOf};
 
 // The frame with another position.
 fn frame_at(f: Frame, p: Position) -> Frame
@@ -68,36 +72,56 @@ fn decide(
     }
 }
 
-// An open connection.
-fn opened(t: Table, f: Frame) -> Conn
-    ensures { λ r. ⌜ r ≡ openWith t f ⌝ }
-{
-    Conn {
-        table: t,
-        frame: f,
-        open: true,
-    }
+// Whether a step goes on: yes; there is nothing to read; or it is refused.
+enum Leave {
+    Given,
+    Idle,
+    Refused(Refusal),
 }
 
-// The connection with a change applied; a close zeroes the store.
-fn applied(t: Table, change: Change, f: Frame, store: &mut [u8]) -> Conn
-    ensures { λ r. ⌜ (r ≡ connAfter change t f) × (now (store .exit) ≡ storeAfter change (now (store .entry))) ⌝ }
+// Rows 2, 9 and 1, and the empty piece.
+fn ask_leave(size: usize, fits: bool, open: bool, bytes: usize) -> Leave
+    ensures { λ r. ⌜ r ≡ leaveOf size fits «open» bytes ⌝ }
 {
-    match change {
-        Change::Keep => opened(t, f),
-        Change::Put(i, r) => opened(put_request(t, i, r), f),
-        Change::Take(i, r) => opened(take_request(t, i, r), f),
-        Change::Close => {
-            clear(store);
-            closed()
-        }
+    if size != STORE {
+        return Leave::Refused(Refusal::StoreSize);
+    }
+    if fits {} else {
+        return Leave::Refused(Refusal::OutOfShape);
+    }
+    if open {} else {
+        return Leave::Refused(Refusal::Closed);
+    }
+    if bytes == 0 {
+        return Leave::Idle;
+    }
+    Leave::Given
+}
+
+// All that a step comes to, in small values: the table stands in the one place where it is changed.
+struct Outcome {
+    used: usize,
+    told: Told,
+    change: Change,
+    frame: Frame,
+}
+
+// Nothing is used, nothing changes.
+fn stay(f: Frame, told: Told) -> Outcome
+    ensures { λ r. ⌜ r ≡ record { used = 0; told = told; change = Change.Keep; frame = f } ⌝ }
+{
+    Outcome {
+        used: 0,
+        told: told,
+        change: Change::Keep,
+        frame: f,
     }
 }
 
 // A step that is not refused, over a piece that is not empty.
-fn go_on(t: Table, f: Frame, store: &mut [u8], gathered: &mut [u8; 512], piece: &[u8]) -> Stepped
+fn go_on(t: Table, f: Frame, store: &mut [u8], gathered: &mut [u8; 512], piece: &[u8]) -> Outcome
     requires { ⌜ (length (now store) ≡ STORE) × (Aimed (f .target) t (f .gathered) (f .position .content)) × (Placed (f .position)) ⌝ }
-    ensures { λ r. ⌜ steppedBy r (now (gathered .exit)) (now (store .exit)) ≡ advances (openState t f (now (gathered .entry))) (now (store .entry)) (now (piece .entry)) (advanced (f .position) (now (piece .entry))) ⌝ }
+    ensures { λ r. ⌜ outcomeOf r t true (now (gathered .exit)) (now (store .exit)) ≡ advances (openState t f (now (gathered .entry))) (now (store .entry)) (now (piece .entry)) (advanced (f .position) (now (piece .entry))) ⌝ }
 {
     let position = f.position;
     let a = advance(position, piece);
@@ -109,46 +133,70 @@ fn go_on(t: Table, f: Frame, store: &mut [u8], gathered: &mut [u8; 512], piece: 
     let change = m.change;
     let frame = m.frame;
     let event = m.event;
-    let conn = applied(t, change, frame, store);
-    Stepped {
+    Outcome {
         used: used,
         told: Told::Event(event),
-        conn: conn,
+        change: change,
+        frame: frame,
     }
 }
 
-// A refused step: nothing is used, nothing changes.
-fn refused(c: Conn, why: Refusal) -> Stepped
-    ensures { λ r. ⌜ r ≡ record { used = 0; told = Told.Refused why; conn = c } ⌝ }
+// What a step comes to.
+fn settle(
+    leave: Leave,
+    t: Table,
+    f: Frame,
+    store: &mut [u8],
+    gathered: &mut [u8; 512],
+    piece: &[u8],
+) -> Outcome
+    requires { ⌜ (leave ≡ Leave.Given → (length (now store) ≡ STORE) × (Aimed (f .target) t (f .gathered) (f .position .content)) × (Placed (f .position))) ⌝ }
+    ensures { λ r. ⌜ ((o : Bool) → leave ≡ leaveOf (length (now (store .entry))) (inShape (connOf t f o)) o (length (now (piece .entry))) → outcomeOf r t o (now (gathered .exit)) (now (store .exit)) ≡ stepped (stateOf (connOf t f o) (now (gathered .entry))) (now (store .entry)) (now (piece .entry))) ⌝ }
 {
-    Stepped {
-        used: 0,
-        told: Told::Refused(why),
-        conn: c,
+    match leave {
+        Leave::Refused(why) => stay(f, Told::Refused(why)),
+        Leave::Idle => stay(f, Told::Event(Event::Nothing)),
+        Leave::Given => go_on(t, f, store, gathered, piece),
     }
 }
 
 // One step over a piece: it stays in one phase and uses as many bytes as that phase still needs or the piece has.
+// The table is changed in place and has one way out: a copy of it costs as much as the rest of a step.
 pub fn step(c: Conn, store: &mut [u8], gathered: &mut [u8; 512], piece: &[u8]) -> Stepped
     ensures { λ r. ⌜ steppedBy r (now (gathered .exit)) (now (store .exit)) ≡ stepped (stateOf c (now (gathered .entry))) (now (store .entry)) (now (piece .entry)) ⌝ }
 {
-    let t = c.table;
+    let mut t = c.table;
     let f = c.frame;
-    if store.len() != STORE {
-        return refused(c, Refusal::StoreSize);
+    let mut open = c.open;
+    let fits = in_shape(&t.ids, &t.lengths, t.occupied, f);
+    let leave = ask_leave(store.len(), fits, open, piece.len());
+    let o = settle(leave, t, f, store, gathered, piece);
+    let change = o.change;
+    let mut frame = o.frame;
+    let told = o.told;
+    match change {
+        Change::Keep => {}
+        Change::Put(i, r) => {
+            t = put_request(t, i, r);
+        }
+        Change::Take(i, r) => {
+            t = take_request(t, i, r);
+        }
+        Change::Close => {
+            clear(store);
+            let none = closed();
+            t = none.table;
+            frame = none.frame;
+            open = none.open;
+        }
     }
-    if in_shape(&t.ids, &t.lengths, t.occupied, f) {} else {
-        return refused(c, Refusal::OutOfShape);
+    Stepped {
+        used: o.used,
+        told: told,
+        conn: Conn {
+            table: t,
+            frame: frame,
+            open: open,
+        },
     }
-    if c.open {} else {
-        return refused(c, Refusal::Closed);
-    }
-    if piece.len() == 0 {
-        return Stepped {
-            used: 0,
-            told: Told::Event(Event::Nothing),
-            conn: c,
-        };
-    }
-    go_on(t, f, store, gathered, piece)
 }

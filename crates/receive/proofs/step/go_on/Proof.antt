@@ -4,9 +4,10 @@ use native.Mathlib.Omega.{arith}
 use lib.ListN.{length, take, length-take}
 use Rattle.reader.specs.declared.Advanced.{Advanced}
 use Rattle.connection.specs.Step.{onPhase, leaves, advances}
-use Rattle.connection.specs.declared.answer.Told.{Told}
-use Rattle.connection.specs.Moved.{openState, leftBy}
-use Rattle.receive.specs.Answer.{steppedBy}
+use Rattle.connection.specs.declared.state.Conn.{Conn}
+use Rattle.connection.specs.Numbers.{eventOf}
+use Rattle.connection.specs.Moved.{openState, storeAfter}
+use Rattle.receive.specs.OutcomeLaws.{changed-open}
 use Rattle.receive.specs.Laws.{used-fits}
 use borrow.Author.Needs.{needs}
 use Rattle.receive.proofs.step.go_on.Statement.{statement}
@@ -35,26 +36,23 @@ part-decide-end c = fits (c .before .before .before) .0
 decide-requires : tie.Need-decide-requires
 decide-requires c κs = (c .before .before .before .before .before .before .before .before .pre .0, c .before .before .before .before .before .before .before .before .pre .1, omega (arith, length-take (c .before .before .before .before .advance .result .used - 0) (c .before .before .before .before .before .before .before .before .args .piece .now), fits (c .before .before .before .before)))
 
-applied-requires : tie.Need-applied-requires
-applied-requires c κs = search needs
-
 same-length : tie.Need-same-length
 same-length c = search needs
 
 returns : tie.Need-returns
 unfolding advances
 returns c =
-    let a = c .before .before .before .before .before .before .before .before .before .before .before .before .before .before .before .before .args in
-    let r = c .before .before .before .before .before .before .before .before .before .before .before .before .advance .result in
-    let m = c .before .before .before .before .before .before .before .decide .result in
-    let g = c .before .before .before .before .before .before .before .decide .last .1 .1 .1 .0 in
-    let s = c .before .before .before .before .before .before .before .decide .last .1 .1 .0 in
+    let a = c .before .before .before .before .before .before .before .before .before .before .before .before .args in
+    let r = c .before .before .before .before .before .before .before .before .advance .result in
+    let d = c .before .before .before .decide in
+    let m = d .result in
+    let g = d .last .1 .1 .1 .0 in
+    let s = d .last .1 .1 .0 in
     let st = openState (a .t) (a .f) (a .gathered .now) in
     let n : r .used - 0 ≡ r .used = omega arith in
-    let one : steppedBy (record { used = r .used; told = Told.Event (m .event); conn = c .before .before .applied .result }) g (c .before .before .applied .last .1 .1 .1 .0) ≡ leaves (r .used) (leftBy m (a .t) g s) = simp (c .before .before .applied .ensures .0, c .before .before .applied .ensures .1) in
-    one
-    ∙ ap (leaves (r .used)) (c .before .before .before .before .before .before .before .decide .ensures ∙ ap (λ (k : ℕ). onPhase (r .phase) st (a .store .now) (take k (a .piece .now)) (r .position)) n)
-    ∙ ap (advances st (a .store .now) (a .piece .now)) (c .before .before .before .before .before .before .before .before .before .before .before .before .advance .ensures)
+    ap (λ (x : Conn). record { refusal = 0; used = r .used; event = eventOf (m .event); state = record { conn = x; gathered = g }; store = storeAfter (m .change) s }) (changed-open (m .change) (a .t) (m .frame))
+    ∙ ap (leaves (r .used)) (d .ensures ∙ ap (λ (k : ℕ). onPhase (r .phase) st (a .store .now) (take k (a .piece .now)) (r .position)) n)
+    ∙ ap (advances st (a .store .now) (a .piece .now)) (c .before .before .before .before .before .before .before .before .advance .ensures)
 
 pub go-on-spec : {M : Type 1} → statement M
 go-on-spec =
@@ -65,6 +63,5 @@ go-on-spec =
     part-decide-start
     part-decide-end
     decide-requires
-    applied-requires
     same-length
     returns)

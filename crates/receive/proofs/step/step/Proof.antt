@@ -1,82 +1,140 @@
 use mathlib.Core.Path.{_≡_, sym, ap, _∙_}
-use mathlib.Core.Bool.{true, false}
-use borrow.Author.Tests.{eq-eqb, ne-eqb}
-use Rattle.connection.specs.Shape.{inShape}
-use Rattle.connection.specs.Laws.ShapeLaws.{shaped}
+use mathlib.Core.Bool.{Bool}
+use mathlib.Core.List.{List}
+use Prim.Native.Nat.{ℕ}
 use Rattle.connection.specs.declared.state.Conn.{Conn}
-use Rattle.connection.specs.Step.{advances, stepRefusal, stepped}
-use Rattle.reader.specs.Position.{advanced}
-use Rattle.receive.specs.Answer.{stateOf}
+use Rattle.connection.specs.Step.{closedConn}
+use lib.ListN.{length}
+use Rattle.connection.specs.declared.state.Table.{Table}
+use Rattle.connection.specs.declared.moved.Change.{Change}
+use Rattle.connection.specs.Shape.{inShape}
+use Rattle.connection.specs.Moved.{storeAfter}
+use Rattle.connection.specs.Laws.ShapeLaws.{shaped}
 use Rattle.shape.specs.Laws.{shape-of}
-use Rattle.receive.specs.Laws.{opened-is}
+use Rattle.receive.specs.Outcome.{leaveOf, connOf, changed, steppedWith}
+use Rattle.receive.specs.OutcomeLaws.{leave-given}
 use borrow.Author.Needs.{needs}
 use Rattle.receive.proofs.step.step.Statement.{statement}
 use Rattle.receive.proofs.step.step.Tie as tie
 
-refused-requires : tie.Need-refused-requires
-refused-requires c κs = search needs
-
-returns : tie.Need-returns
-unfolding stepped stepRefusal
-returns c = simp (c .refused .ensures, ne-eqb _ _ (c .before .if1 .taken))
-
 in-shape-requires : tie.Need-in-shape-requires
 in-shape-requires c κs = search needs
 
-refused-requires-2 : tie.Need-refused-requires-2
-refused-requires-2 c κs = search needs
+ask-leave-requires : tie.Need-ask-leave-requires
+ask-leave-requires c κs = search needs
 
-returns-2 : tie.Need-returns-2
-unfolding stepped stepRefusal
-returns-2 c =
-    let bad : inShape (c .before .before .before .before .before .before .before .before .before .before .before .args .c) ≡ false = sym (shape-of (c .before .before .before .before .before .before .before .before .before .before .before .args .c)) ∙ sym (c .before .before .in-shape .ensures) ∙ c .before .if2 .left in
-    simp (c .refused2 .ensures, eq-eqb _ _ (c .before .before .before .before .before .before .if1 .left), bad)
+-- the leave that was asked for, by the whole state
+leave : (c : tie.After-ask-leave) → c .ask-leave .result ≡ leaveOf (length (c .before .before .before .before .before .before .before .before .before .args .store .now)) (inShape (c .before .before .before .before .before .before .before .before .before .args .c)) (c .before .before .before .before .before .before .before .before .before .args .c .«open») (length (c .before .before .before .before .before .before .before .before .before .args .piece .now))
+leave c =
+    let a = c .before .before .before .before .before .before .before .before .before .args in
+    c .ask-leave .ensures
+    ∙ ap (λ (x : Bool). leaveOf (length (a .store .now)) x (a .c .«open») (length (a .piece .now))) (c .before .in-shape .ensures ∙ shape-of (a .c))
 
-refused-requires-3 : tie.Need-refused-requires-3
-refused-requires-3 c κs = search needs
+settle-requires : tie.Need-settle-requires
+settle-requires c κs =
+    λ e.
+    let a = c .before .before .before .before .before .before .before .before .before .before .before .args in
+    let g = leave-given (length (a .store .now)) (inShape (a .c)) (a .c .«open») (length (a .piece .now)) (sym (leave (c .before .before)) ∙ e) in
+    let s = shaped (a .c) (g .1) in
+    (g .0, s .target, s .position)
 
-returns-3 : tie.Need-returns-3
-unfolding stepped stepRefusal
-returns-3 c =
-    let good : inShape (c .before .before .before .before .before .before .before .before .before .before .before .before .args .c) ≡ true = sym (shape-of (c .before .before .before .before .before .before .before .before .before .before .before .before .args .c)) ∙ sym (c .before .before .before .in-shape .ensures) ∙ c .before .before .if2 .taken in
-    simp (c .refused3 .ensures, eq-eqb _ _ (c .before .before .before .before .before .before .before .if1 .left), good, c .before .if3 .left)
+enum-told : tie.Need-enum-told
+enum-told c = search needs
 
-returns-4 : tie.Need-returns-4
-unfolding stepped stepRefusal
-returns-4 c =
-    let good : inShape (c .before .before .before .before .before .before .before .before .before .before .before .before .args .c) ≡ true = sym (shape-of (c .before .before .before .before .before .before .before .before .before .before .before .before .args .c)) ∙ sym (c .before .before .before .in-shape .ensures) ∙ c .before .before .if2 .taken in
-    simp (eq-eqb _ _ (c .before .before .before .before .before .before .before .if1 .left), good, c .before .if3 .taken, eq-eqb _ _ (c .if4 .taken))
+enum-known-change : tie.Need-enum-known-change
+enum-known-change c = search needs
 
-go-on-requires : tie.Need-go-on-requires
-go-on-requires c κs =
-    let good : inShape (c .before .before .before .before .before .before .before .before .before .before .before .before .before .before .args .c) ≡ true = sym (shape-of (c .before .before .before .before .before .before .before .before .before .before .before .before .before .before .args .c)) ∙ sym (c .before .before .before .before .before .in-shape .ensures) ∙ c .before .before .before .before .if2 .taken in
-    let s = shaped (c .before .before .before .before .before .before .before .before .before .before .before .before .before .before .args .c) good in
-    (c .before .before .before .before .before .before .before .before .before .if1 .left, s .target, s .position)
+put-request-requires : tie.Need-put-request-requires
+put-request-requires c κs = search needs
+
+enum-known-change-2 : tie.Need-enum-known-change-2
+enum-known-change-2 c = search needs
+
+take-request-requires : tie.Need-take-request-requires
+take-request-requires c κs = search needs
+
+enum-told-2 : tie.Need-enum-told-2
+enum-told-2 c = search needs
+
+clear-requires : tie.Need-clear-requires
+clear-requires c κs = search needs
+
+closed-requires : tie.Need-closed-requires
+closed-requires c κs = search needs
 
 same-length : tie.Need-same-length
 same-length c = search needs
 
-returns-5 : tie.Need-returns-5
-unfolding stepped stepRefusal
-returns-5 c =
+returns : tie.Need-returns
+returns c =
     let a = c .before .before .before .before .before .before .before .before .before .before .before .before .before .before .before .before .before .args in
-    let good : inShape (a .c) ≡ true = sym (shape-of (a .c)) ∙ sym (c .before .before .before .before .before .before .before .before .in-shape .ensures) ∙ c .before .before .before .before .before .before .before .if2 .taken in
-    c .before .before .go-on .ensures
-    ∙ ap (λ (x : Conn). advances (stateOf x (a .gathered .now)) (a .store .now) (a .piece .now) (advanced (a .c .frame .position) (a .piece .now))) (opened-is (a .c) (c .before .before .before .before .before .before .if3 .taken))
-    ∙ simp (eq-eqb _ _ (c .before .before .before .before .before .before .before .before .before .before .before .before .if1 .left), good, c .before .before .before .before .before .before .if3 .taken, ne-eqb _ _ (c .before .before .before .before .before .if4 .left))
+    let m = c .before .before .before .before .before .settle in
+    let g = m .last .1 .1 .1 .1 .0 in
+    let s = m .last .1 .1 .1 .0 in
+    let said = m .ensures (a .c .«open») (leave (c .before .before .before .before .before .before .before .before)) in
+    ap (λ (x : Change). steppedWith (m .result) (changed x (a .c .table) (m .result .frame) (a .c .«open»)) g (storeAfter x s)) (sym (c .enum-told .given .1)) ∙ said
+
+same-length-2 : tie.Need-same-length-2
+same-length-2 c = search needs
+
+returns-2 : tie.Need-returns-2
+returns-2 c =
+    let a = c .before .before .before .before .before .before .before .before .before .before .before .before .before .before .before .before .before .before .before .args in
+    let m = c .before .before .before .before .before .before .before .settle in
+    let g = m .last .1 .1 .1 .1 .0 in
+    let s = m .last .1 .1 .1 .0 in
+    let said = m .ensures (a .c .«open») (leave (c .before .before .before .before .before .before .before .before .before .before)) in
+    ap (λ (x : Table). steppedWith (m .result) (connOf x (m .result .frame) (a .c .«open»)) g s) (c .put-request .ensures)
+    ∙ ap (λ (x : Change). steppedWith (m .result) (changed x (a .c .table) (m .result .frame) (a .c .«open»)) g (storeAfter x s)) (sym (c .before .before .change .given .1)) ∙ said
+
+same-length-3 : tie.Need-same-length-3
+same-length-3 c = search needs
+
+returns-3 : tie.Need-returns-3
+returns-3 c =
+    let a = c .before .before .before .before .before .before .before .before .before .before .before .before .before .before .before .before .before .before .before .args in
+    let m = c .before .before .before .before .before .before .before .settle in
+    let g = m .last .1 .1 .1 .1 .0 in
+    let s = m .last .1 .1 .1 .0 in
+    let said = m .ensures (a .c .«open») (leave (c .before .before .before .before .before .before .before .before .before .before)) in
+    ap (λ (x : Table). steppedWith (m .result) (connOf x (m .result .frame) (a .c .«open»)) g s) (c .take-request .ensures)
+    ∙ ap (λ (x : Change). steppedWith (m .result) (changed x (a .c .table) (m .result .frame) (a .c .«open»)) g (storeAfter x s)) (sym (c .before .before .change2 .given .1)) ∙ said
+
+same-length-4 : tie.Need-same-length-4
+same-length-4 c = search needs
+
+returns-4 : tie.Need-returns-4
+returns-4 c =
+    let a = c .before .before .before .before .before .before .before .before .before .before .before .before .before .before .before .before .before .before .before .before .before .before .before .before .args in
+    let m = c .before .before .before .before .before .before .before .before .before .before .before .before .settle in
+    let g = m .last .1 .1 .1 .1 .0 in
+    let s = m .last .1 .1 .1 .0 in
+    let said = m .ensures (a .c .«open») (leave (c .before .before .before .before .before .before .before .before .before .before .before .before .before .before .before)) in
+    ap (λ (x : Conn). steppedWith (m .result) x g (c .before .before .before .before .before .clear .last .0)) (c .before .before .closed .ensures)
+    ∙ ap (λ (x : List ℕ). steppedWith (m .result) closedConn g x) (c .before .before .before .before .before .clear .ensures)
+    ∙ ap (λ (x : Change). steppedWith (m .result) (changed x (a .c .table) (m .result .frame) (a .c .«open»)) g (storeAfter x s)) (sym (c .before .before .before .before .before .before .before .enum-told2 .given .1))
+    ∙ said
 
 pub step-spec : {M : Type 1} → statement M
 step-spec =
     tie.close
     (tie.spec
-    refused-requires
-    returns
     in-shape-requires
-    refused-requires-2
-    returns-2
-    refused-requires-3
-    returns-3
-    returns-4
-    go-on-requires
+    ask-leave-requires
+    settle-requires
+    enum-told
+    enum-known-change
+    put-request-requires
+    enum-known-change-2
+    take-request-requires
+    enum-told-2
+    clear-requires
+    closed-requires
     same-length
-    returns-5)
+    returns
+    same-length-2
+    returns-2
+    same-length-3
+    returns-3
+    same-length-4
+    returns-4)

@@ -1,0 +1,176 @@
+// What a record of an input stream, a fault or an abort does to one request. Each function is lent the request and its own
+// area, and sees no other.
+use connection::event::Event;
+use connection::event::Fault;
+use connection::event::Stream;
+use connection::request::Due;
+use connection::request::Life;
+use connection::request::Request;
+use connection::request::Turn;
+use connection::sizes::AREA;
+use marks::after_params;
+use marks::after_stdin;
+use marks::with_life;
+use marks::with_turn;
+use pairs::list::well_formed;
+use wire::clear;
+use wire::copy_into;
+use wire::least;
+ghost use mathlib.Core.Path.{_≡_};
+ghost use Rattle.connection.specs.Numbers.{eventOf, faultNumber};
+ghost use Rattle.connection.specs.Request.{listOf, faulted, aborted, turned, paramsEnded, onParams, onStdin, onData, grown};
+ghost use Rattle.pairs.specs.List.{wellFormed};
+ghost use Rattle.streams.specs.Answer.{held, ruledBy};
+
+// What a header does to its request: the request afterwards, where its content goes, and the event.
+pub struct Ruling {
+    pub request: Request,
+    pub due: Due,
+    pub event: Event,
+}
+
+// A fault zeroes the area and spends the request.
+pub fn fault(r: Request, area: &mut [u8], f: Fault) -> Ruling
+    ensures { λ x. ⌜ ruledBy x (now (area .exit)) ≡ faulted (held r (now (area .entry))) (faultNumber f) ⌝ }
+{
+    clear(area);
+    let id = r.id;
+    let old = r.mark;
+    let mark = with_life(old, Life::Faulted);
+    Ruling {
+        request: Request {
+            id: id,
+            length: 0,
+            mark: mark,
+        },
+        due: Due::Skip,
+        event: Event::Fault(id, f),
+    }
+}
+
+// An abort spends the request; its area stays.
+pub fn abort(r: Request, area: &mut [u8]) -> Ruling
+    ensures { λ x. ⌜ ruledBy x (now (area .exit)) ≡ aborted (held r (now (area .entry))) ⌝ }
+{
+    let id = r.id;
+    let old = r.mark;
+    let mark = with_life(old, Life::Aborted);
+    Ruling {
+        request: Request {
+            id: id,
+            length: r.length,
+            mark: mark,
+        },
+        due: Due::Skip,
+        event: Event::Abort(id),
+    }
+}
+
+// A stream ends: the turn moves on.
+fn end_turn(r: Request, area: &mut [u8], t: Turn, e: Event) -> Ruling
+    ensures { λ x. ⌜ ruledBy x (now (area .exit)) ≡ turned (held r (now (area .entry))) t (eventOf e) ⌝ }
+{
+    let old = r.mark;
+    let mark = with_turn(old, t);
+    Ruling {
+        request: Request {
+            id: r.id,
+            length: r.length,
+            mark: mark,
+        },
+        due: Due::Skip,
+        event: e,
+    }
+}
+
+// The list of a request is well formed.
+fn list_well_formed(r: Request, area: &[u8]) -> bool
+    ensures { λ x. ⌜ x ≡ wellFormed (listOf (held r (now (area .entry)))) ⌝ }
+{
+    let z: usize = 0;
+    let n = least(r.length as usize, area.len());
+    well_formed(&area[z..n])
+}
+
+// The end of PARAMS: the request is ready, or its list is malformed.
+fn end_params(r: Request, area: &mut [u8]) -> Ruling
+    ensures { λ x. ⌜ ruledBy x (now (area .exit)) ≡ paramsEnded (held r (now (area .entry))) ⌝ }
+{
+    if list_well_formed(r, area) {
+        let m = r.mark;
+        let role = m.role;
+        let t = after_params(role);
+        return end_turn(r, area, t, Event::Ready(r.id, r.length));
+    }
+    fault(r, area, Fault::Malformed)
+}
+
+// PARAMS with n content bytes.
+pub fn on_params(r: Request, area: &mut [u8], n: u16) -> Ruling
+    ensures { λ x. ⌜ ruledBy x (now (area .exit)) ≡ onParams n (held r (now (area .entry))) ⌝ }
+{
+    let had = r.length as usize;
+    if AREA < had + n as usize {
+        return fault(r, area, Fault::TooLong);
+    }
+    if n == 0 {
+        return end_params(r, area);
+    }
+    Ruling {
+        request: r,
+        due: Due::Params,
+        event: Event::Nothing,
+    }
+}
+
+// STDIN with n content bytes.
+pub fn on_stdin(r: Request, area: &mut [u8], n: u16) -> Ruling
+    ensures { λ x. ⌜ ruledBy x (now (area .exit)) ≡ onStdin n (held r (now (area .entry))) ⌝ }
+{
+    if n == 0 {
+        let m = r.mark;
+        let role = m.role;
+        let t = after_stdin(role);
+        return end_turn(r, area, t, Event::End(r.id, Stream::Stdin));
+    }
+    Ruling {
+        request: r,
+        due: Due::Stdin,
+        event: Event::Nothing,
+    }
+}
+
+// DATA with n content bytes.
+pub fn on_data(r: Request, area: &mut [u8], n: u16) -> Ruling
+    ensures { λ x. ⌜ ruledBy x (now (area .exit)) ≡ onData n (held r (now (area .entry))) ⌝ }
+{
+    if n == 0 {
+        return end_turn(r, area, Turn::Done, Event::End(r.id, Stream::Data));
+    }
+    Ruling {
+        request: r,
+        due: Due::Data,
+        event: Event::Nothing,
+    }
+}
+
+// PARAMS content for this request: into its area, behind what it holds.
+pub fn grow(r: Request, area: &mut [u8], bytes: &[u8]) -> Request
+    ensures { λ x. ⌜ held x (now (area .exit)) ≡ grown (held r (now (area .entry))) (now (bytes .entry)) ⌝ }
+{
+    let had = r.length as usize;
+    let n = bytes.len();
+    if AREA < had {
+        return r;
+    }
+    if AREA - had < n {
+        return r;
+    }
+    copy_into(area, had, bytes);
+    let mark = r.mark;
+    Request {
+        id: r.id,
+        length: (had + n) as u16,
+        mark: mark,
+    }
+}
