@@ -15,6 +15,9 @@ use connection::event::Fault;
 use connection::event::Status;
 use connection::event::Stream;
 use connection::request::Role;
+use numbers::close_number;
+use numbers::fault_number;
+use numbers::status_number;
 ghost use mathlib.Core.Path.{_≡_};
 ghost use mathlib.Core.List.{[], _∷_};
 ghost use Prim.Native.Nat.{_≤_};
@@ -65,38 +68,16 @@ fn abort_line(id: u16) -> Draft
     line_of_one(b"abort", id)
 }
 
-// The numbers of end statuses, faults and closes.
-fn status_number(status: Status) -> u16
-    ensures { λ r. ⌜ r ≡ statusNumber status ⌝ }
-{
-    match status {
-        Status::Overloaded => 2,
-        Status::UnknownRole => 3,
-    }
-}
-
 fn refuse_line(id: u16, status: Status) -> Draft
     ensures { λ r. ⌜ Says r (line refuseWord (decimal id ∷ decimal (statusNumber status) ∷ [])) LONGEST ⌝ }
 {
-    line_of_two(b"refuse", id, status_number(status))
-}
-
-fn fault_number(fault: Fault) -> u16
-    ensures { λ r. ⌜ r ≡ faultNumber fault ⌝ }
-{
-    match fault {
-        Fault::BeginAgain => 21,
-        Fault::OutOfTurn => 22,
-        Fault::WrongType => 23,
-        Fault::TooLong => 24,
-        Fault::Malformed => 25,
-    }
+    line_of_two(b"refuse", id, status_number(status) as u16)
 }
 
 fn fault_line(id: u16, fault: Fault) -> Draft
     ensures { λ r. ⌜ Says r (line faultWord (decimal id ∷ decimal (faultNumber fault) ∷ [])) LONGEST ⌝ }
 {
-    line_of_two(b"fault", id, fault_number(fault))
+    line_of_two(b"fault", id, fault_number(fault) as u16)
 }
 
 fn flag_digit(named: bool) -> u8
@@ -124,21 +105,10 @@ fn unknown_line(kind: u8) -> Draft
     line_of_one(b"unknown", kind as u16)
 }
 
-fn close_number(close: Close) -> u16
-    ensures { λ r. ⌜ r ≡ closeNumber close ⌝ }
-{
-    match close {
-        Close::Version => 11,
-        Close::BeginLength => 12,
-        Close::QueryLength => 13,
-        Close::QueryMalformed => 14,
-    }
-}
-
 fn closed_line(close: Close) -> Draft
     ensures { λ r. ⌜ Says r (line closedWord (decimal (closeNumber close) ∷ [])) LONGEST ⌝ }
 {
-    line_of_one(b"closed", close_number(close))
+    line_of_one(b"closed", close_number(close) as u16)
 }
 
 pub(crate) fn event_line(e: Event) -> Draft
