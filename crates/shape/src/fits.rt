@@ -1,7 +1,5 @@
 // Whether a state is in shape (row 9 of the table of refusals).
 use crate::find::find_from;
-use crate::slots::number;
-use crate::slots::slots_fit;
 use connection::sizes::AREA;
 use connection::sizes::QUERY;
 use connection::sizes::SLOTS;
@@ -10,6 +8,8 @@ use connection::state::Slot;
 use connection::state::Target;
 use occupancy::is_taken;
 use reader::Position;
+use slots::number;
+use slots::slots_fit;
 ghost use mathlib.Core.Path.{_≡_};
 ghost use mathlib.Core.List.{[]};
 ghost use lib.Dec.{leb};

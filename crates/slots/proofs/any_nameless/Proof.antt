@@ -3,10 +3,10 @@ use mathlib.Core.Bool.{_||_}
 use Prim.Native.Nat.{_-_}
 use borrow.Author.Needs.{needs}
 use Rattle.connection.specs.Sizes.{SLOTS}
-use Rattle.shape.specs.Quick.{anyOf, isNameless}
-use Rattle.shape.specs.QuickLaws.{any-next, any-done}
-use Rattle.shape.proofs.slots.any_nameless.Statement.{statement}
-use Rattle.shape.proofs.slots.any_nameless.Tie as tie
+use Rattle.slots.specs.Quick.{anyOf, isNameless}
+use Rattle.slots.specs.QuickLaws.{any-next, any-done}
+use Rattle.slots.proofs.any_nameless.Statement.{statement}
+use Rattle.slots.proofs.any_nameless.Tie as tie
 
 abbrev Inv-loop : tie.InvT-loop
 Inv-loop keys occupied any₀ i₀ any i = (any || anyOf (SLOTS - i) (isNameless keys occupied) i) ≡ anyOf SLOTS (isNameless keys occupied) 0

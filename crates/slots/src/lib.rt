@@ -9,7 +9,7 @@ ghost use Prim.Native.Nat.{ℕ, _+_, _<_};
 ghost use lib.ListN.{length, getD};
 ghost use Rattle.connection.specs.Sizes.{SLOTS};
 ghost use Rattle.connection.specs.Shape.{slotsFit};
-ghost use Rattle.shape.specs.Quick.{keyOf, isNameless, isLong, repeats, anyOf, KeysOf};
+ghost use Rattle.slots.specs.Quick.{keyOf, isNameless, isLong, repeats, anyOf, KeysOf};
 
 // The id of slot i, or 0 where it is free.
 fn key_of(ids: &[u16; 16], occupied: u16, i: usize) -> u16

@@ -2,7 +2,7 @@
 use Prim.Native.Nat.{ℕ, zero, suc, _+_, _-_, _≤_, _<_}
 use mathlib.Core.Path.{_≡_, refl, sym, ap, _∙_}
 use mathlib.Core.Bool.{Bool, true, false, not, _||_, or-true}
-use mathlib.Core.List.{List}
+use mathlib.Core.List.{List, []}
 use native.Mathlib.Omega.{arith}
 use lib.ListN.{getD}
 use lib.Dec.{eqb, ltb, leb}
@@ -15,8 +15,7 @@ use Rattle.connection.specs.Shape.{slotsFit, positionFits, inShape}
 use Rattle.connection.specs.Step.{openWith, noFrame}
 use Rattle.connection.specs.Laws.SlotsLaws.{Holds}
 use Rattle.connection.specs.Laws.ShapeLaws.{Tidy, Placed, shaped, in-shape, true-and, and-true}
-use Rattle.shape.specs.Fits.{tableOf}
-use Rattle.shape.specs.Quick.{anyOf, keyOf, KeysOf, isNameless, isLong, repeats}
+use Rattle.slots.specs.Quick.{anyOf, keyOf, KeysOf, isNameless, isLong, repeats}
 
 -- ---- none of some numbers
 none-of : (n : ℕ) (test : ℕ → Bool) (i : ℕ) → anyOf n test i ≡ false → (k : ℕ) → i ≤ k → k < i + n → test k ≡ false
@@ -69,7 +68,7 @@ not-again keys i none =
 -- ---- the slots' part of row 9 and what it says
 module _ (ids lengths : List ℕ) (occupied : ℕ) where
   abbrev slots : Table
-  slots = tableOf ids lengths occupied
+  slots = record { ids = ids; lengths = lengths; marks = []; occupied = occupied }
 
   fits-tidy : slotsFit SLOTS ids lengths occupied 0 ≡ true → Tidy slots
   unfolding inShape positionFits

@@ -10,7 +10,7 @@ use lib.Dec.{eqb}
 use borrow.Author.Tests.{eqb-true, eqb-false}
 use Rattle.wire.specs.Test.{byTest}
 use Rattle.connection.specs.Sizes.{SLOTS}
-use Rattle.shape.specs.Quick.{anyOf, keyOf, KeysOf}
+use Rattle.slots.specs.Quick.{anyOf, keyOf, KeysOf}
 
 -- ---- the loops
 -- a turn: what was found so far, or what is found from i on

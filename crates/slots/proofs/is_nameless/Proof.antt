@@ -1,6 +1,6 @@
 use borrow.Author.Needs.{needs}
-use Rattle.shape.proofs.slots.is_nameless.Statement.{statement}
-use Rattle.shape.proofs.slots.is_nameless.Tie as tie
+use Rattle.slots.proofs.is_nameless.Statement.{statement}
+use Rattle.slots.proofs.is_nameless.Tie as tie
 
 is-taken-requires : tie.Need-is-taken-requires
 is-taken-requires c κs = search needs

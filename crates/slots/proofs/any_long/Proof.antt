@@ -3,10 +3,10 @@ use mathlib.Core.Bool.{_||_}
 use Prim.Native.Nat.{_-_}
 use borrow.Author.Needs.{needs}
 use Rattle.connection.specs.Sizes.{SLOTS}
-use Rattle.shape.specs.Quick.{anyOf, isLong}
-use Rattle.shape.specs.QuickLaws.{any-next, any-done}
-use Rattle.shape.proofs.slots.any_long.Statement.{statement}
-use Rattle.shape.proofs.slots.any_long.Tie as tie
+use Rattle.slots.specs.Quick.{anyOf, isLong}
+use Rattle.slots.specs.QuickLaws.{any-next, any-done}
+use Rattle.slots.proofs.any_long.Statement.{statement}
+use Rattle.slots.proofs.any_long.Tie as tie
 
 abbrev Inv-loop : tie.InvT-loop
 Inv-loop lengths any₀ i₀ any i = (any || anyOf (SLOTS - i) (isLong lengths) i) ≡ anyOf SLOTS (isLong lengths) 0

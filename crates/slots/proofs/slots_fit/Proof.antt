@@ -2,10 +2,10 @@ use mathlib.Core.Path.{_≡_, sym, ap, _∙_}
 use mathlib.Core.Bool.{not, _||_}
 use Rattle.connection.specs.Sizes.{SLOTS}
 use Rattle.connection.specs.Shape.{slotsFit}
-use Rattle.shape.specs.QuickRow.{quick-row}
+use Rattle.slots.specs.QuickRow.{quick-row}
 use borrow.Author.Needs.{needs}
-use Rattle.shape.proofs.slots.slots_fit.Statement.{statement}
-use Rattle.shape.proofs.slots.slots_fit.Tie as tie
+use Rattle.slots.proofs.slots_fit.Statement.{statement}
+use Rattle.slots.proofs.slots_fit.Tie as tie
 
 keys-of-requires : tie.Need-keys-of-requires
 keys-of-requires c κs = search needs

@@ -3,10 +3,10 @@ use mathlib.Core.Bool.{_||_}
 use Prim.Native.Nat.{_-_}
 use borrow.Author.Needs.{needs}
 use Rattle.connection.specs.Sizes.{SLOTS}
-use Rattle.shape.specs.Quick.{anyOf, repeats}
-use Rattle.shape.specs.QuickLaws.{any-next, any-done}
-use Rattle.shape.proofs.slots.any_repeats.Statement.{statement}
-use Rattle.shape.proofs.slots.any_repeats.Tie as tie
+use Rattle.slots.specs.Quick.{anyOf, repeats}
+use Rattle.slots.specs.QuickLaws.{any-next, any-done}
+use Rattle.slots.proofs.any_repeats.Statement.{statement}
+use Rattle.slots.proofs.any_repeats.Tie as tie
 
 abbrev Inv-loop : tie.InvT-loop
 Inv-loop keys any₀ i₀ any i = (any || anyOf (SLOTS - i) (repeats keys) i) ≡ anyOf SLOTS (repeats keys) 0

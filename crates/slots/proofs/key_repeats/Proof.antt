@@ -1,8 +1,8 @@
 use mathlib.Core.Path.{refl}
-use Rattle.shape.specs.Quick.{repeats}
+use Rattle.slots.specs.Quick.{repeats}
 use borrow.Author.Needs.{needs}
-use Rattle.shape.proofs.slots.key_repeats.Statement.{statement}
-use Rattle.shape.proofs.slots.key_repeats.Tie as tie
+use Rattle.slots.proofs.key_repeats.Statement.{statement}
+use Rattle.slots.proofs.key_repeats.Tie as tie
 
 mul-key : tie.Need-mul-key
 mul-key c = search needs

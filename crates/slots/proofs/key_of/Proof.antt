@@ -1,6 +1,6 @@
 use borrow.Author.Needs.{needs}
-use Rattle.shape.proofs.slots.key_of.Statement.{statement}
-use Rattle.shape.proofs.slots.key_of.Tie as tie
+use Rattle.slots.proofs.key_of.Statement.{statement}
+use Rattle.slots.proofs.key_of.Tie as tie
 
 is-taken-requires : tie.Need-is-taken-requires
 is-taken-requires c κs = search needs

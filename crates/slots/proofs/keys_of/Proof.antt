@@ -3,10 +3,10 @@ use Prim.Native.Nat.{_+_, _-_}
 use lib.ListN.{length, set, length-set}
 use borrow.Author.Needs.{needs}
 use Rattle.connection.specs.Sizes.{SLOTS}
-use Rattle.shape.specs.Quick.{KeysOf}
-use Rattle.shape.specs.QuickLaws.{keys-none, keys-next, keys-all}
-use Rattle.shape.proofs.slots.keys_of.Statement.{statement}
-use Rattle.shape.proofs.slots.keys_of.Tie as tie
+use Rattle.slots.specs.Quick.{KeysOf}
+use Rattle.slots.specs.QuickLaws.{keys-none, keys-next, keys-all}
+use Rattle.slots.proofs.keys_of.Statement.{statement}
+use Rattle.slots.proofs.keys_of.Tie as tie
 
 abbrev Inv-loop : tie.InvT-loop
 Inv-loop ids occupied keys₀ i₀ keys i = (length keys ≡ 32) × KeysOf ids occupied i keys
