@@ -7,6 +7,7 @@ use connection::request::Turn;
 use record::names;
 ghost use mathlib.Core.Path.{_≡_};
 ghost use Rattle.connection.specs.Request.{withTurn, withLife, isSpent, afterParams, afterStdin, turnType, opened};
+ghost use Rattle.connection.specs.RequestCalls.{inParams};
 
 pub fn with_turn(m: Mark, t: Turn) -> Mark
     ensures { λ r. ⌜ r ≡ withTurn m t ⌝ }
@@ -98,5 +99,17 @@ pub fn open_request(id: u16, role: Role, keep: bool) -> Request
             err_used: false,
             err_ended: false,
         },
+    }
+}
+
+// PARAMS has not ended.
+pub fn in_params(turn: Turn) -> bool
+    ensures { λ r. ⌜ r ≡ inParams turn ⌝ }
+{
+    match turn {
+        Turn::Params => true,
+        Turn::Stdin => false,
+        Turn::Data => false,
+        Turn::Done => false,
     }
 }
