@@ -18,7 +18,7 @@ use Rattle.admit.specs.declared.Admitted.{Admitted}
 use Rattle.admit.specs.Admission.{Admission, admittedBy, callAdmission}
 use Rattle.stream_output.specs.declared.Said.{Said}
 use Rattle.stream_output.specs.Answer.{saidBy}
-use Rattle.stream_output.specs.Laws.{refusal-some}
+use Rattle.numbers.specs.Laws.{refusal-some}
 use Rattle.output.specs.Answer.{writtenBy}
 
 -- ---- a call

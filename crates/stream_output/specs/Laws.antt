@@ -6,7 +6,7 @@ use mathlib.Core.List.{List, [], _∷_}
 use native.Mathlib.Omega.{arith}
 use native.Mathlib.Nat.{zero-add}
 use lib.ListN.{length}
-use lib.Dec.{ltb, leb, eqb}
+use lib.Dec.{ltb, leb}
 use borrow.Author.Tests.{ltb-true, ltb-false, lt-leb, le-leb}
 use Rattle.wire.specs.Test.{if_then_else_, byTest}
 use Rattle.wire.specs.Buffer.{putAt}
@@ -21,18 +21,6 @@ use Rattle.connection.specs.Sizes.{CHUNK}
 use Rattle.connection.specs.Numbers.{outputType, refusalNumber}
 use Rattle.connection.specs.RequestCalls.{noOutput, isEnded, usesErr, outputRefusal, sayBytes, endBytes, saidOn, endedOn, writes, sayIn, endIn}
 use Rattle.stream_output.specs.Answer.{saidBy}
-
--- no refusal has the number 0
-pub refusal-some : (why : Refusal) → eqb (refusalNumber why) 0 ≡ false
-refusal-some Refusal.Closed = refl
-refusal-some Refusal.StoreSize = refl
-refusal-some Refusal.NotActive = refl
-refusal-some Refusal.NotReady = refl
-refusal-some Refusal.Ended = refl
-refusal-some Refusal.NoRoom = refl
-refusal-some Refusal.NoPair = refl
-refusal-some Refusal.TooLong = refl
-refusal-some Refusal.OutOfShape = refl
 
 -- ---- room
 -- n bytes fit from the start of a buffer exactly if they are not longer than it

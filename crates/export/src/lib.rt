@@ -1,0 +1,135 @@
+// The receiver linked from another language: a whole input is fed to a fresh connection, piece by piece, and all that
+// its steps tell comes back as one number, by which two receivers can be compared and a step's cost be measured.
+use connection::answer::Told;
+use connection::event::Event;
+use connection::state::Conn;
+use numbers::close_number;
+use numbers::fault_number;
+use numbers::refusal_number;
+use numbers::role_number;
+use numbers::status_number;
+use numbers::stream_type;
+use receive::start::start;
+use receive::step::step;
+ghost use mathlib.Core.Path.{_≡_};
+ghost use Prim.Native.Nat.{_≤_, _<_};
+ghost use Rattle.receive.specs.Answer.{stateOf, toldNumber, toldEvent};
+ghost use Rattle.connection.specs.Numbers.{eventOf};
+ghost use Rattle.export.specs.Digest.{flagNumber, packed, weight, toldWeight, mixed, nextEnd, fedBy, fedAll, digestBy, digest};
+
+fn flag(b: bool) -> u8
+    ensures { λ r. ⌜ r ≡ flagNumber b ⌝ }
+{
+    if b { 1 } else { 0 }
+}
+
+// A kind, an id, a small number and a length in one number.
+fn pack(kind: u8, id: u16, what: u8, n: u16) -> u64
+    ensures { λ r. ⌜ (r ≡ packed kind id what n) × (r < 281474976710656) ⌝ }
+{
+    kind as u64 + id as u64 * 256 + what as u64 * 16777216 + n as u64 * 4294967296
+}
+
+// The number of an event.
+fn event_weight(e: Event) -> u64
+    ensures { λ r. ⌜ (r ≡ weight (eventOf e)) × (r < 281474976710656) ⌝ }
+{
+    match e {
+        Event::Nothing => pack(0, 0, 0, 0),
+        Event::Open(id, role, keep) => pack(1, id, role_number(role), flag(keep) as u16),
+        Event::Ready(id, n) => pack(2, id, 0, n),
+        Event::Data(id, stream, n) => pack(3, id, stream_type(stream), (n % 65536) as u16),
+        Event::End(id, stream) => pack(4, id, stream_type(stream), 0),
+        Event::Abort(id) => pack(5, id, 0, 0),
+        Event::Refuse(id, status) => pack(6, id, status_number(status), 0),
+        Event::Fault(id, fault) => pack(7, id, fault_number(fault), 0),
+        Event::Query(conns, reqs, mpxs) => pack(
+            8,
+            flag(conns) as u16,
+            flag(reqs),
+            flag(mpxs) as u16,
+        ),
+        Event::Unknown(kind) => pack(9, 0, kind, 0),
+        Event::Closed(close) => pack(10, 0, close_number(close), 0),
+    }
+}
+
+fn told_weight(told: Told) -> u64
+    ensures { λ r. ⌜ (r ≡ toldWeight (toldNumber told) (toldEvent told)) × (r < 281474976710656) ⌝ }
+{
+    match told {
+        Told::Event(e) => event_weight(e),
+        Told::Refused(why) => pack(11, 0, refusal_number(why), 0),
+    }
+}
+
+// What was told, mixed into a digest.
+fn mix(sum: u64, told: Told) -> u64
+    requires { ⌜ sum < 72057594037927936 ⌝ }
+    ensures { λ r. ⌜ (r ≡ mixed sum (toldNumber told) (toldEvent told)) × (r < 72057594037927936) ⌝ }
+{
+    let x = told_weight(told);
+    (sum * 33 + x) % 72057594037927936
+}
+
+// Where the piece ends that the byte at place `at` lies in, and behind which `end` was the last.
+fn next_end(at: usize, end: usize, piece: usize, n: usize) -> usize
+    requires { ⌜ (at ≤ n) × (end ≤ n) ⌝ }
+    ensures { λ r. ⌜ (r ≡ nextEnd at end piece n) × (at ≤ r) × (r ≤ n) ⌝ }
+{
+    if at < end {
+        return end;
+    }
+    if piece < n - at {
+        return at + piece;
+    }
+    n
+}
+
+// A connection, and the digest of what its steps told.
+struct Fed {
+    conn: Conn,
+    sum: u64,
+}
+
+// Steps through an input in pieces of so many bytes, to its end or to the first step that reads nothing.
+fn feed_all(c: Conn, store: &mut [u8], gathered: &mut [u8; 512], input: &[u8], piece: usize) -> Fed
+    ensures { λ r. ⌜ fedBy r (now (gathered .exit)) (now (store .exit)) ≡ fedAll (stateOf c (now (gathered .entry))) (now (store .entry)) (now (input .entry)) piece ⌝ }
+{
+    let mut conn = c;
+    let mut sum: u64 = 0;
+    let mut at: usize = 0;
+    let mut end: usize = 0;
+    while at < input.len() {
+        end = next_end(at, end, piece, input.len());
+        let s = step(conn, store, gathered, &input[at..end]);
+        let used = s.used;
+        let told = s.told;
+        let next = s.conn;
+        conn = next;
+        if used == 0 {
+            return Fed {
+                conn: conn,
+                sum: sum,
+            };
+        }
+        sum = mix(sum, told);
+        at = at + used;
+    }
+    Fed {
+        conn: conn,
+        sum: sum,
+    }
+}
+
+// The digest of an input that a fresh connection is fed in pieces of `piece` bytes.
+#[no_mangle]
+pub extern "C" fn fastcgi_digest(store: &mut [u8], input: &[u8], piece: usize) -> u64
+    ensures { λ r. ⌜ digestBy r (now (store .exit)) ≡ digest (now (store .entry)) (now (input .entry)) piece ⌝ }
+{
+    let mut gathered = [0u8; 512];
+    let s = start(store, &mut gathered);
+    let c = s.conn;
+    let fed = feed_all(c, store, &mut gathered, input, piece);
+    fed.sum
+}

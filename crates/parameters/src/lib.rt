@@ -1,0 +1,145 @@
+// A request's parameters: a value by its name, a pair by its number.
+use admit::Admitted;
+use admit::admit_lent;
+use connection::answer::Refusal;
+use connection::request::Life;
+use connection::request::Mark;
+use connection::sizes::AREA;
+use connection::state::Conn;
+use marks::in_params;
+use pairs::list::Found;
+use pairs::list::first_named;
+use pairs::list::pair_number;
+use pairs::pair::Pair;
+ghost use mathlib.Core.Path.{_≡_};
+ghost use Rattle.connection.specs.Calls.{value, source, pairAtNumber};
+ghost use Rattle.connection.specs.RequestCalls.{isFaulted, onFound, FromStore, FromFallback};
+ghost use Rattle.pairs.specs.Pair.{valueOf};
+ghost use Rattle.pairs.specs.List.{firstNamed};
+ghost use Rattle.parameters.specs.Answer.{noListOf, listedBy, listing, sourceBy, numberedBy};
+
+// Where the list of the request that a call names begins and ends in the store, or why the call is refused.
+pub enum Listed {
+    At(usize, usize),
+    Refused(Refusal),
+}
+
+// Where value finds its answer (01: its sister call).
+pub enum Source {
+    Store,
+    Fallback,
+    Refused(Refusal),
+}
+
+// A pair, its places counted in the request's area.
+pub enum Numbered {
+    Pair(Pair),
+    Refused(Refusal),
+}
+
+// Row 4: PARAMS has not ended, or the request is faulted.
+fn no_list(m: Mark) -> bool
+    ensures { λ r. ⌜ r ≡ noListOf m ⌝ }
+{
+    let turn = m.turn;
+    let life = m.life;
+    if in_params(turn) {
+        return true;
+    }
+    is_faulted(life)
+}
+
+fn is_faulted(life: Life) -> bool
+    ensures { λ r. ⌜ r ≡ isFaulted life ⌝ }
+{
+    match life {
+        Life::Live => false,
+        Life::Faulted => true,
+        Life::Aborted => false,
+    }
+}
+
+// Rows 2, 9, 1, 3 and 4, and where the list lies.
+pub fn list_at(c: Conn, store: &[u8], id: u16) -> Listed
+    ensures { λ r. ⌜ listedBy r ≡ listing c (now (store .entry)) id ⌝ }
+{
+    let admitted = admit_lent(c, store, id);
+    match admitted {
+        Admitted::Refused(why) => Listed::Refused(why),
+        Admitted::At(i) => {
+            let t = c.table;
+            let mark = t.marks[i];
+            if no_list(mark) {
+                return Listed::Refused(Refusal::NotReady);
+            }
+            let a = i * AREA;
+            Listed::At(a, a + t.lengths[i] as usize)
+        }
+    }
+}
+
+// The first value of that name in a list, or the fallback.
+fn value_in<'a>(list: &'a [u8], name: &[u8], fallback: &'a [u8]) -> &'a [u8]
+    ensures { λ r. ⌜ now r ≡ onFound (firstNamed (now (list .entry)) (now (name .entry))) (valueOf (now (list .entry))) (now (fallback .entry)) ⌝ }
+{
+    let found = first_named(list, name);
+    let Found::At(p) = found else {
+        return fallback;
+    };
+    let a = p.value;
+    let e = a + p.value_len;
+    &list[a..e]
+}
+
+// The value of the first pair with that name, as a part of the store; the fallback where there is none, and where
+// the call is refused (2, 9, 1, 3, 4).
+pub fn value<'a>(c: Conn, store: &'a [u8], id: u16, name: &[u8], fallback: &'a [u8]) -> &'a [u8]
+    ensures { λ r. ⌜ now r ≡ value c (now (store .entry)) id (now (name .entry)) (now (fallback .entry)) ⌝ }
+{
+    let listed = list_at(c, store, id);
+    let Listed::At(a, e) = listed else {
+        return fallback;
+    };
+    value_in(&store[a..e], name, fallback)
+}
+
+// A pair found is the store's, also where its value is empty.
+fn source_of(found: Found) -> Source
+    ensures { λ r. ⌜ sourceBy r ≡ onFound found (λ p. FromStore) FromFallback ⌝ }
+{
+    match found {
+        Found::At(_) => Source::Store,
+        Found::Nothing => Source::Fallback,
+    }
+}
+
+// Where value finds its answer, or why it is refused.
+pub fn value_source(c: Conn, store: &[u8], id: u16, name: &[u8]) -> Source
+    ensures { λ r. ⌜ sourceBy r ≡ source c (now (store .entry)) id (now (name .entry)) ⌝ }
+{
+    let listed = list_at(c, store, id);
+    match listed {
+        Listed::Refused(why) => Source::Refused(why),
+        Listed::At(a, e) => {
+            let found = first_named(&store[a..e], name);
+            source_of(found)
+        }
+    }
+}
+
+// The pair of number k, counted from 0. Refusals 2, 9, 1, 3, 4, 7.
+pub fn pair_at(c: Conn, store: &[u8], id: u16, k: usize) -> Numbered
+    ensures { λ r. ⌜ numberedBy r ≡ pairAtNumber c (now (store .entry)) id k ⌝ }
+{
+    let listed = list_at(c, store, id);
+    match listed {
+        Listed::Refused(why) => Numbered::Refused(why),
+        Listed::At(a, e) => {
+            let found = pair_number(&store[a..e], k);
+            match found {
+                Found::At(p) => Numbered::Pair(p),
+                Found::Nothing => Numbered::Refused(Refusal::NoPair),
+            }
+        }
+    }
+}
