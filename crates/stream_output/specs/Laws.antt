@@ -20,6 +20,7 @@ use Rattle.connection.specs.declared.answer.Wrote.{Wrote as CodeWrote}
 use Rattle.connection.specs.Sizes.{CHUNK}
 use Rattle.connection.specs.Numbers.{outputType, refusalNumber}
 use Rattle.connection.specs.RequestCalls.{noOutput, isEnded, usesErr, outputRefusal, sayBytes, endBytes, saidOn, endedOn, writes, sayIn, endIn}
+use Rattle.numbers.specs.Laws.{refusal-some}
 use Rattle.stream_output.specs.Answer.{saidBy}
 
 -- ---- room

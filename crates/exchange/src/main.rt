@@ -1,0 +1,108 @@
+// A station's end of an exchange: what a web server sends comes on standard input, what the station answers goes to
+// standard output. Each request is asked for its reading once its parameters are there; the reading is written to the
+// request's STDOUT, and STDOUT is ended. Replies that events owe are written as they come.
+use connection::answer::Output;
+use connection::answer::Told;
+use connection::answer::Wrote;
+use connection::event::Event;
+use connection::state::Conn;
+use libc::STDIN_FILENO;
+use libc::STDOUT_FILENO;
+use output::end_output;
+use output::write_output;
+use parameters::value;
+use receive::start::start;
+use receive::step::step;
+use reply::reply;
+
+// Sends what a call wrote; a refused call wrote nothing.
+fn send(out: &[u8], wrote: Wrote) {
+    let start: usize = 0;
+    if let Wrote::Bytes(n) = wrote {
+        if n <= out.len() {
+            io::write_all(STDOUT_FILENO, &out[start..n]);
+        }
+    }
+}
+
+// Writes a request's reading back and ends its STDOUT. Where it sent none, that is said.
+fn answer(c: Conn, store: &[u8], id: u16, out: &mut [u8]) -> Conn {
+    let reading = value(c, store, id, b"READING", b"no reading");
+    let said = write_output(c, id, Output::Stdout, reading, out);
+    let wrote = said.wrote;
+    send(out, wrote);
+    let told = said.conn;
+    let ended = end_output(told, id, Output::Stdout, out);
+    let last = ended.wrote;
+    send(out, last);
+    ended.conn
+}
+
+// What the station does at an event.
+fn react(c: Conn, store: &[u8], e: Event, out: &mut [u8]) -> Conn {
+    let owed = reply(e, out);
+    send(out, owed);
+    if let Event::Ready(id, _) = e {
+        return answer(c, store, id, out);
+    }
+    c
+}
+
+// Steps through a piece, to its end or to a close.
+fn exchange_piece(
+    c: Conn,
+    store: &mut [u8],
+    gathered: &mut [u8; 512],
+    piece: &[u8],
+    out: &mut [u8],
+) -> Conn {
+    let mut conn = c;
+    let mut from: usize = 0;
+    while from < piece.len() {
+        let end = piece.len();
+        let s = step(conn, store, gathered, &piece[from..end]);
+        let used = s.used;
+        let told = s.told;
+        conn = s.conn;
+        if used == 0 {
+            return conn;
+        }
+        if piece.len() - from < used {
+            return conn;
+        }
+        let next = from + used;
+        if let Told::Event(e) = told {
+            conn = react(conn, store, e, out);
+        }
+        from = next;
+    }
+    conn
+}
+
+// A proved loop has to end, and nothing says that the input does: so it counts its turns down, from a number that no
+// run uses up.
+fn exchange(c: Conn, store: &mut [u8], gathered: &mut [u8; 512], out: &mut [u8]) -> Conn {
+    let mut conn = c;
+    let mut turns = u64::MAX;
+    while turns > 0 {
+        let mut piece = io::large_buffer();
+        let got = libc::read(STDIN_FILENO, &mut piece);
+        if got <= 0 {
+            return conn;
+        }
+        let n = io::count(got, &piece);
+        let start: usize = 0;
+        conn = exchange_piece(conn, store, gathered, &piece[start..n], out);
+        turns -= 1;
+    }
+    conn
+}
+
+fn main() {
+    let mut store = [0u8; 32768];
+    let mut gathered = [0u8; 512];
+    let mut out = io::large_buffer();
+    let s = start(&mut store, &mut gathered);
+    let c = s.conn;
+    exchange(c, &mut store, &mut gathered, &mut out);
+}
