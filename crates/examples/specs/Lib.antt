@@ -1,3 +1,4 @@
 pub mod Row
 pub mod Fed
 pub mod Cases
+pub mod CallCases
