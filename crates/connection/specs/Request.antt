@@ -6,7 +6,7 @@ use lib.ListN.{length, take}
 use Rattle.wire.specs.Test.{if_then_else_, _<?_, _≤?_, _=?_}
 use Rattle.wire.specs.Buffer.{copied, zeros}
 use Rattle.record.specs.Names.{BEGIN-REQUEST, ABORT-REQUEST, PARAMS, STDIN, DATA}
-use Rattle.pairs.specs.List.{wellFormed}
+use Rattle.lists.specs.List.{wellFormed}
 use Rattle.connection.specs.declared.request.Role.{Role}
 use Rattle.connection.specs.declared.request.Turn.{Turn}
 use Rattle.connection.specs.declared.request.Life.{Life}

@@ -9,9 +9,9 @@ use Rattle.record.specs.Names.{STDOUT, STDERR, END-REQUEST, REQUEST-COMPLETE}
 use Rattle.record.specs.Body.{endBodyBytes}
 use Rattle.writer.specs.Written.{recordBytes, streamBytes}
 use Rattle.pairs.specs.Pair.{valueOf}
-use Rattle.pairs.specs.List.{firstNamed, pairNumber}
+use Rattle.lists.specs.List.{firstNamed, pairNumber}
 use Rattle.pairs.specs.declared.pair.Pair.{Pair}
-use Rattle.pairs.specs.declared.list.Found.{Found}
+use Rattle.lists.specs.declared.Found.{Found}
 use Rattle.connection.specs.declared.request.Turn.{Turn}
 use Rattle.connection.specs.declared.request.Life.{Life}
 use Rattle.connection.specs.declared.request.Mark.{Mark}

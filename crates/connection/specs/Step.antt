@@ -13,8 +13,8 @@ use Rattle.reader.specs.Position.{betweenRecords, behindHeader, advanced}
 use Rattle.reader.specs.declared.Position.{Position}
 use Rattle.reader.specs.declared.Phase.{Phase}
 use Rattle.reader.specs.declared.Advanced.{Advanced}
-use Rattle.pairs.specs.List.{wellFormed, firstNamed}
-use Rattle.pairs.specs.declared.list.Found.{Found}
+use Rattle.lists.specs.List.{wellFormed, firstNamed}
+use Rattle.lists.specs.declared.Found.{Found}
 use Rattle.connection.specs.declared.request.Role.{Role}
 use Rattle.connection.specs.declared.request.Due.{Due}
 use Rattle.connection.specs.declared.state.Table.{Table}
@@ -33,6 +33,10 @@ use Rattle.connection.specs.Shape.{inShape}
 pub record State : Type 0 where
   pub conn : Conn
   pub gathered : List ℕ
+
+-- the state: the connection's value and the gathered bytes
+abbrev pub stateOf : Conn → List ℕ → State
+stateOf c gathered = record { conn = c; gathered = gathered }
 
 -- ---- frames
 abbrev pub noBody : List ℕ

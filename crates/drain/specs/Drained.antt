@@ -4,7 +4,7 @@ use mathlib.Core.List.{List}
 use lib.ListN.{length}
 use Rattle.connection.specs.Step.{State}
 use Rattle.connection.specs.Bytewise.{fed, leftOf, stepsOf}
-use Rattle.receive.specs.Answer.{stateOf}
+use Rattle.connection.specs.Step.{stateOf}
 use Rattle.drain.specs.declared.Drain.{Drain}
 
 pub record Drained : Type 0 where

@@ -13,7 +13,8 @@ use Rattle.connection.specs.declared.answer.Stepped.{Stepped as Step}
 use Rattle.connection.specs.Step.{State, Stepped, stays, stepRefusal, stepped}
 use Rattle.connection.specs.Bytewise.{Run, resting, single, _then-run_, fed, leftOf, stepsOf}
 use Rattle.connection.specs.Laws.Progress.{admitted-fits, step-refused, step-nothing, step-uses-some, step-uses-no-more}
-use Rattle.receive.specs.Answer.{stateOf, steppedBy}
+use Rattle.receive.specs.Answer.{steppedBy}
+use Rattle.connection.specs.Step.{stateOf}
 use Rattle.drain.specs.Drained.{Drained, drained}
 
 -- The rest of a piece of n bytes in at most k steps, behind so many steps.

@@ -2,7 +2,7 @@
 use connection::state::Conn;
 use receive::step::step;
 ghost use mathlib.Core.Path.{_≡_};
-ghost use Rattle.receive.specs.Answer.{stateOf};
+ghost use Rattle.connection.specs.Step.{stateOf};
 ghost use Rattle.drain.specs.Drained.{drainedBy, drained};
 
 // The connection behind a piece, the bytes of it that were used, and the steps that used them.

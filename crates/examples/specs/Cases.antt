@@ -12,7 +12,7 @@ use Rattle.record.specs.Body.{beginBodyOf}
 use Rattle.reader.specs.Position.{advanced, inHeader}
 use Rattle.pairs.specs.Length.{fourAt, lengthAt}
 use Rattle.pairs.specs.Pair.{pairAt}
-use Rattle.pairs.specs.List.{pairsIn, pairsFrom, endingOf, wellFormed}
+use Rattle.lists.specs.List.{pairsIn, pairsFrom, endingOf, wellFormed}
 use Rattle.connection.specs.Request.{withTurn, withLife, faulted, turned, paramsFault, paramsEnded, onParams, onInput, onLive, onHeader, opened}
 use Rattle.connection.specs.Slots.{requestAt, areaAt, putRequest, putArea, takeSlot, holdsId, findFrom}
 use Rattle.connection.specs.Shape.{idFits, slotsFit, positionFits, inShape}
@@ -21,7 +21,7 @@ use Rattle.connection.specs.Bytewise.{Note, fed}
 use Rattle.examples.specs.Fed.{told, lastOf, begin, empty, begins}
 use Rattle.pairs.specs.declared.length.Length.{Length}
 use Rattle.pairs.specs.declared.pair.Read.{Read}
-use Rattle.pairs.specs.declared.list.Ending.{Ending}
+use Rattle.lists.specs.declared.Ending.{Ending}
 use Rattle.connection.specs.Event.{Event}
 use Rattle.examples.specs.Row.{Row, _gives_, Holds}
 

@@ -11,9 +11,9 @@ use libc::STDOUT_FILENO;
 use output::end_output;
 use output::write_output;
 use parameters::value;
-use receive::start::start;
 use receive::step::step;
 use reply::reply;
+use starting::start;
 
 // Sends what a call wrote; a refused call wrote nothing.
 fn send(out: &[u8], wrote: Wrote) {

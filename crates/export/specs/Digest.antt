@@ -7,7 +7,7 @@ use Rattle.wire.specs.Test.{if_then_else_, _<?_, _≤?_, _=?_}
 use Rattle.wire.specs.Buffer.{zeros}
 use Rattle.connection.specs.Event.{Event}
 use Rattle.connection.specs.Step.{State, stepped, started}
-use Rattle.receive.specs.Answer.{stateOf}
+use Rattle.connection.specs.Step.{stateOf}
 use Rattle.export.specs.declared.Fed.{Fed as CodeFed}
 
 -- ---- a number for what a step tells: its kind, and its values

@@ -9,11 +9,12 @@ use numbers::refusal_number;
 use numbers::role_number;
 use numbers::status_number;
 use numbers::stream_type;
-use receive::start::start;
 use receive::step::step;
+use starting::start;
 ghost use mathlib.Core.Path.{_≡_};
 ghost use Prim.Native.Nat.{_≤_, _<_};
-ghost use Rattle.receive.specs.Answer.{stateOf, toldNumber, toldEvent};
+ghost use Rattle.receive.specs.Answer.{toldNumber, toldEvent};
+ghost use Rattle.connection.specs.Step.{stateOf};
 ghost use Rattle.connection.specs.Numbers.{eventOf};
 ghost use Rattle.export.specs.Digest.{flagNumber, packed, weight, toldWeight, mixed, nextEnd, fedBy, fedAll, digestBy, digest};
 

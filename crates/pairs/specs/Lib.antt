@@ -1,9 +1,6 @@
 pub mod Length
 pub mod Pair
 pub mod Name
-pub mod List
 pub mod PairLaws
 pub mod NameLaws
-pub mod ListLaws
 pub mod ReadBack
-pub mod ReadBackList

@@ -1,5 +1,4 @@
-// Name-value lists: lengths, pairs, and lookup by name or number. Nothing here knows of connections.
+// A name-value pair: lengths, names compared, a pair read at a cursor. Nothing here knows of connections.
 pub mod length;
-pub mod list;
 pub mod name;
 pub mod pair;

@@ -9,10 +9,10 @@ use lib.ListN.{length, length-take}
 use borrow.Author.Tests.{eqb-false, ne-eqb}
 use Rattle.wire.specs.Test.{if_then_else_, _=?_, byTest}
 use Rattle.pairs.specs.Pair.{valueOf}
-use Rattle.pairs.specs.List.{firstNamed, pairNumber}
-use Rattle.pairs.specs.ListLaws.{LiesIn, number-within}
+use Rattle.lists.specs.List.{firstNamed, pairNumber}
+use Rattle.lists.specs.ListLaws.{LiesIn, number-within}
 use Rattle.pairs.specs.declared.pair.Pair.{Pair}
-use Rattle.pairs.specs.declared.list.Found.{Found}
+use Rattle.lists.specs.declared.Found.{Found}
 use Rattle.connection.specs.declared.state.Conn.{Conn}
 use Rattle.connection.specs.Request.{listOf}
 use Rattle.connection.specs.Sizes.{STORE}
@@ -21,8 +21,8 @@ use Rattle.connection.specs.Shape.{inShape}
 use Rattle.connection.specs.Slots.{requestAt, heldAt, find, isFound}
 use Rattle.connection.specs.RequestCalls as Of
 use Rattle.connection.specs.Calls.{lentRefusal, slotOf, value, source, pairAtNumber}
-use Rattle.parameters.specs.Answer.{partOf, listing}
-use Rattle.parameters.specs.Laws.{first-in-none, refused-empty, value-listed, source-listed}
+use Rattle.listing.specs.Listing.{partOf, listing}
+use Rattle.listing.specs.Laws.{first-in-none, refused-empty, value-listed, source-listed}
 
 -- the request's list
 abbrev pub listIn : Conn → List ℕ → ℕ → List ℕ

@@ -1,28 +1,18 @@
 // A request's parameters: a value by its name, a pair by its number.
-use admit::Admitted;
-use admit::admit_lent;
 use connection::answer::Refusal;
-use connection::request::Life;
-use connection::request::Mark;
-use connection::sizes::AREA;
 use connection::state::Conn;
-use marks::in_params;
-use pairs::list::Found;
-use pairs::list::first_named;
-use pairs::list::pair_number;
+use listing::Listed;
+use listing::list_at;
+use lists::Found;
+use lists::first_named;
+use lists::pair_number;
 use pairs::pair::Pair;
 ghost use mathlib.Core.Path.{_≡_};
 ghost use Rattle.connection.specs.Calls.{value, source, pairAtNumber};
 ghost use Rattle.connection.specs.RequestCalls.{isFaulted, onFound, FromStore, FromFallback};
 ghost use Rattle.pairs.specs.Pair.{valueOf};
-ghost use Rattle.pairs.specs.List.{firstNamed};
-ghost use Rattle.parameters.specs.Answer.{noListOf, listedBy, listing, sourceBy, numberedBy};
-
-// Where the list of the request that a call names begins and ends in the store, or why the call is refused.
-pub enum Listed {
-    At(usize, usize),
-    Refused(Refusal),
-}
+ghost use Rattle.lists.specs.List.{firstNamed};
+ghost use Rattle.parameters.specs.Answer.{sourceBy, numberedBy};
 
 // Where value finds its answer (01: its sister call).
 pub enum Source {
@@ -35,47 +25,6 @@ pub enum Source {
 pub enum Numbered {
     Pair(Pair),
     Refused(Refusal),
-}
-
-// Row 4: PARAMS has not ended, or the request is faulted.
-fn no_list(m: Mark) -> bool
-    ensures { λ r. ⌜ r ≡ noListOf m ⌝ }
-{
-    let turn = m.turn;
-    let life = m.life;
-    if in_params(turn) {
-        return true;
-    }
-    is_faulted(life)
-}
-
-fn is_faulted(life: Life) -> bool
-    ensures { λ r. ⌜ r ≡ isFaulted life ⌝ }
-{
-    match life {
-        Life::Live => false,
-        Life::Faulted => true,
-        Life::Aborted => false,
-    }
-}
-
-// Rows 2, 9, 1, 3 and 4, and where the list lies.
-pub fn list_at(c: Conn, store: &[u8], id: u16) -> Listed
-    ensures { λ r. ⌜ listedBy r ≡ listing c (now (store .entry)) id ⌝ }
-{
-    let admitted = admit_lent(c, store, id);
-    match admitted {
-        Admitted::Refused(why) => Listed::Refused(why),
-        Admitted::At(i) => {
-            let t = c.table;
-            let mark = t.marks[i];
-            if no_list(mark) {
-                return Listed::Refused(Refusal::NotReady);
-            }
-            let a = i * AREA;
-            Listed::At(a, a + t.lengths[i] as usize)
-        }
-    }
 }
 
 // The first value of that name in a list, or the fallback.

@@ -1,27 +1,11 @@
--- What start and step answer, read in the scope's numbers and values.
+-- What step answers, read in the scope's numbers and values.
 use Prim.Native.Nat.{ℕ}
 use mathlib.Core.List.{List}
-use Rattle.connection.specs.declared.state.Conn.{Conn}
-use Rattle.connection.specs.declared.answer.Start.{Start}
-use Rattle.connection.specs.declared.answer.Started.{Started as Began}
 use Rattle.connection.specs.declared.answer.Told.{Told}
 use Rattle.connection.specs.declared.answer.Stepped.{Stepped as Step}
 use Rattle.connection.specs.Event.{Event}
 use Rattle.connection.specs.Numbers.{eventOf, refusalNumber}
-use Rattle.connection.specs.Step.{State, Stepped, Started}
-
--- the state: the connection's value and the gathered bytes
-abbrev pub stateOf : Conn → List ℕ → State
-stateOf c gathered = record { conn = c; gathered = gathered }
-
--- a start's refusal, 0 for none
-abbrev pub startNumber : Start → ℕ
-startNumber Start.Open = 0
-startNumber (Start.Refused r) = refusalNumber r
-
-abbrev pub startedBy : Began → List ℕ → List ℕ → Started
-startedBy r gathered store =
-    record { refusal = startNumber (r .start); state = stateOf (r .conn) gathered; store = store }
+use Rattle.connection.specs.Step.{stateOf, Stepped}
 
 -- a step's refusal, 0 for none, and its event
 abbrev pub toldNumber : Told → ℕ

@@ -14,7 +14,8 @@ use Rattle.connection.specs.Moved.{storeAfter}
 use Rattle.connection.specs.Step.{Stepped, closedConn}
 use Rattle.receive.specs.declared.step.Leave.{Leave}
 use Rattle.receive.specs.declared.step.Outcome.{Outcome}
-use Rattle.receive.specs.Answer.{stateOf, toldNumber, toldEvent}
+use Rattle.receive.specs.Answer.{toldNumber, toldEvent}
+use Rattle.connection.specs.Step.{stateOf}
 
 -- rows 2, 9 and 1 by the store's size, the state's shape and the open mark; then the empty piece
 unfoldable pub leaveOf : ℕ → Bool → Bool → ℕ → Leave

@@ -20,7 +20,7 @@ use Rattle.connection.specs.Shape.{inShape}
 use Rattle.connection.specs.Moved.{connAfter}
 use Rattle.connection.specs.Step.{Stepped, stays, advances, stepRefusal, stepped}
 use Rattle.receive.specs.declared.step.Leave.{Leave}
-use Rattle.receive.specs.Answer.{stateOf}
+use Rattle.connection.specs.Step.{stateOf}
 use Rattle.receive.specs.Outcome.{leaveOf, changed}
 
 -- of an open connection a change leaves what the rules say

@@ -1,3 +1,2 @@
-// The two calls that read a connection: start, and one step.
-pub mod start;
+// The call that reads a connection: one step.
 pub mod step;

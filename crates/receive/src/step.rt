@@ -1,5 +1,4 @@
 // One step.
-use crate::start::closed;
 use connection::answer::Refusal;
 use connection::answer::Stepped;
 use connection::answer::Told;
@@ -12,11 +11,12 @@ use connection::state::Frame;
 use connection::state::Table;
 use feed::feed;
 use judge::judge;
-use judge::quiet;
+use management::quiet;
 use reader::Phase;
 use reader::Position;
 use reader::advance;
 use shape::fits::in_shape;
+use starting::closed;
 use table::put_request;
 use table::take_request;
 use wire::clear;
@@ -33,7 +33,8 @@ ghost use Rattle.connection.specs.Laws.ShapeLaws.{Aimed, Placed};
 ghost use Rattle.connection.specs.Step.{moved, onPhase, openWith, advances, stepped};
 ghost use Rattle.reader.specs.Position.{advanced};
 ghost use Rattle.connection.specs.Moved.{openState, leftBy, connAfter, storeAfter};
-ghost use Rattle.receive.specs.Answer.{stateOf, steppedBy};
+ghost use Rattle.receive.specs.Answer.{steppedBy};
+ghost use Rattle.connection.specs.Step.{stateOf};
 ghost use Rattle.receive.specs.declared.step.Leave.{Leave};
 ghost use Rattle.receive.specs.Outcome.{leaveOf, connOf, outcomeOf};
 

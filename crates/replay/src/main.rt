@@ -8,8 +8,8 @@ use libc::STDOUT_FILENO;
 use lines::LONGEST;
 use lines::write_byte_line;
 use lines::write_line;
-use receive::start::start;
 use receive::step::step;
+use starting::start;
 
 // Writes out what the buffer holds, and answers where the next line goes: at its start.
 fn flush(out: &[u8], at: usize) -> usize {

@@ -20,8 +20,8 @@ use Rattle.writer.specs.WrittenLaws.{record-length}
 use Rattle.writer.specs.StreamLaws.{record-long}
 use Rattle.writer.specs.ReadBack.{recordOf, record-read-back, end-record-read-back, unknown-record-read-back}
 use Rattle.pairs.specs.Pair.{pairBytes}
-use Rattle.pairs.specs.List.{wellFormed}
-use Rattle.pairs.specs.ReadBackList.{Named, Writable, written, contents, written-contents}
+use Rattle.lists.specs.List.{wellFormed}
+use Rattle.lists.specs.ReadBackList.{Named, Writable, written, contents, written-contents}
 use Rattle.connection.specs.declared.request.Request.{Request}
 use Rattle.connection.specs.declared.event.Status.{Status}
 use Rattle.connection.specs.declared.event.Event.{Event as CodeEvent}

@@ -8,18 +8,18 @@ use connection::request::Life;
 use connection::request::Request;
 use connection::request::Turn;
 use connection::sizes::AREA;
+use lists::well_formed;
 use marks::after_params;
 use marks::after_stdin;
 use marks::with_life;
 use marks::with_turn;
-use pairs::list::well_formed;
 use wire::clear;
 use wire::copy_into;
 use wire::least;
 ghost use mathlib.Core.Path.{_≡_};
 ghost use Rattle.connection.specs.Numbers.{eventOf, faultNumber};
 ghost use Rattle.connection.specs.Request.{listOf, faulted, aborted, turned, paramsEnded, onParams, onStdin, onData, grown};
-ghost use Rattle.pairs.specs.List.{wellFormed};
+ghost use Rattle.lists.specs.List.{wellFormed};
 ghost use Rattle.streams.specs.Answer.{held, ruledBy};
 
 // What a header does to its request: the request afterwards, where its content goes, and the event.

@@ -4,9 +4,9 @@ use Prim.Native.Nat.{ℕ, zero, suc, _+_}
 use mathlib.Core.List.{List}
 use denote.Ref.{RefT, now}
 use Rattle.pairs.specs.Pair.{pairAt}
-use Rattle.pairs.specs.List.{onRead}
+use Rattle.lists.specs.List.{onRead}
 use Rattle.pairs.specs.declared.pair.Read.{Read}
-use Rattle.pairs.specs.declared.list.Found.{Found}
+use Rattle.lists.specs.declared.Found.{Found}
 use Rattle.walk.specs.declared.Walk.{Walk}
 
 -- A slice that is the part of another from byte k on: the same block of memory, k bytes further on.

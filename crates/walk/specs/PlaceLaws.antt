@@ -9,15 +9,15 @@ use denote.Ref.{now}
 use Rattle.wire.specs.Test.{if_then_else_, _=?_}
 use Rattle.pairs.specs.Pair.{pairAt}
 use Rattle.pairs.specs.PairLaws.{pair-in, pair-end}
-use Rattle.pairs.specs.List.{onRead, andPairs, pairsFrom, numberIn, pairNumber}
-use Rattle.pairs.specs.ListLaws.{ended, pairs-step, number-next}
+use Rattle.lists.specs.List.{onRead, andPairs, pairsFrom, numberIn, pairNumber}
+use Rattle.lists.specs.ListLaws.{ended, pairs-step, number-next}
 use Rattle.pairs.specs.declared.pair.Pair.{Pair}
 use Rattle.pairs.specs.declared.pair.Read.{Read}
-use Rattle.pairs.specs.declared.list.Found.{Found}
+use Rattle.lists.specs.declared.Found.{Found}
 use Rattle.connection.specs.declared.state.Conn.{Conn}
 use Rattle.connection.specs.RequestCalls as Of
 use Rattle.connection.specs.Calls.{pairAtNumber, walk}
-use Rattle.parameters.specs.Laws.{refused-empty, pair-listed, walk-listed}
+use Rattle.listing.specs.Laws.{refused-empty, pair-listed, walk-listed}
 use Rattle.walk.specs.Place.{pastAt, placeAfter, foundBy, pastPair, pastPairs}
 use Rattle.walk.specs.declared.Walk.{Walk}
 

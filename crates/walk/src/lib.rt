@@ -2,15 +2,15 @@
 // reference, so its functions are thin, and their proofs follow the code statement by statement; the work is done
 // by functions on the list and the place.
 use connection::state::Conn;
+use listing::Listed;
+use listing::list_at;
 use numbers::refusal_number;
 use pairs::pair::Read;
 use pairs::pair::read_pair;
-use parameters::Listed;
-use parameters::list_at;
 ghost use mathlib.Core.Path.{_≡_};
 ghost use Rattle.pairs.specs.Pair.{pairAt};
 ghost use Rattle.connection.specs.Calls.{walk};
-ghost use Rattle.parameters.specs.Answer.{listing};
+ghost use Rattle.listing.specs.Listing.{listing};
 ghost use Rattle.walk.specs.Place.{PartAt, pastAt, pastPair};
 
 // The list, a place in it, and the number of the refusal, 0 for none. A refused walk holds no bytes.

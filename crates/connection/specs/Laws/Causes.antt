@@ -16,7 +16,7 @@ use Rattle.record.specs.declared.header.Header.{Header}
 use Rattle.reader.specs.Position.{advanced}
 use Rattle.reader.specs.declared.Position.{Position}
 use Rattle.reader.specs.declared.Phase.{Phase}
-use Rattle.pairs.specs.List.{wellFormed}
+use Rattle.lists.specs.List.{wellFormed}
 use Rattle.connection.specs.declared.request.Role.{Role}
 use Rattle.connection.specs.declared.state.Slot.{Slot}
 use Rattle.connection.specs.declared.state.Target.{Target}

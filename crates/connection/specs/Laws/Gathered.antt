@@ -18,7 +18,7 @@ use Rattle.record.specs.declared.body.BeginBody.{BeginBody}
 use Rattle.reader.specs.Position.{heldAnd}
 use Rattle.reader.specs.declared.Position.{Position}
 use Rattle.reader.specs.declared.Advanced.{Advanced}
-use Rattle.pairs.specs.List.{wellFormed}
+use Rattle.lists.specs.List.{wellFormed}
 use Rattle.connection.specs.declared.request.Role.{Role}
 use Rattle.connection.specs.declared.request.Due.{Due}
 use Rattle.connection.specs.declared.state.Slot.{Slot}

@@ -17,7 +17,7 @@ use Rattle.reader.specs.Position.{advanced}
 use Rattle.reader.specs.PositionLaws.{stays-proper}
 use Rattle.reader.specs.declared.Position.{Position}
 use Rattle.reader.specs.declared.Phase.{Phase}
-use Rattle.pairs.specs.List.{wellFormed}
+use Rattle.lists.specs.List.{wellFormed}
 use Rattle.connection.specs.declared.request.Role.{Role}
 use Rattle.connection.specs.declared.request.Turn.{Turn}
 use Rattle.connection.specs.declared.request.Due.{Due}

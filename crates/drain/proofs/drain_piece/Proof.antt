@@ -3,7 +3,7 @@ use Prim.Native.Nat.{_-_, _≤_}
 use native.Mathlib.Omega.{arith}
 use borrow.Author.Needs.{needs}
 use lib.ListN.{length}
-use Rattle.receive.specs.Answer.{stateOf}
+use Rattle.connection.specs.Step.{stateOf}
 use Rattle.drain.specs.Drained.{drained}
 use Rattle.drain.specs.Laws.{restOf, from-start, at-end, Turn, turned}
 use Rattle.drain.proofs.drain_piece.Statement.{statement}

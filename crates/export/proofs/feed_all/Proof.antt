@@ -3,7 +3,8 @@ use Prim.Native.Nat.{_+_, _-_, _≤_, _<_}
 use native.Mathlib.Omega.{arith}
 use borrow.Author.Needs.{needs}
 use lib.ListN.{length}
-use Rattle.receive.specs.Answer.{stateOf, steppedBy}
+use Rattle.receive.specs.Answer.{steppedBy}
+use Rattle.connection.specs.Step.{stateOf}
 use Rattle.export.specs.Digest.{fedAll}
 use Rattle.export.specs.Laws.{restOf, from-start, at-end, Turn, turn}
 use Rattle.export.proofs.feed_all.Statement.{statement}

@@ -2,7 +2,7 @@ use Prim.Native.Nat.{_+_, _-_}
 use native.Mathlib.Omega.{arith}
 use mathlib.Core.Path.{_≡_, sym, _∙_}
 use denote.Ref.{now}
-use Rattle.pairs.specs.ListLaws.{LiesIn, first-within}
+use Rattle.lists.specs.ListLaws.{LiesIn, first-within}
 use borrow.Author.Needs.{needs}
 use Rattle.parameters.proofs.value_in.Statement.{statement}
 use Rattle.parameters.proofs.value_in.Tie as tie

@@ -1,8 +1,8 @@
 use native.Mathlib.Omega.{arith}
 use mathlib.Core.Path.{sym, ap, subst, _∙_}
 use denote.Ref.{now}
-use Rattle.parameters.specs.Answer.{listedBy}
-use Rattle.parameters.specs.Laws.{Within, listing-within, source-listed}
+use Rattle.listing.specs.Listing.{listedBy}
+use Rattle.listing.specs.Laws.{Within, listing-within, source-listed}
 use Rattle.numbers.specs.Laws.{refusal-some}
 use borrow.Author.Needs.{needs}
 use Rattle.parameters.proofs.value_source.Statement.{statement}

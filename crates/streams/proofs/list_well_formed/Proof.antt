@@ -1,5 +1,5 @@
 use mathlib.Core.Path.{_∙_, ap}
-use Rattle.pairs.specs.List.{wellFormed}
+use Rattle.lists.specs.List.{wellFormed}
 use Rattle.streams.specs.Laws.{list-part}
 use borrow.Author.Needs.{needs}
 use Rattle.streams.proofs.list_well_formed.Statement.{statement}

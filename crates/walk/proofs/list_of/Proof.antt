@@ -2,8 +2,8 @@ use native.Mathlib.Omega.{arith}
 use native.Mathlib.Nat.{zero-add}
 use mathlib.Core.Path.{refl, sym, ap, subst, _∙_}
 use denote.Ref.{now}
-use Rattle.parameters.specs.Answer.{listedBy}
-use Rattle.parameters.specs.Laws.{Within, listing-within, walk-listed}
+use Rattle.listing.specs.Listing.{listedBy}
+use Rattle.listing.specs.Laws.{Within, listing-within, walk-listed}
 use borrow.Author.Needs.{needs}
 use Rattle.walk.proofs.list_of.Statement.{statement}
 use Rattle.walk.proofs.list_of.Tie as tie

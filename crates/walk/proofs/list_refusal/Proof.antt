@@ -1,4 +1,4 @@
-use Rattle.parameters.specs.Laws.{walk-listed}
+use Rattle.listing.specs.Laws.{walk-listed}
 use borrow.Author.Needs.{needs}
 use Rattle.walk.proofs.list_refusal.Statement.{statement}
 use Rattle.walk.proofs.list_refusal.Tie as tie

@@ -44,7 +44,7 @@ use Rattle.connection.specs.declared.state.Conn.{Conn}
 use Rattle.connection.specs.Calls.{walk}
 use Rattle.connection.proofs.state.Conn as K
 use Rattle.connection.proofs.state.Conn.Laws as K′
-use Rattle.parameters.specs.Answer.{listing}
+use Rattle.listing.specs.Listing.{listing}
 use Rattle.walk.specs.Place.{PartAt}
 use Rattle.walk.specs.declared.Walk.{Walk}
 use Rattle.walk.proofs.Held.{Decl, laws, mach}

@@ -6,7 +6,7 @@ use Rattle.connection.specs.Shape.{inShape}
 use Rattle.connection.specs.Step.{advances}
 use Rattle.receive.specs.declared.step.Leave.{Leave}
 use Rattle.receive.specs.declared.step.Outcome.{Outcome}
-use Rattle.receive.specs.Answer.{stateOf}
+use Rattle.connection.specs.Step.{stateOf}
 use Rattle.receive.specs.Outcome.{connOf, outcomeOf}
 use Rattle.receive.specs.OutcomeLaws.{leave-given, byLeave, by-leave}
 use borrow.Author.Needs.{needs}
