@@ -4,7 +4,7 @@ use mathlib.Core.Bool.{true, false}
 use mathlib.Core.List.{[], _∷_, flatten}
 use lib.ListN.{length}
 use Rattle.connection.specs.Event.{Event}
-use Rattle.lines.specs.Line.{LONGEST, decimalIn, decimal, hexDigit, eventLine, byteLine, eventLines}
+use Rattle.draft.specs.Line.{LONGEST, decimalIn, decimal, hexDigit, eventLine, byteLine, eventLines}
 
 -- open 65535 authorizer keep
 opened : eventLine (Event.Open 65535 2 true) ≡ 111 ∷ 112 ∷ 101 ∷ 110 ∷ 32 ∷ 54 ∷ 53 ∷ 53 ∷ 51 ∷ 53 ∷ 32 ∷ 97 ∷ 117 ∷ 116 ∷ 104 ∷ 111 ∷ 114 ∷ 105 ∷ 122 ∷ 101 ∷ 114 ∷ 32 ∷ 107 ∷ 101 ∷ 101 ∷ 112 ∷ 10 ∷ []

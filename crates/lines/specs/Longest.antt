@@ -11,9 +11,9 @@ use Rattle.wire.specs.Buffer.{putAt}
 use Rattle.writer.specs.Written.{Placed}
 use Rattle.record.specs.Names.{RESPONDER, AUTHORIZER, STDIN}
 use Rattle.connection.specs.Event.{Event}
-use Rattle.lines.specs.Words.{openWord, readyWord, byteWord, endWord, abortWord, refuseWord, faultWord, queryWord, unknownWord, closedWord}
-use Rattle.lines.specs.Line.{LONGEST, decimal, hex, flag, roleWord, streamWord, keptWord, line, eventLine, byteLine, linePlaced}
-use Rattle.lines.specs.LineLaws.{decimal-short}
+use Rattle.draft.specs.Words.{openWord, readyWord, byteWord, endWord, abortWord, refuseWord, faultWord, queryWord, unknownWord, closedWord}
+use Rattle.draft.specs.Line.{LONGEST, decimal, hex, flag, roleWord, streamWord, keptWord, line, eventLine, byteLine, linePlaced}
+use Rattle.draft.specs.LineLaws.{decimal-short}
 
 -- The numbers of an event that its line has in decimal fit in sixteen bits.
 abbrev pub NumbersFit : Event → Type 0

@@ -1,19 +1,15 @@
 // The text of events: a line for an event, and a line for a data byte.
-mod draft;
 mod text;
 
-use crate::draft::Draft;
 use connection::event::Event;
 use connection::event::Stream;
+use draft::Draft;
 use wire::copy_into;
 ghost use mathlib.Core.Path.{_≡_};
 ghost use Prim.Native.Nat.{_≤_};
 ghost use Rattle.connection.specs.Numbers.{streamType, eventOf};
-ghost use Rattle.lines.specs.Line.{LONGEST, eventLine, byteLine, linePlaced};
-ghost use Rattle.lines.specs.Draft.{textOf};
-
-// The most bytes of a line.
-pub const LONGEST: usize = 27;
+ghost use Rattle.draft.specs.Line.{LONGEST, eventLine, byteLine, linePlaced};
+ghost use Rattle.draft.specs.Draft.{textOf};
 
 // Puts text into out at place `at`, if there is room for all of it.
 fn put_text(out: &mut [u8], at: usize, text: &[u8]) -> usize

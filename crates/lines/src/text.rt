@@ -1,20 +1,20 @@
 // The lines of events, made in a draft.
-use crate::draft::Draft;
-use crate::draft::add;
-use crate::draft::add_hex;
-use crate::draft::add_kept;
-use crate::draft::add_number;
-use crate::draft::add_role;
-use crate::draft::add_stream;
-use crate::draft::begin;
-use crate::draft::blank;
-use crate::draft::finish;
 use connection::event::Close;
 use connection::event::Event;
 use connection::event::Fault;
 use connection::event::Status;
 use connection::event::Stream;
 use connection::request::Role;
+use draft::Draft;
+use draft::add;
+use draft::add_hex;
+use draft::add_kept;
+use draft::add_number;
+use draft::add_role;
+use draft::add_stream;
+use draft::begin;
+use draft::blank;
+use draft::finish;
 use numbers::close_number;
 use numbers::fault_number;
 use numbers::status_number;
@@ -23,9 +23,9 @@ ghost use mathlib.Core.List.{[], _∷_};
 ghost use Prim.Native.Nat.{_≤_};
 ghost use lib.ListN.{length};
 ghost use Rattle.connection.specs.Numbers.{roleNumber, streamType, statusNumber, faultNumber, closeNumber, eventOf};
-ghost use Rattle.lines.specs.Line.{LONGEST, decimal, flag, roleWord, streamWord, keptWord, line, eventLine, byteLine};
-ghost use Rattle.lines.specs.Words.{openWord, readyWord, endWord, abortWord, refuseWord, faultWord, queryWord, unknownWord, closedWord};
-ghost use Rattle.lines.specs.Draft.{Says};
+ghost use Rattle.draft.specs.Line.{LONGEST, decimal, flag, roleWord, streamWord, keptWord, line, eventLine, byteLine};
+ghost use Rattle.draft.specs.Words.{openWord, readyWord, endWord, abortWord, refuseWord, faultWord, queryWord, unknownWord, closedWord};
+ghost use Rattle.draft.specs.Draft.{Says};
 
 // A line of a word and one number.
 fn line_of_one(word: &[u8], a: u16) -> Draft

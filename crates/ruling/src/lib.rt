@@ -4,18 +4,18 @@ use connection::event::Fault;
 use connection::request::Due;
 use connection::request::Request;
 use connection::request::Turn;
+use faults::Ruling;
+use faults::abort;
+use faults::fault;
 use marks::is_spent;
 use marks::turn_type;
 use record::names;
-use streams::Ruling;
-use streams::abort;
-use streams::fault;
 use streams::on_data;
 use streams::on_params;
 use streams::on_stdin;
 ghost use mathlib.Core.Path.{_≡_};
 ghost use Rattle.connection.specs.Request.{inTurn, isInput, onInput, onLive, onHeader};
-ghost use Rattle.streams.specs.Answer.{held, ruledBy};
+ghost use Rattle.faults.specs.Answer.{held, ruledBy};
 
 // PARAMS, STDIN or DATA.
 fn is_input(kind: u8) -> bool

@@ -1,87 +1,24 @@
-// What a record of an input stream, a fault or an abort does to one request. Each function is lent the request and its own
+// What a record of an input stream does to one request. Each function is lent the request and its own
 // area, and sees no other.
 use connection::event::Event;
 use connection::event::Fault;
 use connection::event::Stream;
 use connection::request::Due;
-use connection::request::Life;
 use connection::request::Request;
 use connection::request::Turn;
 use connection::sizes::AREA;
+use faults::Ruling;
+use faults::end_turn;
+use faults::fault;
 use lists::well_formed;
 use marks::after_params;
 use marks::after_stdin;
-use marks::with_life;
-use marks::with_turn;
-use wire::clear;
 use wire::copy_into;
 use wire::least;
 ghost use mathlib.Core.Path.{_≡_};
-ghost use Rattle.connection.specs.Numbers.{eventOf, faultNumber};
-ghost use Rattle.connection.specs.Request.{listOf, faulted, aborted, turned, paramsEnded, onParams, onStdin, onData, grown};
+ghost use Rattle.connection.specs.Request.{listOf, paramsEnded, onParams, onStdin, onData, grown};
 ghost use Rattle.lists.specs.List.{wellFormed};
-ghost use Rattle.streams.specs.Answer.{held, ruledBy};
-
-// What a header does to its request: the request afterwards, where its content goes, and the event.
-pub struct Ruling {
-    pub request: Request,
-    pub due: Due,
-    pub event: Event,
-}
-
-// A fault zeroes the area and spends the request.
-pub fn fault(r: Request, area: &mut [u8], f: Fault) -> Ruling
-    ensures { λ x. ⌜ ruledBy x (now (area .exit)) ≡ faulted (held r (now (area .entry))) (faultNumber f) ⌝ }
-{
-    clear(area);
-    let id = r.id;
-    let old = r.mark;
-    let mark = with_life(old, Life::Faulted);
-    Ruling {
-        request: Request {
-            id: id,
-            length: 0,
-            mark: mark,
-        },
-        due: Due::Skip,
-        event: Event::Fault(id, f),
-    }
-}
-
-// An abort spends the request; its area stays.
-pub fn abort(r: Request, area: &mut [u8]) -> Ruling
-    ensures { λ x. ⌜ ruledBy x (now (area .exit)) ≡ aborted (held r (now (area .entry))) ⌝ }
-{
-    let id = r.id;
-    let old = r.mark;
-    let mark = with_life(old, Life::Aborted);
-    Ruling {
-        request: Request {
-            id: id,
-            length: r.length,
-            mark: mark,
-        },
-        due: Due::Skip,
-        event: Event::Abort(id),
-    }
-}
-
-// A stream ends: the turn moves on.
-fn end_turn(r: Request, area: &mut [u8], t: Turn, e: Event) -> Ruling
-    ensures { λ x. ⌜ ruledBy x (now (area .exit)) ≡ turned (held r (now (area .entry))) t (eventOf e) ⌝ }
-{
-    let old = r.mark;
-    let mark = with_turn(old, t);
-    Ruling {
-        request: Request {
-            id: r.id,
-            length: r.length,
-            mark: mark,
-        },
-        due: Due::Skip,
-        event: e,
-    }
-}
+ghost use Rattle.faults.specs.Answer.{held, ruledBy};
 
 // The list of a request is well formed.
 fn list_well_formed(r: Request, area: &[u8]) -> bool

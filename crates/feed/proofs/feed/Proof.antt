@@ -1,13 +1,9 @@
-use mathlib.Core.Path.{_≡_, refl, sym, ap, ap₂, subst, _∙_}
-use Prim.Native.Nat.{ℕ, _≤_, _<_}
-use mathlib.Core.List.{List}
+use mathlib.Core.Path.{refl, sym, ap, _∙_}
+use Prim.Native.Nat.{_<_}
 use native.Mathlib.Omega.{arith}
-use lib.ListN.{length}
 use Rattle.connection.specs.declared.state.Target.{Target}
-use Rattle.connection.specs.Sizes.{SLOTS, QUERY}
+use Rattle.connection.specs.Sizes.{SLOTS}
 use Rattle.connection.specs.Slots.{requestAt}
-use Rattle.connection.specs.Laws.SlotsLaws.{put-same, area-put-same}
-use Rattle.connection.specs.Laws.ShapeLaws.{Aimed}
 use Rattle.connection.specs.Laws.PartLaws.{part-lent, part-back}
 use Rattle.connection.specs.Step.{onTarget}
 use Rattle.feed.specs.Laws.{aimed-at, stdin-passes, data-passes}

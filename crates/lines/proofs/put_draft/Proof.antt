@@ -1,7 +1,7 @@
 use native.Mathlib.Omega.{arith}
 use mathlib.Core.Path.{_≡_}
 use lib.ListN.{length, length-take}
-use Rattle.lines.specs.Line.{LONGEST}
+use Rattle.draft.specs.Line.{LONGEST}
 use borrow.Author.Needs.{needs}
 use Rattle.lines.proofs.put_draft.Statement.{statement}
 use Rattle.lines.proofs.put_draft.Tie as tie

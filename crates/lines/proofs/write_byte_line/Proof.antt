@@ -1,5 +1,5 @@
 use mathlib.Core.Path.{ap, _∙_}
-use Rattle.lines.specs.Line.{linePlaced}
+use Rattle.draft.specs.Line.{linePlaced}
 use borrow.Author.Needs.{needs}
 use Rattle.lines.proofs.write_byte_line.Statement.{statement}
 use Rattle.lines.proofs.write_byte_line.Tie as tie

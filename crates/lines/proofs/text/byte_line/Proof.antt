@@ -1,5 +1,5 @@
-use Rattle.lines.specs.DraftLaws.{line-of-3}
-use Rattle.lines.specs.Line.{byteLine}
+use Rattle.draft.specs.DraftLaws.{line-of-3}
+use Rattle.draft.specs.Line.{byteLine}
 use native.Mathlib.Omega.{arith}
 use borrow.Author.Needs.{needs}
 use Rattle.lines.proofs.text.byte_line.Statement.{statement}

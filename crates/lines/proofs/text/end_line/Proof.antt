@@ -1,4 +1,4 @@
-use Rattle.lines.specs.DraftLaws.{line-of-2}
+use Rattle.draft.specs.DraftLaws.{line-of-2}
 use native.Mathlib.Omega.{arith}
 use borrow.Author.Needs.{needs}
 use Rattle.lines.proofs.text.end_line.Statement.{statement}

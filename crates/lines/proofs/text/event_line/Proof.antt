@@ -1,5 +1,5 @@
 use native.Mathlib.Omega.{arith}
-use Rattle.lines.specs.Line.{eventLine}
+use Rattle.draft.specs.Line.{eventLine}
 use borrow.Author.Needs.{needs}
 use Rattle.lines.proofs.text.event_line.Statement.{statement}
 use Rattle.lines.proofs.text.event_line.Tie as tie

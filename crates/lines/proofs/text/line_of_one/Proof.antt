@@ -1,4 +1,4 @@
-use Rattle.lines.specs.DraftLaws.{line-of-1}
+use Rattle.draft.specs.DraftLaws.{line-of-1}
 use native.Mathlib.Omega.{arith}
 use borrow.Author.Needs.{needs}
 use Rattle.lines.proofs.text.line_of_one.Statement.{statement}

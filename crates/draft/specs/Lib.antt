@@ -1,0 +1,5 @@
+pub mod Words
+pub mod Line
+pub mod LineLaws
+pub mod Draft
+pub mod DraftLaws
