@@ -1,0 +1,75 @@
+-- Every state of a run is in shape.
+use mathlib.Core.Path.{_≡_, refl, sym, _∙_}
+use mathlib.Core.List.{List, [], _∷_}
+use Prim.Native.Nat.{ℕ, zero, suc}
+use native.Mathlib.Omega.{arith}
+use lib.ListN.{take, replicate, length-replicate}
+use Rattle.machine.specs.Slots.{SlotState, Vacant, HeldBy, lookup, slotAt, lookup-right}
+use Rattle.machine.specs.Machine.{Machine, Connection, Open, Closed, fresh, RequestCall, CountCall, Item, ByteItem, CallItem, onItem, stateAfter}
+use Rattle.machine.specs.Laws.{Bulk, Laws}
+use Rattle.machine.specs.Pieces.{needed, usedBytes, byteItems, onPiece}
+use Rattle.machine.specs.Cutting.{piece-cut}
+use Rattle.machine.specs.Shape.{BytesOk, ItemOk, ItemsOk, ItemsEnd, ItemsMore, SlotsOk, WellShaped}
+use Rattle.machine.specs.ShapeContent.{shape-record-byte}
+use Rattle.machine.specs.ShapeCalls.{shape-call}
+
+module _ (M : Machine) (L : Laws M) where
+  open Machine M using (Leftover, clean, Request)
+  open Laws L using (slotCount, clean-ok)
+
+  -- one item
+  pub shape-item : (s : Connection M) (x : Item M) → ItemOk M x → WellShaped M L s → WellShaped M L ((onItem M s x) .0)
+  unfolding onItem
+  shape-item Closed (ByteItem b) p h = tt
+  shape-item Closed (CallItem (RequestCall id a)) p h = tt
+  shape-item Closed (CallItem CountCall) p h = tt
+  shape-item (Open T F) (ByteItem b) p h = shape-record-byte M L T F b (h .0) (h .1) p
+  shape-item (Open T F) (CallItem (RequestCall id a)) p h = shape-call M L (lookup id T) id a T F (h .0) (h .1) (lookup-right clean id T)
+  shape-item (Open T F) (CallItem CountCall) p h = h
+
+  -- a timeline
+  pub shape-after : (s : Connection M) {t : List (Item M)} → ItemsOk M t → WellShaped M L s → WellShaped M L (stateAfter M s t)
+  unfolding stateAfter
+  shape-after s ItemsEnd h = h
+  shape-after s (ItemsMore {x = x} p q) h = shape-after ((onItem M s x) .0) q (shape-item s x p h)
+
+  -- a fresh start is in shape
+  fresh-vacant : (n j : ℕ) → _≡_ {A = SlotState Leftover Request} (slotAt clean (replicate n (Vacant clean)) j) (Vacant clean)
+  fresh-vacant zero j = refl
+  fresh-vacant (suc n) zero = refl
+  fresh-vacant (suc n) (suc j) = fresh-vacant n j
+
+  pub shape-fresh : WellShaped M L (fresh M slotCount)
+  unfolding fresh
+  shape-fresh =
+      let none-held : (i id : ℕ) (r : Request) → slotAt clean (replicate slotCount (Vacant clean)) i ≡ HeldBy id r → ⊥ =
+      λ i id r x. let z : _≡_ {A = SlotState Leftover Request} (Vacant clean) (HeldBy id r) = sym (fresh-vacant slotCount i) ∙ x in let w : _≡_ {A = ℕ} 0 1 = cc in omega arith in
+      let slots : SlotsOk M L (replicate slotCount (Vacant clean)) = record {
+        size = length-replicate slotCount (Vacant clean);
+        fits = λ j. rw (fresh-vacant slotCount j) clean-ok;
+        once = λ i j id r q x y. absurd (none-held i id r x);
+      } in
+      (slots, (omega arith, λ j. omega arith))
+
+module _ (M : Machine) where
+  -- bytes as items
+  pub items-all : (x : List ℕ) → BytesOk x → ItemsOk M (byteItems M x)
+  unfolding byteItems
+  items-all [] h = ItemsEnd
+  items-all (b ∷ x) h = ItemsMore (h 0) (items-all x (λ i. h (suc i)))
+
+  bytes-taken : (n : ℕ) (x : List ℕ) → BytesOk x → BytesOk (take n x)
+  bytes-taken zero x h i = omega arith
+  bytes-taken (suc n) [] h i = omega arith
+  bytes-taken (suc n) (b ∷ x) h zero = h 0
+  bytes-taken (suc n) (b ∷ x) h (suc i) = bytes-taken n x (λ j. h (suc j)) i
+
+  bytes-used : (s : Connection M) (x : List ℕ) → BytesOk x → BytesOk (usedBytes M s x)
+  unfolding usedBytes
+  bytes-used Closed x h i = omega arith
+  bytes-used (Open T F) x h i = bytes-taken (needed M F) x h i
+
+module _ (M : Machine) (U : Bulk M) (L : Laws M) where
+  -- a step over a piece of bytes
+  pub shape-piece : (s : Connection M) (x : List ℕ) → BytesOk x → WellShaped M L s → WellShaped M L ((onPiece M U s x) .0)
+  shape-piece s x b h = rw ((piece-cut M U s x) .same-state) (shape-after M L s (items-all M (usedBytes M s x) (bytes-used M s x b)) h)

@@ -1,0 +1,1 @@
+// Theorems only: requests on one connection are kept apart, for any machine of one request.
