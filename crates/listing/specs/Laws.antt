@@ -1,12 +1,12 @@
 -- Where the list of a request that a call names lies, and each call that reads as a question to that part of the store.
 use Prim.Native.Nat.{ℕ, _+_, _-_, _*_, _≤_, _<_}
-use mathlib.Core.Path.{_≡_, refl, sym, ap, subst}
+use mathlib.Core.Path.{_≡_, refl, sym, subst}
 use mathlib.Core.Bool.{true, false}
 use mathlib.Core.List.{List, []}
 use native.Mathlib.Omega.{arith}
 use lib.ListN.{length, drop, getD}
 use lib.Seq.{take-take}
-use borrow.Author.Tests.{eqb-true, eqb-false}
+use borrow.Author.Tests.{eqb-true, eq-eqb}
 use Rattle.wire.specs.Test.{if_then_else_, _=?_, byTest}
 use Rattle.pairs.specs.Pair.{valueOf}
 use Rattle.lists.specs.List.{firstNamed, pairNumber}
@@ -23,8 +23,9 @@ use Rattle.connection.specs.RequestCalls as Of
 use Rattle.connection.specs.Calls.{lentRefusal, slotOf, value, source, pairAtNumber, walk}
 use Rattle.connection.specs.Laws.SlotsLaws.{find-at, found-true}
 use Rattle.connection.specs.Laws.ShapeLaws.{shaped}
-use Rattle.admit.specs.Admission.{Admission, lentAdmission}
-use Rattle.numbers.specs.Laws.{refusal-some}
+use Rattle.admit.specs.declared.Admitted.{Admitted}
+use Rattle.admit.specs.Admission.{admittedBy, lentAdmission}
+use Rattle.admit.specs.AdmissionLaws.{let-through, refused-by}
 use Rattle.listing.specs.Listing.{Listing, unlisted, partOf, listing}
 
 -- A call that rows 2, 9, 1 and 3 let through: the store has its size, the slot is one of the table's, and the list fits its area.
@@ -57,20 +58,16 @@ through c store id none =
         (record { none = none; slot = slot; full = eqb-true (length store) STORE t1; low = low; short = shaped c t2 .table .lengths (f .0) low })
 
 -- What the admission of a call says: of one let through, the slot; of a refused one, the row.
-pub admitted-at : (c : Conn) (store : List ℕ) (id i : ℕ) → lentAdmission c store id ≡ record { refusal = 0; slot = i } → Through c store id i
+pub admitted-at : (c : Conn) (store : List ℕ) (id i : ℕ) → lentAdmission c store id ≡ admittedBy (Admitted.At i) → Through c store id i
 unfolding lentAdmission
 admitted-at c store id i e =
-    byTest (lentRefusal c store id =? 0)
-    (λ t. subst (Through c store id) (ap (λ (a : Admission). a .slot) (simp t at e)) (through c store id t))
-    (λ t. absurd (eqb-false (lentRefusal c store id) 0 t (ap (λ (a : Admission). a .refusal) (simp t at e))))
+    let a = let-through (lentRefusal c store id) (slotOf c id) i (sym e) in
+    subst (Through c store id) (sym (a .1)) (through c store id (eq-eqb (lentRefusal c store id) 0 (a .0)))
 
-pub refused-at : (c : Conn) (store : List ℕ) (id : ℕ) (r : Refusal) → lentAdmission c store id ≡ record { refusal = refusalNumber r; slot = SLOTS }
+pub refused-at : (c : Conn) (store : List ℕ) (id : ℕ) (r : Refusal) → lentAdmission c store id ≡ admittedBy (Admitted.Refused r)
     → lentRefusal c store id ≡ refusalNumber r
 unfolding lentAdmission
-refused-at c store id r e =
-    byTest (lentRefusal c store id =? 0)
-    (λ t. absurd (eqb-false (refusalNumber r) 0 (refusal-some r) (sym (ap (λ (a : Admission). a .refusal) (simp t at e)))))
-    (λ t. ap (λ (a : Admission). a .refusal) (simp t at e))
+refused-at c store id r e = refused-by (lentRefusal c store id) (slotOf c id) r (sym e)
 
 -- In no bytes there is no pair.
 pub first-in-none : (name : List ℕ) → firstNamed [] name ≡ Found.Nothing

@@ -1,10 +1,7 @@
 -- What holds of a call that is let through or refused.
 use Prim.Native.Nat.{ℕ}
-use mathlib.Core.Path.{_≡_, sym, ap, _∙_}
+use mathlib.Core.Path.{_≡_, ap, _∙_}
 use mathlib.Core.List.{List}
-use lib.Dec.{eqb}
-use borrow.Author.Tests.{eqb-true, eqb-false}
-use Rattle.wire.specs.Test.{byTest}
 use Rattle.connection.specs.declared.request.Request.{Request}
 use Rattle.connection.specs.declared.state.Conn.{Conn}
 use Rattle.connection.specs.declared.answer.Output.{Output}
@@ -15,7 +12,8 @@ use Rattle.connection.specs.RequestCalls.{Wrote, sayIn, endIn}
 use Rattle.connection.specs.Slots.{requestAt}
 use Rattle.connection.specs.Calls.{callRefusal, slotOf, putsRequest, writtenBy as callWritten, say, endStream}
 use Rattle.admit.specs.declared.Admitted.{Admitted}
-use Rattle.admit.specs.Admission.{Admission, admittedBy, callAdmission}
+use Rattle.admit.specs.Admission.{admittedBy, callAdmission}
+use Rattle.admit.specs.AdmissionLaws.{let-through, refused-by}
 use Rattle.stream_output.specs.declared.Said.{Said}
 use Rattle.stream_output.specs.Answer.{saidBy}
 use Rattle.numbers.specs.Laws.{refusal-some}
@@ -23,19 +21,13 @@ use Rattle.output.specs.Answer.{writtenBy}
 
 -- ---- a call
 -- one that was refused, and one that was let through to its slot
-pub admitted-not : (c : Conn) (id : ℕ) (why : Refusal) → admittedBy (Admitted.Refused why) ≡ callAdmission c id → callRefusal c id ≡ refusalNumber why
+admitted-not : (c : Conn) (id : ℕ) (why : Refusal) → admittedBy (Admitted.Refused why) ≡ callAdmission c id → callRefusal c id ≡ refusalNumber why
 unfolding callAdmission
-admitted-not c id why e =
-    byTest (eqb (callRefusal c id) 0)
-    (λ t. eqb-true (callRefusal c id) 0 t ∙ sym (ap (λ (a : Admission). a .refusal) (simp t at e)))
-    (λ t. sym (ap (λ (a : Admission). a .refusal) (simp t at e)))
+admitted-not c id why e = refused-by (callRefusal c id) (slotOf c id) why e
 
-pub admitted-at : (c : Conn) (id i : ℕ) → admittedBy (Admitted.At i) ≡ callAdmission c id → (callRefusal c id ≡ 0) × (i ≡ slotOf c id)
+admitted-at : (c : Conn) (id i : ℕ) → admittedBy (Admitted.At i) ≡ callAdmission c id → (callRefusal c id ≡ 0) × (i ≡ slotOf c id)
 unfolding callAdmission
-admitted-at c id i e =
-    byTest (eqb (callRefusal c id) 0)
-    (λ t. (eqb-true (callRefusal c id) 0 t, ap (λ (a : Admission). a .slot) (simp t at e)))
-    (λ t. absurd (eqb-false (callRefusal c id) 0 t (sym (ap (λ (a : Admission). a .refusal) (simp t at e)))))
+admitted-at c id i e = let-through (callRefusal c id) (slotOf c id) i e
 
 module _ (c : Conn) (id : ℕ) (output : Output) where
   -- refused, nothing is written and nothing changes
