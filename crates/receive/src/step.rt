@@ -162,7 +162,7 @@ fn settle(
 }
 
 // One step over a piece: it stays in one phase and uses as many bytes as that phase still needs or the piece has.
-// The table is changed in place and has one way out: a copy of it costs as much as the rest of a step.
+// The table is changed in place and has one way out: each way out that carried it would copy it once more.
 pub fn step(c: Conn, store: &mut [u8], gathered: &mut [u8; 512], piece: &[u8]) -> Stepped
     ensures { λ r. ⌜ steppedBy r (now (gathered .exit)) (now (store .exit)) ≡ stepped (stateOf c (now (gathered .entry))) (now (store .entry)) (now (piece .entry)) ⌝ }
 {
