@@ -1,0 +1,185 @@
+-- A run of R's items exists, in every cutting of their bytes into pieces: what isolation says of such runs is said of something. And a closed connection is final.
+use mathlib.Core.Path.{_≡_, refl, ap, ap₂, sym, _∙_}
+use mathlib.Core.List.{List, [], _∷_, _++_, append-assoc, append-nil, List·Memᴰ}
+use mathlib.Core.Bool.{true, false}
+use mathlib.Core.Logic.{inl}
+use Prim.Native.Nat.{ℕ, zero, suc, _≤_, _<_}
+use native.Mathlib.Omega.{arith}
+use lib.ListN.{length, take, drop, length-drop, take-append-drop}
+use Rattle.wire.specs.Test.{byTest}
+use Rattle.machine.specs.Machine.{Connection, Open, Closed, AtHeader, Item, ByteItem, CallItem, RequestCall, CountCall, stateAfter}
+use Rattle.machine.specs.Pieces.{byteItems}
+use Rattle.machine.specs.Purge.{purge}
+use Rattle.machine.specs.RunLaws.{closed-stays, state-append}
+use Rattle.machine.specs.Isolation as Generic
+use Rattle.connection.specs.Sizes.{STORE, QUERY}
+use Rattle.connection.specs.Calls as C
+use Rattle.connection.specs.Laws.PieceLaws.{AllBytes, drop-bytes}
+use Rattle.connection.specs.Laws.Progress.{admitted-fits, step-refused, step-uses-some}
+use Rattle.runs.specs.Receiver.{receiver}
+use Rattle.runs.specs.Run.{Memory, Operation, StepOver, CallFor, CountActive, stepOf, memoryOf, leftBy, itemsOf, finalMemory, allSeen, timeline, startOf}
+use Rattle.runs.specs.LinkingStep.{loadedOf, closed-loaded, Steady, step-linked}
+use Rattle.runs.specs.LinkingCalls.{lent-closed, call-closed, refused-call, call-linked, count-linked}
+use Rattle.runs.specs.LinkingRuns.{PiecesOk, run-linked, start-loaded, start-steady, BetweenRecords}
+use Rattle.runs.specs.Isolation.{overloadedFor, RunsFor, Isolated, purged-between, isolation}
+
+-- ---- closed is final
+closed-operation : (m : Memory) (o : Operation) → Steady m → m .state .conn .«open» ≡ false → leftBy m o ≡ m
+unfolding leftBy
+closed-operation m (StepOver piece) z e =
+    ap memoryOf
+    (step-refused (m .state) (m .store) piece
+    (λ a. let y : _≡_ {A = ℕ} 0 1 = cc (admitted-fits (m .state .conn) (m .store) a .is-open, e) in omega arith))
+closed-operation m (CallFor id a) z e = ap (λ r. r .memory) (refused-call m id 0 a (lent-closed m z id e) (call-closed m z id e))
+closed-operation m CountActive z e = refl
+
+-- Whatever is done on a closed connection changes nothing.
+pub closed-final : (os : List Operation) (m : Memory) → Steady m → m .state .conn .«open» ≡ false → finalMemory m os ≡ m
+unfolding finalMemory
+closed-final [] m z e = refl
+closed-final (o ∷ os) m z e =
+    let k = closed-operation m o z e in
+    ap (λ w. finalMemory w os) k ∙ closed-final os m z e
+
+-- ---- pieces stepped over until they are used up
+-- one piece, in at most n steps
+unfoldable pub steppedThrough : ℕ → Memory → List ℕ → List Operation
+steppedThrough zero m x = []
+steppedThrough (suc n) m [] = []
+steppedThrough (suc n) m (b ∷ x) =
+    StepOver (b ∷ x) ∷ steppedThrough n (leftBy m (StepOver (b ∷ x))) (drop (stepOf m (b ∷ x) .used) (b ∷ x))
+
+-- each piece, and the calls in their places
+unfoldable pub allStepped : Memory → List Operation → List Operation
+allStepped m [] = []
+allStepped m (StepOver x ∷ os) = steppedThrough (length x) m x ++ allStepped (finalMemory m (steppedThrough (length x) m x)) os
+allStepped m (CallFor id a ∷ os) = CallFor id a ∷ allStepped (leftBy m (CallFor id a)) os
+allStepped m (CountActive ∷ os) = CountActive ∷ allStepped (leftBy m CountActive) os
+
+-- all bytes and calls of operations, whether they are used or not
+unfoldable pub itemsIn : List Operation → List (Item receiver)
+itemsIn [] = []
+itemsIn (StepOver x ∷ os) = byteItems receiver x ++ itemsIn os
+itemsIn (CallFor id a ∷ os) = CallItem (RequestCall id a) ∷ itemsIn os
+itemsIn (CountActive ∷ os) = CallItem CountCall ∷ itemsIn os
+
+-- ---- laws of lists of operations
+bytes-append : (x y : List ℕ) → byteItems receiver (x ++ y) ≡ byteItems receiver x ++ byteItems receiver y
+unfolding byteItems
+bytes-append [] y = refl
+bytes-append (b ∷ x) y = ap (λ l. ByteItem b ∷ l) (bytes-append x y)
+
+final-append : (os : List Operation) (m : Memory) (ps : List Operation) → timeline m (os ++ ps) ≡ timeline m os ++ timeline (finalMemory m os) ps
+unfolding timeline finalMemory
+final-append [] m ps = refl
+final-append (o ∷ os) m ps =
+    ap (λ l. itemsOf m o ++ l) (final-append os (leftBy m o) ps) ∙ sym (append-assoc (itemsOf m o) (timeline (leftBy m o) os) (timeline (finalMemory (leftBy m o) os) ps))
+
+pieces-append : (os ps : List Operation) → PiecesOk os → PiecesOk ps → PiecesOk (os ++ ps)
+pieces-append [] ps p q = q
+pieces-append (StepOver x ∷ os) ps p q = (p .0, pieces-append os ps (p .1) q)
+pieces-append (CallFor id a ∷ os) ps p q = pieces-append os ps p q
+pieces-append (CountActive ∷ os) ps p q = pieces-append os ps p q
+
+through-pieces : (n : ℕ) (m : Memory) (x : List ℕ) → AllBytes x → PiecesOk (steppedThrough n m x)
+unfolding steppedThrough
+through-pieces zero m x b = tt
+through-pieces (suc n) m [] b = tt
+through-pieces (suc n) m (c ∷ x) b =
+    (b, through-pieces n (leftBy m (StepOver (c ∷ x))) (drop (stepOf m (c ∷ x) .used) (c ∷ x)) (drop-bytes (stepOf m (c ∷ x) .used) (c ∷ x) b))
+
+-- The steps are over bytes.
+pub all-pieces : (os : List Operation) (m : Memory) → PiecesOk os → PiecesOk (allStepped m os)
+unfolding allStepped
+all-pieces [] m p = tt
+all-pieces (StepOver x ∷ os) m p =
+    pieces-append (steppedThrough (length x) m x) (allStepped (finalMemory m (steppedThrough (length x) m x)) os) (through-pieces (length x) m x (p .0))
+    (all-pieces os (finalMemory m (steppedThrough (length x) m x)) (p .1))
+all-pieces (CallFor id a ∷ os) m p = all-pieces os (leftBy m (CallFor id a)) p
+all-pieces (CountActive ∷ os) m p = all-pieces os (leftBy m CountActive) p
+
+-- ---- a piece is used up
+-- a step and what is left of its piece
+more-steps : (n : ℕ) (m : Memory) (c : ℕ) (x : List ℕ) → Steady m → AllBytes (c ∷ x) → length (c ∷ x) ≤ suc n
+    → (stateAfter receiver (loadedOf m) (byteItems receiver (c ∷ x)) ≡ Closed → ⊥)
+    → (Steady (leftBy m (StepOver (c ∷ x))) → AllBytes (drop (stepOf m (c ∷ x) .used) (c ∷ x)) → length (drop (stepOf m (c ∷ x) .used) (c ∷ x)) ≤ n
+    → (stateAfter receiver (loadedOf (leftBy m (StepOver (c ∷ x)))) (byteItems receiver (drop (stepOf m (c ∷ x) .used) (c ∷ x))) ≡ Closed → ⊥)
+    → timeline (leftBy m (StepOver (c ∷ x))) (steppedThrough n (leftBy m (StepOver (c ∷ x))) (drop (stepOf m (c ∷ x) .used) (c ∷ x)))
+    ≡ byteItems receiver (drop (stepOf m (c ∷ x) .used) (c ∷ x)))
+    → m .state .conn .«open» ≡ true
+    → timeline m (steppedThrough (suc n) m (c ∷ x)) ≡ byteItems receiver (c ∷ x)
+unfolding steppedThrough timeline itemsOf
+more-steps n m c x z b l a rest o =
+    let used = stepOf m (c ∷ x) .used in
+    let k = step-linked m (c ∷ x) z b in
+    let some = step-uses-some (m .state) (m .store) (c ∷ x) (z .shape) o (z .sizes .full) (omega arith) in
+    let less : length (drop used (c ∷ x)) ≤ n = simp length-drop (omega (arith, some .0)) in
+    let both : byteItems receiver (take used (c ∷ x)) ++ byteItems receiver (drop used (c ∷ x)) ≡ byteItems receiver (c ∷ x) =
+    sym (bytes-append (take used (c ∷ x)) (drop used (c ∷ x))) ∙ ap (byteItems receiver) (take-append-drop used (c ∷ x)) in
+    let same : stateAfter receiver (loadedOf (leftBy m (StepOver (c ∷ x)))) (byteItems receiver (drop used (c ∷ x))) ≡ stateAfter receiver (loadedOf m) (byteItems receiver (c ∷ x)) =
+    ap (λ w. stateAfter receiver w (byteItems receiver (drop used (c ∷ x)))) (k .state)
+    ∙ sym (state-append receiver (loadedOf m) (byteItems receiver (take used (c ∷ x))) (byteItems receiver (drop used (c ∷ x))))
+    ∙ ap (stateAfter receiver (loadedOf m)) both in
+    ap (λ t. byteItems receiver (take used (c ∷ x)) ++ t) (rest (k .steady) (drop-bytes used (c ∷ x) b) less (λ d. a (sym same ∙ d))) ∙ both
+
+-- steps over a piece of at most n bytes use it up, if the connection is open behind it
+stepped-through : (n : ℕ) (m : Memory) (x : List ℕ) → Steady m → AllBytes x → length x ≤ n → (stateAfter receiver (loadedOf m) (byteItems receiver x) ≡ Closed → ⊥)
+    → timeline m (steppedThrough n m x) ≡ byteItems receiver x
+unfolding steppedThrough timeline byteItems
+stepped-through zero m [] z b l a = refl
+stepped-through zero m (c ∷ x) z b l a = absurd (omega arith)
+stepped-through (suc n) m [] z b l a = refl
+stepped-through (suc n) m (c ∷ x) z b l a =
+    byTest (m .state .conn .«open»)
+    (more-steps n m c x z b l a (stepped-through n (leftBy m (StepOver (c ∷ x))) (drop (stepOf m (c ∷ x) .used) (c ∷ x))))
+    (λ e. absurd (a (ap (λ w. stateAfter receiver w (byteItems receiver (c ∷ x))) (closed-loaded m e) ∙ closed-stays receiver (byteItems receiver (c ∷ x)))))
+
+-- ---- all pieces and calls
+open-before : (s : Connection receiver) (t u : List (Item receiver)) → (stateAfter receiver s (t ++ u) ≡ Closed → ⊥) → stateAfter receiver s t ≡ Closed → ⊥
+open-before s t u a e = a (state-append receiver s t u ∙ ap (λ w. stateAfter receiver w u) e ∙ closed-stays receiver u)
+
+-- Any bytes and calls, cut into pieces in any way, can be run: the steps use all of them, in order, if they leave the connection open.
+pub all-stepped : (os : List Operation) (m : Memory) → Steady m → PiecesOk os → (stateAfter receiver (loadedOf m) (itemsIn os) ≡ Closed → ⊥)
+    → timeline m (allStepped m os) ≡ itemsIn os
+unfolding allStepped itemsIn timeline stateAfter itemsOf
+all-stepped [] m z p a = refl
+all-stepped (StepOver x ∷ os) m z p a =
+    let qs = steppedThrough (length x) m x in
+    let i = byteItems receiver x in
+    let e = stepped-through (length x) m x z (p .0) (omega arith) (open-before (loadedOf m) i (itemsIn os) a) in
+    let k = run-linked qs m z (through-pieces (length x) m x (p .0)) in
+    let s : loadedOf (finalMemory m qs) ≡ stateAfter receiver (loadedOf m) i = k .state ∙ ap (stateAfter receiver (loadedOf m)) e in
+    let r = all-stepped os (finalMemory m qs) (k .steady) (p .1) (λ d. a (state-append receiver (loadedOf m) i (itemsIn os) ∙ ap (λ w. stateAfter receiver w (itemsIn os)) (sym s) ∙ d)) in
+    final-append qs m (allStepped (finalMemory m qs) os) ∙ ap₂ (λ v w. v ++ w) e r
+all-stepped (CallFor id a ∷ os) m z p open′ =
+    let k = call-linked m id a z in
+    ap (λ l. CallItem (RequestCall id a) ∷ l)
+    (all-stepped os (leftBy m (CallFor id a)) (k .steady) p (λ d. open′ (ap (λ w. stateAfter receiver w (itemsIn os)) (sym (k .state)) ∙ d)))
+all-stepped (CountActive ∷ os) m z p a =
+    let k = count-linked m z in
+    ap (λ l. CallItem CountCall ∷ l)
+    (all-stepped os (leftBy m CountActive) (k .steady) p (λ d. a (ap (λ w. stateAfter receiver w (itemsIn os)) (sym (k .state)) ∙ d)))
+
+-- The second run. Take any run A as isolation does, cut what purging leaves of its timeline into pieces in any way, ps, and step over each piece until it is used up: this is a run for R's items.
+pub second-run : (R : ℕ) (gathered store gathered′ store′ : List ℕ) (os ps : List Operation) → 0 < R → length gathered ≡ QUERY → length store ≡ STORE
+    → length gathered′ ≡ QUERY → length store′ ≡ STORE → PiecesOk os → PiecesOk ps → BetweenRecords (finalMemory (startOf gathered store) os)
+    → (List·Memᴰ (overloadedFor R) (allSeen (startOf gathered store) os) → ⊥)
+    → itemsIn ps ≡ purge receiver R (timeline (startOf gathered store) os)
+    → RunsFor R (timeline (startOf gathered store) os) (timeline (startOf gathered′ store′) (allStepped (startOf gathered′ store′) ps))
+    (finalMemory (startOf gathered′ store′) (allStepped (startOf gathered′ store′) ps))
+second-run R gathered store gathered′ store′ os ps r n f n′ f′ pa pb b room e =
+    let B = startOf gathered′ store′ in
+    let i = purged-between R gathered store os r n f pa b room in
+    let s : stateAfter receiver (loadedOf B) (itemsIn ps) ≡ Open (i .slots) (AtHeader []) = ap₂ (λ v w. stateAfter receiver v w) (start-loaded gathered′ store′ f′) e ∙ i .is-open in
+    let a : stateAfter receiver (loadedOf B) (itemsIn ps) ≡ Closed → ⊥ = λ d. let y : _≡_ {A = ℕ} 0 1 = cc in omega arith in
+    record { rest = []; prefix = append-nil _ ∙ all-stepped ps B (start-steady gathered′ store′ n′ f′) pb a ∙ e; all-or-closed = inl refl }
+
+-- So it is isolated: both in one.
+pub isolated-second-run : (R : ℕ) (gathered store gathered′ store′ : List ℕ) (os ps : List Operation) → 0 < R → length gathered ≡ QUERY → length store ≡ STORE
+    → length gathered′ ≡ QUERY → length store′ ≡ STORE → PiecesOk os → PiecesOk ps → BetweenRecords (finalMemory (startOf gathered store) os)
+    → (List·Memᴰ (overloadedFor R) (allSeen (startOf gathered store) os) → ⊥)
+    → itemsIn ps ≡ purge receiver R (timeline (startOf gathered store) os)
+    → Isolated R (startOf gathered store) (startOf gathered′ store′) os (allStepped (startOf gathered′ store′) ps)
+isolated-second-run R gathered store gathered′ store′ os ps r n f n′ f′ pa pb b room e =
+    isolation R gathered store gathered′ store′ os (allStepped (startOf gathered′ store′) ps) r n f n′ f′ pa (all-pieces ps (startOf gathered′ store′) pb) b room
+    (second-run R gathered store gathered′ store′ os ps r n f n′ f′ pa pb b room e)
