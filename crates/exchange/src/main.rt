@@ -1,11 +1,13 @@
 // A station's end of an exchange: what a web server sends comes on standard input, what the station answers goes to
 // standard output. Each request is asked for its reading once its parameters are there; the reading is written to the
-// request's STDOUT, and STDOUT is ended. Replies that events owe are written as they come.
+// request's STDOUT, STDOUT is ended, and then the request. Replies that events owe are written as they come.
 use connection::answer::Output;
 use connection::answer::Told;
 use connection::answer::Wrote;
 use connection::event::Event;
 use connection::state::Conn;
+use finish::Finish;
+use finish::end_request;
 use libc::STDIN_FILENO;
 use libc::STDOUT_FILENO;
 use output::end_output;
@@ -25,8 +27,17 @@ fn send(out: &[u8], wrote: Wrote) {
     }
 }
 
-// Writes a request's reading back and ends its STDOUT. Where it sent none, that is said.
-fn answer(c: Conn, store: &[u8], id: u16, out: &mut [u8]) -> Conn {
+// Sends what the end of a request wrote.
+fn send_end(out: &[u8], finish: Finish) {
+    match finish {
+        Finish::Open(n) => send(out, Wrote::Bytes(n)),
+        Finish::Closed(n) => send(out, Wrote::Bytes(n)),
+        Finish::Refused(why) => send(out, Wrote::Refused(why)),
+    }
+}
+
+// Writes a request's reading back, ends its STDOUT and then the request. Where it sent no reading, that is said.
+fn answer(c: Conn, store: &mut [u8], id: u16, out: &mut [u8]) -> Conn {
     let reading = value(c, store, id, b"READING", b"no reading");
     let said = write_output(c, id, Output::Stdout, reading, out);
     let wrote = said.wrote;
@@ -35,11 +46,15 @@ fn answer(c: Conn, store: &[u8], id: u16, out: &mut [u8]) -> Conn {
     let ended = end_output(told, id, Output::Stdout, out);
     let last = ended.wrote;
     send(out, last);
-    ended.conn
+    let over = ended.conn;
+    let finished = end_request(over, store, id, 0, out);
+    let finish = finished.finish;
+    send_end(out, finish);
+    finished.conn
 }
 
 // What the station does at an event.
-fn react(c: Conn, store: &[u8], e: Event, out: &mut [u8]) -> Conn {
+fn react(c: Conn, store: &mut [u8], e: Event, out: &mut [u8]) -> Conn {
     let owed = reply(e, out);
     send(out, owed);
     if let Event::Ready(id, _) = e {

@@ -69,6 +69,7 @@ pub record HeldElsewhere (t : Table) (i id j : ℕ) : Type 0 where
   pub other : j ≡ i → ⊥
   pub held : Holds t id j
 
+-- What it holds.
 pub free-holds : (t : Table) (i id j : ℕ) → Holds (freeSlot t i) id j → HeldElsewhere t i id j
 unfolding requestAt
 free-holds t i id j h = byTest (eqb j i) (λ e. absurd (freed (eqb-true j i e))) (λ e. elsewhere (eqb-false j i e))

@@ -38,6 +38,7 @@ items-append : (t u : List (Item receiver)) → ItemsOk receiver t → ItemsOk r
 items-append [] u p q = q
 items-append (x ∷ t) u (ItemsMore a p) q = ItemsMore a (items-append t u p q)
 
+-- Its bytes are bytes.
 pub timeline-ok : (os : List Operation) (m : Memory) → PiecesOk os → ItemsOk receiver (timeline m os)
 unfolding timeline itemsOf
 timeline-ok [] m p = ItemsEnd

@@ -133,18 +133,23 @@ module _ (t : Table) (f : Frame) (gathered store : List ℕ) (b : ℕ) where
       (sym (ne-eqb (suc n) 0 (λ z. omega arith))) (links-behind v k id (suc n) p Aim.Query Event.None none refl)
 
   module _ (h : List ℕ) where
+    -- its version
     abbrev v : ℕ
     v = byteAt h 0
 
+    -- its type
     abbrev kind : ℕ
     kind = byteAt h 1
 
+    -- its request id
     abbrev id : ℕ
     id = number2 (byteAt h 2) (byteAt h 3)
 
+    -- its content length
     abbrev n : ℕ
     n = number2 (byteAt h 4) (byteAt h 5)
 
+    -- its padding length
     abbrev p : ℕ
     p = byteAt h 6
 

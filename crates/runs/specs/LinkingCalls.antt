@@ -120,10 +120,11 @@ module _ (t : Table) (f : Frame) (gathered store : List ℕ) (z : Steady (memory
   abbrev memory : Memory
   memory = memoryAt t f gathered store
 
-  -- its slots, and where it reads
+  -- its slots
   abbrev slots : Slots receiver
   slots = loadedSlots t store
 
+  -- where it reads
   abbrev reading : Reading receiver
   reading = loadedReading f gathered
 
@@ -229,6 +230,7 @@ resultAt m i (ForFinish status buffer) =
 pub slot-found : (c : Conn) (id i : ℕ) → find (c .table) id ≡ Slot.At i → C.slotOf c id ≡ i
 slot-found c id i e = rw e
 
+-- A call of an id that is found.
 pub found-result : (m : Memory) (id i : ℕ) (a : Argument) → C.lentRefusal (m .state .conn) (m .store) id ≡ 0 → C.callRefusal (m .state .conn) id ≡ 0 → C.slotOf (m .state .conn) id ≡ i
     → called m id a ≡ resultAt m i a
 unfolding called resultAt C.value C.source C.pairAtNumber C.walk C.say C.endStream C.finish

@@ -58,6 +58,7 @@ run-more m o os k i =
       steady = i .steady;
     }
 
+-- Any run.
 pub run-linked : (os : List Operation) (m : Memory) → Steady m → PiecesOk os → LinkedRun m os
 unfolding finalMemory allSeen timeline stateAfter observations toldAll
 run-linked [] m z p = record { state = refl; tells = refl; steady = z }

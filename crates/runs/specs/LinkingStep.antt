@@ -94,6 +94,7 @@ ranOf m x = byByte (m .state) (m .store) x
 abbrev runMemory : Run → Memory
 runMemory r = record { state = r .state; store = r .store }
 
+-- They come to their items on the machine, and keep the memory steady.
 record Bytes (m : Memory) (x : List ℕ) : Type 0 where
   state : loadedOf (runMemory (ranOf m x)) ≡ stateAfter receiver (loadedOf m) (byteItems receiver x)
   tells : map Heard (ranOf m x .notes) ≡ toldAll (observations receiver (loadedOf m) (byteItems receiver x))

@@ -38,6 +38,7 @@ piecesBelow (StepOver x ∷ os) = if allBelow x then piecesBelow os else false
 piecesBelow (CallFor id a ∷ os) = piecesBelow os
 piecesBelow (CountActive ∷ os) = piecesBelow os
 
+-- They are bytes.
 pub below-pieces : (os : List Operation) → piecesBelow os ≡ true → PiecesOk os
 unfolding piecesBelow
 below-pieces [] e = tt
@@ -69,15 +70,18 @@ isRefusal R (Event.Query conns reqs mpxs) = false
 isRefusal R (Event.Unknown kind) = false
 isRefusal R (Event.Closed n) = false
 
+-- this tells it
 abbrev pub tellsRefusal : ℕ → Observed → Bool
 tellsRefusal R (Heard (Note.Told e)) = isRefusal R e
 tellsRefusal R (Heard (Note.Shown id stream b)) = false
 tellsRefusal R (Answered id a answer before after) = false
 
+-- one of these tells it
 unfoldable pub refusedIn : ℕ → List Observed → Bool
 refusedIn R [] = false
 refusedIn R (o ∷ os) = if tellsRefusal R o then true else refusedIn R os
 
+-- Where none does, R is not refused for want of a slot.
 pub never-refused : (R : ℕ) (os : List Observed) → refusedIn R os ≡ false → List·Memᴰ (overloadedFor R) os → ⊥
 unfolding refusedIn
 never-refused R (o ∷ os) e (List·Memᴰ·head h) =

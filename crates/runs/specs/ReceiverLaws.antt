@@ -123,6 +123,7 @@ decided-ok n q e Due.Params f r = (f, r)
 decided-ok n q e Due.Stdin f r = (f, r)
 decided-ok n q e Due.Data f r = (f, r)
 
+-- A header keeps it in shape.
 pub header-ok : (kind n : ℕ) (h : Held) → n ≤ 65535 → RequestOk h → HeaderOutcomeOk RequestOk StreamOk n (receiveHeader kind n h)
 unfolding receiveHeader
 header-ok kind n h l f =
@@ -145,6 +146,7 @@ grown-ok h b l f =
 room-less : (h : Held) (b n : ℕ) → h .request .length + suc n ≤ AREA → grown h (b ∷ []) .request .length + n ≤ AREA
 room-less h b n l = rw (grown-room h (b ∷ []) (omega arith)) (omega arith)
 
+-- So does a content byte.
 pub byte-ok : (due : Due) (b n : ℕ) (h : Held) → b < 256 → RequestOk h → StreamOk due (suc n) h
     → RequestOk ((receiveByte due b h) .0) × StreamOk due n ((receiveByte due b h) .0)
 unfolding receiveByte
@@ -158,6 +160,7 @@ begin-as-ok : (id : ℕ) (body : List ℕ) (role : Role) → BeginOutcomeOk Requ
 unfolding opened cleanArea
 begin-as-ok id body role = λ x e. ok-zero _ refl e
 
+-- A request begins in shape.
 pub begin-ok : (id : ℕ) (body : List ℕ) → BeginOutcomeOk RequestOk (λ x. x ≡ cleanArea) (receiveBegin id body)
 unfolding receiveBegin
 begin-ok id body =
@@ -175,10 +178,12 @@ writes-same : (n : ℕ) (bytes : List ℕ) (after r : Request) (buffer : List �
 unfolding Of.writes
 writes-same n bytes after r buffer s = byTest (eqb n 0) (λ e. simp e s) (λ e. simp e (record { id = refl; length = refl }))
 
+-- Say does.
 pub say-same : (r : Request) (output : Output) (bytes buffer : List ℕ) → SameList r (Of.sayIn r output bytes buffer .request)
 unfolding Of.sayIn Of.saidOn
 say-same r output bytes buffer = writes-same _ _ _ r buffer (record { id = refl; length = refl })
 
+-- So does the end of a stream.
 pub end-same : (r : Request) (output : Output) (buffer : List ℕ) → SameList r (Of.endIn r output buffer .request)
 unfolding Of.endIn Of.endedOn
 end-same r output buffer = writes-same _ _ _ r buffer (record { id = refl; length = refl })
@@ -204,6 +209,7 @@ finished-ok keep h w f = go (eqb (w .refusal) 0) keep
     go true false = tt
     go false k = (f, λ due n r. r)
 
+-- Every call keeps it in shape.
 pub call-ok : (a : Argument) (h : Held) → RequestOk h → CallOutcomeOk RequestOk StreamOk h (receiveCall a h)
 unfolding receiveCall
 call-ok (ForValue name fallback) h f = (f, λ due n r. r)
@@ -222,6 +228,7 @@ inactive-ok kind n =
     (λ a. byTest (eqb n 8) (λ e. simp (a, e) (eqb-true n 8 e)) (λ e. simp (a, e) tt))
     (λ a. simp a tt)
 
+-- A query that is gathered is within its limit.
 pub management-ok : (kind n : ℕ) → ManagementOutcomeOk QUERY n (receiveManagement kind n)
 unfolding receiveManagement
 management-ok kind n =

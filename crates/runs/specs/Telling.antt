@@ -52,6 +52,7 @@ unfoldable pub toldAll : List (Observation receiver) → List Observed
 toldAll [] = []
 toldAll (o ∷ os) = told o ++ toldAll os
 
+-- of two lists
 pub told-append : (os ps : List (Observation receiver)) → toldAll (os ++ ps) ≡ toldAll os ++ toldAll ps
 unfolding toldAll
 told-append [] ps = refl

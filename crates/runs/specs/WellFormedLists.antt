@@ -124,6 +124,7 @@ decided-list n q e Due.Params f r = (f, r)
 decided-list n q e Due.Stdin f r = (f, r)
 decided-list n q e Due.Data f r = (f, r)
 
+-- A header keeps it.
 pub header-list : (kind n : ℕ) (h : Held) → n ≤ 65535 → ListOk h → HeaderOutcomeOk ListOk InTurn n (receiveHeader kind n h)
 unfolding receiveHeader
 header-list kind n h l ok =
@@ -136,6 +137,7 @@ grown-turn : (h : Held) (x : List ℕ) → grown h x .request .mark .turn ≡ h 
 unfolding grown
 grown-turn h x = byTest (leb (h .request .length + length x) AREA) (λ e. simp e) (λ e. simp e)
 
+-- So does a content byte.
 pub byte-list : (due : Due) (b n : ℕ) (h : Held) → b < 256 → ListOk h → InTurn due (suc n) h
     → ListOk ((receiveByte due b h) .0) × InTurn due n ((receiveByte due b h) .0)
 unfolding receiveByte
@@ -150,6 +152,7 @@ begin-as-list : (id : ℕ) (body : List ℕ) (role : Role) → BeginOutcomeOk {L
 unfolding opened
 begin-as-list id body role = λ x u t f. true-false t
 
+-- A request begins with it.
 pub begin-list : (id : ℕ) (body : List ℕ) → BeginOutcomeOk {Leftover = List ℕ} ListOk (λ x. Unit {0}) (receiveBegin id body)
 unfolding receiveBegin
 begin-list id body =
@@ -197,6 +200,7 @@ finished-list keep h w f = go (eqb (w .refusal) 0) keep
     go true false = tt
     go false k = (f, λ due n r. r)
 
+-- Every call keeps it.
 pub call-list : (a : Argument) (h : Held) → ListOk h → CallOutcomeOk ListOk InTurn h (receiveCall a h)
 unfolding receiveCall
 call-list (ForValue name fallback) h f = (f, λ due n r. r)
