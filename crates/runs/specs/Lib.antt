@@ -19,3 +19,8 @@ pub mod PremiseTests
 pub mod Example
 pub mod Records
 pub mod WellFormedLists
+pub mod History
+pub mod HistoryRuns
+pub mod HistoryBytes
+pub mod HistoryScan
+pub mod HistoryWire
