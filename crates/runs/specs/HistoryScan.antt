@@ -1,4 +1,4 @@
--- Which content is PARAMS of R, from the bytes and from what was told, over every run.
+-- Whether R takes PARAMS, and where a byte stands, as the history says it: for headers and content.
 use mathlib.Core.Path.{_≡_, refl, ap, sym, _∙_, subst}
 use mathlib.Core.List.{List, [], _∷_, _++_}
 use mathlib.Core.Option.{Option, none, some}
@@ -7,24 +7,23 @@ use Prim.Native.Nat.{ℕ, zero, suc, _<_}
 use native.Mathlib.Omega.{arith}
 use lib.ListN.{length, set}
 use lib.Dec.{eqb, ltb}
-use borrow.Author.Tests.{eqb-true, eqb-false, eq-eqb}
 use Rattle.wire.specs.Test.{if_then_else_, byTest}
-use Rattle.machine.specs.Slots.{SlotState, Vacant, HeldBy, Lookup, Absent, FoundAt, Vacancy, NoVacancy, VacancyAt, lookup, firstVacancy, slotAt, OfOthers, LookupRight, vacancyFurther, lookup-right, lookup-set, slot-written}
-use Rattle.machine.specs.Machine.{BeginOutcome, Declined, Accepted, InactiveOutcome, WrongBegin, NewBegin, PassedOver, ManagementOutcome, QueryTooLong, Notices, Gathers, headerVersion, headerType, headerId, headerContent, headerPadding, Target, Skip, ToBegin, ToQuery, ToSlot, Reading, AtHeader, PastHeader, Slots, Connection, Open, Closed, Effect, eventFrom, withLeft, queryWhole, queryHeader, managementHeader, inactiveHeader, headerDecided, headerFound, headerRouted, headerVersioned, headerByte, requestSeated, beginWhole, streamByte, contentByte, recordByte, requestFound, targetAt}
-use Rattle.machine.specs.Shape.{SlotOk, SlotsOk, TargetOk, ReadingOk, EffectOk}
-use Rattle.machine.specs.ShapeSlots.{VacancyThere, vacancy-there}
+use Rattle.record.specs.Names.{PARAMS, STDIN, DATA}
+use Rattle.machine.specs.Slots.{SlotState, Vacant, HeldBy, slotAt, Lookup, Absent, FoundAt, Vacancy, NoVacancy, VacancyAt, lookup, firstVacancy, OfOthers, LookupRight, lookup-right, lookup-set, slot-written, vacancyFurther}
+use Rattle.machine.specs.Machine.{BeginOutcome, Declined, Accepted, Target, Skip, ToBegin, ToQuery, ToSlot, Reading, AtHeader, PastHeader, Slots, Connection, Open, Closed, headerType, headerId, headerContent, headerPadding, InactiveOutcome, WrongBegin, NewBegin, PassedOver, ManagementOutcome, QueryTooLong, Notices, Gathers, headerVersion, Effect, eventFrom, withLeft, queryWhole, queryHeader, managementHeader, inactiveHeader, headerDecided, headerFound, headerRouted, headerVersioned, headerByte, requestSeated, beginWhole, streamByte, contentByte, recordByte, requestFound, targetAt}
 use Rattle.connection.specs.declared.request.Due.{Due}
 use Rattle.connection.specs.Event.{Event}
 use Rattle.connection.specs.Request.{Held, onHeader, grown}
-use Rattle.connection.specs.RequestCalls as Of
 use Rattle.connection.specs.Bytewise.{Note}
-use Rattle.runs.specs.Receiver.{dueStream, cleanArea, Notice, receiver, noteOf, receiveHeader, receiveByte, receiveBegin, receiveQuery, receiveManagement, receiveInactive}
-use Rattle.runs.specs.ReceiverLaws.{receiver-laws}
-use Rattle.runs.specs.History.{isParamsOf}
-use Rattle.record.specs.Names.{PARAMS, STDIN, DATA}
+use borrow.Author.Tests.{eqb-true, eq-eqb, eqb-false}
 use Rattle.machine.specs.Purge.{Scan, ScanHeader, ScanRest, scanLeft}
-use Rattle.runs.specs.HistoryBytes.{isParamsHeader, scanWholeParams, scanParams, takesAfter, takesTold, takesThen, takes, takesFound, isParamsDue, off, takes-header, takes-grown, TakesNew, takes-new}
-use Rattle.runs.specs.HistoryRuns.{held-found, other-slot}
+use Rattle.machine.specs.Shape.{SlotOk, SlotsOk, TargetOk, ReadingOk, EffectOk}
+use Rattle.machine.specs.ShapeSlots.{VacancyThere, vacancy-there}
+use Rattle.runs.specs.Receiver.{cleanArea, receiver, receiveBegin, Notice, noteOf, receiveHeader, receiveByte, receiveQuery, receiveManagement, receiveInactive, dueStream}
+use Rattle.runs.specs.ReceiverLaws.{receiver-laws}
+use Rattle.runs.specs.History.{isParamsHeader, scanWholeParams, scanParams, takesAfter, takesTold, takesThen}
+use Rattle.runs.specs.HistoryRequest.{takes, takesFound, isParamsDue, off, takes-header, takes-grown, TakesNew, takes-new}
+use Rattle.runs.specs.HistoryTarget.{isParamsOf, held-found, other-slot}
 
 -- the lowest free slot takes what is written into it
 abbrev VacancyWritten : Slots receiver → SlotState (List ℕ) Held → Vacancy (List ℕ) → Type 0

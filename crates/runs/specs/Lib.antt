@@ -20,7 +20,8 @@ pub mod Example
 pub mod Records
 pub mod WellFormedLists
 pub mod History
-pub mod HistoryRuns
-pub mod HistoryBytes
+pub mod HistoryRequest
+pub mod HistoryTarget
 pub mod HistoryScan
-pub mod HistoryWire
+pub mod HistoryRuns
+pub mod HistoryCase

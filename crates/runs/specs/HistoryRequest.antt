@@ -1,104 +1,145 @@
--- Which content is PARAMS of R, from the bytes and from what was told: a byte within the content of a PARAMS record of R, while R is opened and has been told neither ready nor aborted nor faulted.
-use mathlib.Core.Path.{_≡_, refl}
+-- What the rules for one request do to its list, and to whether it takes PARAMS: both are told.
+use mathlib.Core.Path.{_≡_, refl, ap}
 use mathlib.Core.List.{List, [], _∷_, _++_}
 use mathlib.Core.Option.{Option, none, some}
 use mathlib.Core.Bool.{Bool, true, false}
-use Prim.Native.Nat.{ℕ, zero, suc, _+_, _<_}
+use Prim.Native.Nat.{ℕ, _+_, _≤_, _<_}
 use native.Mathlib.Omega.{arith}
-use lib.ListN.{length}
+use lib.ListN.{length, take, drop, length-append, length-take}
+use lib.Seq.{take-at}
 use lib.Dec.{eqb, ltb, leb}
-use borrow.Author.Tests.{eqb-true, eq-eqb}
-use Rattle.wire.specs.Test.{if_then_else_, byTest, _=?_, _<?_}
-use Rattle.machine.specs.Machine.{BeginOutcome, Declined, Accepted, CallOutcome, Stays, Leaves, Closes, headerType, headerId, headerContent, headerPadding, Skip, Connection, Open, Closed, Item, ByteItem, CallItem, Observation, RequestEvent, NoticeEvent, CloseEvent, CountAnswer, CallAnswer, onItem}
-use Rattle.connection.specs.declared.request.Due.{Due}
-use Rattle.connection.specs.Sizes.{AREA}
-use Rattle.connection.specs.Event.{Event}
-use Rattle.connection.specs.Request.{Held, listOf, onHeader, grown, Ruled, isSpent, isInput, turnType, faulted, aborted, turned, paramsFault, paramsEnded, onParams, onStdin, onData, inTurn, onInput, onLive, opened, withLife, withTurn, afterParams, afterStdin}
-use Rattle.connection.specs.RequestCalls as Of
-use Rattle.connection.specs.Bytewise.{Note}
-use Rattle.runs.specs.Call.{Argument, Answer, ForValue, ForSource, ForPair, ForWalk, ForSay, ForEnd, ForFinish, Wrote, FinishedWith}
-use Rattle.runs.specs.Receiver.{receiver, receiveBegin, receiveCall, beginAs, finishedAs}
-use Rattle.runs.specs.History.{isFinish, isClose, parametersThen}
+use Rattle.wire.specs.Test.{if_then_else_, byTest}
+use Rattle.wire.specs.BufferLaws.{copied-room}
 use Rattle.record.specs.Names.{BEGIN-REQUEST, ABORT-REQUEST, RESPONDER, AUTHORIZER, FILTER, PARAMS}
 use Rattle.record.specs.Body.{beginBodyOf}
+use Rattle.machine.specs.Machine.{BeginOutcome, Declined, Accepted, CallOutcome, Stays, Leaves, Closes, Skip}
 use Rattle.connection.specs.declared.request.Turn.{Turn}
+use Rattle.connection.specs.declared.request.Due.{Due}
 use Rattle.connection.specs.declared.request.Role.{Role}
+use Rattle.connection.specs.Sizes.{AREA}
+use Rattle.connection.specs.Event.{Event}
+use Rattle.connection.specs.Request.{Held, Ruled, listOf, isSpent, isInput, turnType, faulted, aborted, turned, paramsFault, paramsEnded, onParams, onStdin, onData, inTurn, onInput, onLive, onHeader, grown, opened, withLife, withTurn, afterParams, afterStdin}
+use Rattle.connection.specs.RequestCalls as Of
+use Rattle.connection.specs.Laws.CuttingContent.{grown-room}
+use Rattle.connection.specs.Bytewise.{Note}
+use borrow.Author.Tests.{eqb-true, eq-eqb}
 use Rattle.connection.specs.declared.request.Request.{Request}
-use Rattle.machine.specs.Purge.{Scan, ScanHeader, ScanRest, scanLeft}
 use Rattle.connection.specs.RequestCalls.{inParams}
+use Rattle.runs.specs.Call.{Argument, ForValue, ForSource, ForPair, ForWalk, ForSay, ForEnd, ForFinish, Answer, Wrote, FinishedWith, refused}
+use Rattle.runs.specs.Receiver.{beginAs, receiveBegin, finishedAs, receiveCall}
+use Rattle.runs.specs.ReceiverLaws.{say-same, end-same}
+use Rattle.runs.specs.History.{opensOrFaults, tellsAnew, isFinish, isClose, takesAfter, takesTold}
 
--- ---- the history, from bytes and from what was told
--- the header of a PARAMS record of R
-abbrev pub isParamsHeader : ℕ → List ℕ → Bool
-isParamsHeader R h = if headerId h =? R then headerType h =? PARAMS else false
+-- ---- its list
+-- a header leaves the list, or empties it and tells so
+abbrev pub KeepsList : Held → Ruled → Type 0
+KeepsList h r = listOf (r .held) ≡ (if opensOrFaults (r .event) then [] else listOf h)
 
--- behind a header byte: are they fewer than eight still?
-unfoldable pub scanWholeParams : Bool → ℕ → List ℕ → Scan receiver
-scanWholeParams true R h = ScanHeader h
-scanWholeParams false R h = scanLeft receiver (isParamsHeader R h) (headerContent h) (headerPadding h)
+module _ (n : ℕ) (h : Held) where
+  list-faulted : (k : ℕ) → KeepsList h (faulted h k)
+  unfolding faulted
+  list-faulted k = refl
 
--- Where the byte behind b stands: in a header, or past one, with whether it is of a PARAMS record of R, and the content and padding left.
-unfoldable pub scanParams : ℕ → Scan receiver → ℕ → Scan receiver
-scanParams R (ScanHeader h) b = scanWholeParams (length (h ++ b ∷ []) <? 8) R (h ++ b ∷ [])
-scanParams R (ScanRest own (suc c) p) b = scanLeft receiver own c p
-scanParams R (ScanRest own zero (suc p)) b = scanLeft receiver own zero p
-scanParams R (ScanRest own zero zero) b = ScanHeader []
+  list-turned : (t : Turn) (e : Event) → opensOrFaults e ≡ false → KeepsList h (turned h t e)
+  unfolding turned
+  list-turned t e f = rw f
 
--- behind an item
-abbrev pub scanItem : ℕ → Scan receiver → Item receiver → Scan receiver
-scanItem R m (ByteItem b) = scanParams R m b
-scanItem R m (CallItem c) = m
+  list-ended : KeepsList h (paramsEnded h)
+  unfolding paramsEnded
+  list-ended = byTest (eqb (paramsFault (listOf h)) 0) (λ e. simp e (list-turned _ _ refl)) (λ e. simp e (list-faulted _))
 
--- an event of R: it takes PARAMS from its opening until it is ready, aborted or faulted
-abbrev pub takesAfter : Event → Bool → Bool
-takesAfter Event.None k = k
-takesAfter (Event.Open id role keep) k = true
-takesAfter (Event.Ready id n) k = false
-takesAfter (Event.Data id stream n) k = k
-takesAfter (Event.End id stream) k = k
-takesAfter (Event.Abort id) k = false
-takesAfter (Event.Refuse id n) k = k
-takesAfter (Event.Fault id n) k = false
-takesAfter (Event.Query conns reqs mpxs) k = k
-takesAfter (Event.Unknown kind) k = k
-takesAfter (Event.Closed n) k = k
+  list-params : KeepsList h (onParams n h)
+  unfolding onParams
+  list-params =
+      byTest (ltb AREA (h .request .length + n))
+      (λ e. simp e (list-faulted 24))
+      (λ e. byTest (eqb n 0) (λ z. simp (e, z) list-ended) (λ z. simp (e, z) refl))
 
--- what is told of R
-abbrev pub takesTold : Note → Bool → Bool
-takesTold (Note.Told e) k = takesAfter e k
-takesTold (Note.Shown id stream b) k = k
+  list-turn : (t : Turn) → KeepsList h (inTurn t n h)
+  unfolding onStdin onData
+  list-turn Turn.Params = list-params
+  list-turn Turn.Stdin = byTest (eqb n 0) (λ z. simp z (list-turned _ _ refl)) (λ z. simp z refl)
+  list-turn Turn.Data = byTest (eqb n 0) (λ z. simp z (list-turned _ _ refl)) (λ z. simp z refl)
+  list-turn Turn.Done = list-faulted 22
 
--- does R take PARAMS? It does not when it is finished or the connection closes.
-abbrev pub takesSeen : ℕ → Observation receiver → Bool → Bool
-takesSeen R (RequestEvent id n) k = if id =? R then takesTold n k else k
-takesSeen R (NoticeEvent w) k = k
-takesSeen R (CloseEvent n) k = false
-takesSeen R (CountAnswer T) k = k
-takesSeen R (CallAnswer id a n v w) k = if isFinish n then (if isClose n then false else if id =? R then false else k) else k
+  list-live : (kind : ℕ) → KeepsList h (onLive kind n h)
+  unfolding onLive onInput aborted
+  list-live kind =
+      byTest (eqb kind BEGIN-REQUEST)
+      (λ a. simp a (list-faulted 21))
+      (λ a. byTest (eqb kind ABORT-REQUEST)
+      (λ b. simp (a, b) refl)
+      (λ b. byTest (isInput kind)
+      (λ i. byTest (eqb kind (turnType (h .request .mark .turn))) (λ e. simp (a, b, i, e) (list-turn (h .request .mark .turn))) (λ e. simp (a, b, i, e) (list-faulted 22)))
+      (λ i. simp (a, b, i) (list-faulted 23))))
 
--- if something is observed
-abbrev pub takesThen : ℕ → Option (Observation receiver) → Bool → Bool
-takesThen R none k = k
-takesThen R (some o) k = takesSeen R o k
+  pub list-header : (kind : ℕ) → KeepsList h (onHeader kind n h)
+  unfolding onHeader
+  list-header kind = byTest (isSpent (h .request .mark .life)) (λ e. simp e refl) (λ e. simp e (list-live kind))
 
--- a byte is PARAMS content of R
-abbrev pub contentBy : Scan receiver → Bool → Item receiver → List ℕ
-contentBy (ScanHeader h) k x = []
-contentBy (ScanRest own zero p) k x = []
-contentBy (ScanRest own (suc c) p) k (ByteItem b) = if (if own then k else false) then b ∷ [] else []
-contentBy (ScanRest own (suc c) p) k (CallItem a) = []
+-- PARAMS content is added to the list
+pub list-grown : (h : Held) (b : ℕ) → h .request .length + 1 ≤ AREA → length (h .area) ≡ AREA → listOf (grown h (b ∷ [])) ≡ listOf h ++ b ∷ []
+list-grown h b l a =
+    let n = h .request .length in
+    let k : length (take n (h .area) ++ b ∷ []) ≡ n + 1 = simp (length-append, length-take) (omega (arith, a)) in
+    rw (grown-room h (b ∷ []) l, copied-room (h .area) n (b ∷ []) (omega (arith, a)))
+    (take-at (take n (h .area) ++ b ∷ []) (drop (n + 1) (h .area)) (n + 1) k)
 
--- R's parameters after the items of a timeline with what was observed at each, from a place in the bytes, from whether R takes PARAMS and from the parameters so far.
-unfoldable pub parametersBy : ℕ → Scan receiver → Bool → List ℕ → List (Item receiver × Option (Observation receiver)) → List ℕ
-parametersBy R m k l [] = l
-parametersBy R m k l ((x, o) ∷ t) = parametersBy R (scanItem R m x) (takesThen R o k) (parametersThen R o (contentBy m k x) l) t
+-- a BEGIN body is declined, or accepted with an empty list, and both are told
+abbrev pub BeginsAnew : BeginOutcome (List ℕ) Held Note → Type 0
+BeginsAnew (Declined e) = tellsAnew e ≡ false
+BeginsAnew (Accepted r e) = (tellsAnew e ≡ true) × ((x : List ℕ) → listOf (r x) ≡ [])
 
--- the items of a timeline, each with what is observed of it
-unfoldable pub witnessed : Connection receiver → List (Item receiver) → List (Item receiver × Option (Observation receiver))
-witnessed s [] = []
-witnessed s (x ∷ t) = (x, (onItem receiver s x) .1) ∷ witnessed ((onItem receiver s x) .0) t
+begins-as : (id : ℕ) (body : List ℕ) (role : Role) → BeginsAnew (beginAs id (beginBodyOf body) role)
+unfolding opened
+begins-as id body role = (refl, λ x. refl)
 
--- ---- one request
+pub begins : (id : ℕ) (body : List ℕ) → BeginsAnew (receiveBegin id body)
+unfolding receiveBegin
+begins id body =
+    byTest (eqb (beginBodyOf body .role) RESPONDER) (λ a. simp a (begins-as id body Role.Responder))
+    (λ a. byTest (eqb (beginBodyOf body .role) AUTHORIZER) (λ b. simp (a, b) (begins-as id body Role.Authorizer))
+    (λ b. byTest (eqb (beginBodyOf body .role) FILTER) (λ c. simp (a, b, c) (begins-as id body Role.Filter)) (λ c. simp (a, b, c) refl)))
+
+-- a call keeps the list, or the request is finished
+abbrev pub CallKeeps : Held → CallOutcome Held Answer → Type 0
+CallKeeps h (Stays q n) = (isFinish n ≡ false) × (listOf q ≡ listOf h)
+CallKeeps h (Leaves n) = (isFinish n ≡ true) × (isClose n ≡ false)
+CallKeeps h (Closes n) = (isFinish n ≡ true) × (isClose n ≡ true)
+
+finish-keeps : (keep : Bool) (h : Held) (w : Of.Wrote) → CallKeeps h (finishedAs keep h w)
+unfolding finishedAs
+finish-keeps keep h w = go (eqb (w .refusal) 0) refl keep
+  where
+    go : (a : Bool) → eqb (w .refusal) 0 ≡ a → (k : Bool)
+        → CallKeeps h
+        (if a then (if k then Leaves (FinishedWith 0 (w .written) false (w .buffer)) else Closes (FinishedWith 0 (w .written) true (w .buffer)))
+        else Stays h (FinishedWith (w .refusal) 0 false (w .buffer)))
+    go true e true = (refl, refl)
+    go true e false = (refl, refl)
+    go false e k = (e, refl)
+
+pub call-keeps : (a : Argument) (h : Held) → CallKeeps h (receiveCall a h)
+unfolding receiveCall
+call-keeps (ForValue name fallback) h = (refl, refl)
+call-keeps (ForSource name) h = (refl, refl)
+call-keeps (ForPair k) h = (refl, refl)
+call-keeps ForWalk h = (refl, refl)
+call-keeps (ForSay output bytes buffer) h = (refl, ap (λ n. take n (h .area)) (say-same (h .request) output bytes buffer .length))
+call-keeps (ForEnd output buffer) h = (refl, ap (λ n. take n (h .area)) (end-same (h .request) output buffer .length))
+call-keeps (ForFinish status buffer) h = finish-keeps (h .request .mark .keep) h (Of.finishIn (h .request) status buffer)
+
+pub refused-keeps : (n : ℕ) (a : Argument) → eqb n 0 ≡ false → isFinish (refused n a) ≡ false
+unfolding refused
+refused-keeps n (ForValue name fallback) e = refl
+refused-keeps n (ForSource name) e = refl
+refused-keeps n (ForPair k) e = refl
+refused-keeps n ForWalk e = refl
+refused-keeps n (ForSay output bytes buffer) e = refl
+refused-keeps n (ForEnd output buffer) e = refl
+refused-keeps n (ForFinish status buffer) e = e
+
+-- ---- whether it takes PARAMS
 -- it takes PARAMS: it is not spent, and it is their turn
 abbrev pub takes : Held → Bool
 takes h = if isSpent (h .request .mark .life) then false else inParams (h .request .mark .turn)
