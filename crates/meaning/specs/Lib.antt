@@ -4,3 +4,4 @@ pub mod Steps
 pub mod OneRecord
 pub mod Theorem
 pub mod Silence
+pub mod Instance
