@@ -10,4 +10,8 @@ pub mod RequestCalls
 pub mod Calls
 pub mod Bytewise
 pub mod Moved
+pub mod Arguments
+pub mod Run
+pub mod Isolation
 pub mod Laws
+pub mod Runs

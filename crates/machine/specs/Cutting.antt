@@ -10,17 +10,18 @@ use lib.Seq.{set-set}
 use lib.Dec.{ltb}
 use borrow.Author.Tests.{lt-ltb}
 use Rattle.machine.specs.Slots.{SlotState, Vacant, HeldBy, slotAt, slot-written}
-use Rattle.machine.specs.Machine.{Machine, Target, Skip, ToBegin, ToQuery, ToSlot, Reading, AtHeader, PastHeader, Slots, Connection, Open, Closed, Item, ByteItem, CallItem, Observation, Effect, eventFrom, withLeft, queryWhole, headerByte, beginWhole, streamByte, contentByte, recordByte, onItem, stateAfter, asList, observations, Ran, ran}
+use Rattle.machine.specs.Timeline.{Item, ByteItem, CallItem, byteItems}
+use Rattle.machine.specs.Machine.{Machine, Target, Skip, ToBegin, ToQuery, ToSlot, Reading, AtHeader, PastHeader, Slots, Connection, Open, Closed, Observation, Effect, eventFrom, withLeft, queryWhole, headerByte, beginWhole, streamByte, contentByte, recordByte, onItem, stateAfter, asList, observations, Ran, ran}
 use Rattle.machine.specs.RunLaws.{state-append, observations-append, padding-skipped}
 use Rattle.machine.specs.Laws.{requestAfter, eventList, eventsDuring, eventsShown, Bulk}
-use Rattle.machine.specs.Pieces.{needed, usedBytes, eventsFor, byteItems, Operation, StepOn, MakeCall, StepEffect, singly, severally, asStep, streamContent, contentBytes, neededBytes, onPiece, asObservations, runState, runObservations, timeline, operated}
+use Rattle.machine.specs.Pieces.{needed, usedBytes, eventsFor, Operation, StepOn, MakeCall, StepEffect, singly, severally, asStep, streamContent, contentBytes, neededBytes, onPiece, asObservations, runState, runObservations, timeline, operated}
 
 module _ (M : Machine) (U : Bulk M) where
   open Machine M using (Leftover, clean, Request, Stream, Event, onByte, onBegin, onQuery)
   open Bulk U using (DataEvent, eachByte, same-request, same-events)
 
   -- A step leads to what its bytes lead to one by one.
-  pub record CutsTo (A : StepEffect M U) (s : Connection M) (t : List (Item M)) : Type 0 where
+  pub record CutsTo (A : StepEffect M U) (s : Connection M) (t : List (Item (M .Argument))) : Type 0 where
     pub same-state : A .0 ≡ stateAfter M s t
     pub same-observations : asObservations M U (A .1) ≡ observations M s t
 
@@ -30,7 +31,7 @@ module _ (M : Machine) (U : Bulk M) where
   single-observation none = refl
   single-observation (some o) = refl
 
-  cut-after-first : {A : StepEffect M U} {t : List (Item M)} (s s′ : Connection M) (b : ℕ) → onItem M s (ByteItem b) ≡ (s′, none) → CutsTo A s′ t
+  cut-after-first : {A : StepEffect M U} {t : List (Item (M .Argument))} (s s′ : Connection M) (b : ℕ) → onItem M s (ByteItem b) ≡ (s′, none) → CutsTo A s′ t
       → CutsTo A s (ByteItem b ∷ t)
   unfolding stateAfter observations asList
   cut-after-first {A} {t} s s′ b e c = record {
@@ -48,7 +49,7 @@ module _ (M : Machine) (U : Bulk M) where
 
   -- ---- headers
   cut-header : (T : Slots M) (h : List ℕ) (b : ℕ) (x : List ℕ) → length h + length (b ∷ x) ≤ 8
-      → CutsTo (asStep M U (headerByte M (ltb (length (h ++ b ∷ x)) 8) T (h ++ b ∷ x))) (Open T (AtHeader h)) (byteItems M (b ∷ x))
+      → CutsTo (asStep M U (headerByte M (ltb (length (h ++ b ∷ x)) 8) T (h ++ b ∷ x))) (Open T (AtHeader h)) (byteItems (b ∷ x))
   unfolding byteItems onItem recordByte headerByte
   cut-header T h b [] n = cut-one (Open T (AtHeader h)) b
   cut-header T h b (d ∷ x) n =
@@ -59,7 +60,7 @@ module _ (M : Machine) (U : Bulk M) where
 
   -- ---- content that is skipped or gathered
   cut-skip : (T : Slots M) (c p b : ℕ) (x : List ℕ) → length x ≤ c
-      → CutsTo (Open T (withLeft M Skip (c - length x) p), none) (Open T (PastHeader Skip (suc c) p)) (byteItems M (b ∷ x))
+      → CutsTo (Open T (withLeft M Skip (c - length x) p), none) (Open T (PastHeader Skip (suc c) p)) (byteItems (b ∷ x))
   unfolding byteItems onItem recordByte contentByte withLeft asStep singly
   cut-skip T c p b [] n = rw (sub-zero c) (cut-one (Open T (PastHeader Skip (suc c) p)) b)
   cut-skip T zero p b (d ∷ x) n = absurd (omega arith)
@@ -73,7 +74,7 @@ module _ (M : Machine) (U : Bulk M) where
   begin-bytes T id g (suc c) p b x = ap {B = StepEffect M U} (λ l. (Open T (PastHeader (ToBegin id l) (suc c) p), none)) (append-assoc g (b ∷ []) x)
 
   cut-begin : (T : Slots M) (id : ℕ) (g : List ℕ) (c p b : ℕ) (x : List ℕ) → length x ≤ c
-      → CutsTo (contentBytes M U (ToBegin id g) (c - length x) p (b ∷ x) T) (Open T (PastHeader (ToBegin id g) (suc c) p)) (byteItems M (b ∷ x))
+      → CutsTo (contentBytes M U (ToBegin id g) (c - length x) p (b ∷ x) T) (Open T (PastHeader (ToBegin id g) (suc c) p)) (byteItems (b ∷ x))
   unfolding byteItems onItem recordByte contentByte asStep singly contentBytes
   cut-begin T id g zero p b [] n = cut-one (Open T (PastHeader (ToBegin id g) 1 p)) b
   cut-begin T id g (suc c) p b [] n = rw (sub-zero (suc c)) (cut-one (Open T (PastHeader (ToBegin id g) (suc (suc c)) p)) b)
@@ -88,7 +89,7 @@ module _ (M : Machine) (U : Bulk M) where
   query-bytes T g (suc c) p b x = ap {B = StepEffect M U} (λ l. (Open T (PastHeader (ToQuery l) (suc c) p), none)) (append-assoc g (b ∷ []) x)
 
   cut-query : (T : Slots M) (g : List ℕ) (c p b : ℕ) (x : List ℕ) → length x ≤ c
-      → CutsTo (contentBytes M U (ToQuery g) (c - length x) p (b ∷ x) T) (Open T (PastHeader (ToQuery g) (suc c) p)) (byteItems M (b ∷ x))
+      → CutsTo (contentBytes M U (ToQuery g) (c - length x) p (b ∷ x) T) (Open T (PastHeader (ToQuery g) (suc c) p)) (byteItems (b ∷ x))
   unfolding byteItems onItem recordByte contentByte asStep singly contentBytes
   cut-query T g zero p b [] n = cut-one (Open T (PastHeader (ToQuery g) 1 p)) b
   cut-query T g (suc c) p b [] n = rw (sub-zero (suc c)) (cut-one (Open T (PastHeader (ToQuery g) (suc (suc c)) p)) b)
@@ -105,8 +106,8 @@ module _ (M : Machine) (U : Bulk M) where
 
   -- its bytes one by one
   record StreamBytes (T : Slots M) (i id : ℕ) (k : Stream) (c p : ℕ) (b : ℕ) (x : List ℕ) (r : Request) : Type 0 where
-    state-is : stateAfter M (Open T (PastHeader (ToSlot i k) (suc c) p)) (byteItems M (b ∷ x)) ≡ Open (set T i (HeldBy id (requestAfter M k (b ∷ x) r))) (withLeft M (ToSlot i k) (c - length x) p)
-    observations-are : observations M (Open T (PastHeader (ToSlot i k) (suc c) p)) (byteItems M (b ∷ x)) ≡ eventsFor M id (eventsDuring M k (b ∷ x) r)
+    state-is : stateAfter M (Open T (PastHeader (ToSlot i k) (suc c) p)) (byteItems (b ∷ x)) ≡ Open (set T i (HeldBy id (requestAfter M k (b ∷ x) r))) (withLeft M (ToSlot i k) (c - length x) p)
+    observations-are : observations M (Open T (PastHeader (ToSlot i k) (suc c) p)) (byteItems (b ∷ x)) ≡ eventsFor M id (eventsDuring M k (b ∷ x) r)
 
   first-stream-byte : (T : Slots M) (i id : ℕ) (k : Stream) (c p b : ℕ) (r : Request) → slotAt clean T i ≡ HeldBy id r
       → onItem M (Open T (PastHeader (ToSlot i k) (suc c) p)) (ByteItem b) ≡ (Open (set T i (HeldBy id ((onByte k b r) .0))) (withLeft M (ToSlot i k) c p), eventFrom M id ((onByte k b r) .1))
@@ -128,9 +129,9 @@ module _ (M : Machine) (U : Bulk M) where
       let f = first-stream-byte T i id k (suc c) p b r e in
       record {
         state-is =
-            ap (λ (w : Effect M). stateAfter M (w .0) (byteItems M (d ∷ x))) f ∙ h .state-is ∙ rw (set-set T i (HeldBy id q) (HeldBy id (requestAfter M k (d ∷ x) q)), suc-sub-suc c (length x));
+            ap (λ (w : Effect M). stateAfter M (w .0) (byteItems (d ∷ x))) f ∙ h .state-is ∙ rw (set-set T i (HeldBy id q) (HeldBy id (requestAfter M k (d ∷ x) q)), suc-sub-suc c (length x));
         observations-are =
-            ap (λ (w : Effect M). asList M (w .1) ++ observations M (w .0) (byteItems M (d ∷ x))) f
+            ap (λ (w : Effect M). asList M (w .1) ++ observations M (w .0) (byteItems (d ∷ x))) f
             ∙ ap (λ l. asList M (eventFrom M id ((onByte k b r) .1)) ++ l) (h .observations-are)
             ∙ sym (events-first id ((onByte k b r) .1) (eventsDuring M k (d ∷ x) q));
       }
@@ -147,7 +148,7 @@ module _ (M : Machine) (U : Bulk M) where
   first-vacant-byte T i k c p b y e = rw e
 
   cut-vacant : (T : Slots M) (i : ℕ) (k : Stream) (c p b : ℕ) (x : List ℕ) (y : Leftover) → slotAt clean T i ≡ Vacant y → length x ≤ c
-      → CutsTo (Open T (withLeft M Skip (c - length x) p), none) (Open T (PastHeader (ToSlot i k) (suc c) p)) (byteItems M (b ∷ x))
+      → CutsTo (Open T (withLeft M Skip (c - length x) p), none) (Open T (PastHeader (ToSlot i k) (suc c) p)) (byteItems (b ∷ x))
   unfolding byteItems withLeft
   cut-vacant T i k c p b [] y e n = rw (sub-zero c) (cut-after-first _ _ b (first-vacant-byte T i k c p b y e) (cut-none _))
   cut-vacant T i k zero p b (d ∷ x) y e n = absurd (omega arith)
@@ -155,7 +156,7 @@ module _ (M : Machine) (U : Bulk M) where
       rw (suc-sub-suc c (length x)) (cut-after-first _ _ b (first-vacant-byte T i k (suc c) p b y e) (cut-skip T c p d x (omega arith)))
 
   cut-slot : (T : Slots M) (i : ℕ) (k : Stream) (c p b : ℕ) (x : List ℕ) (o : SlotState Leftover Request) → slotAt clean T i ≡ o → length x ≤ c
-      → CutsTo (streamContent M U o i k (c - length x) p (b ∷ x) T) (Open T (PastHeader (ToSlot i k) (suc c) p)) (byteItems M (b ∷ x))
+      → CutsTo (streamContent M U o i k (c - length x) p (b ∷ x) T) (Open T (PastHeader (ToSlot i k) (suc c) p)) (byteItems (b ∷ x))
   unfolding streamContent
   cut-slot T i k c p b x (Vacant y) e n = cut-vacant T i k c p b x y e n
   cut-slot T i k c p b x (HeldBy id r) e n =
@@ -167,7 +168,7 @@ module _ (M : Machine) (U : Bulk M) where
 
   -- ---- padding and all together
   cut-padding : (T : Slots M) (s : Target M) (p b : ℕ) (x : List ℕ) → length x ≤ p
-      → CutsTo (Open T (withLeft M s zero (p - length x)), none) (Open T (PastHeader s zero (suc p))) (byteItems M (b ∷ x))
+      → CutsTo (Open T (withLeft M s zero (p - length x)), none) (Open T (PastHeader s zero (suc p))) (byteItems (b ∷ x))
   unfolding byteItems onItem recordByte withLeft asStep singly
   cut-padding T s p b [] n = rw (sub-zero p) (cut-one (Open T (PastHeader s zero (suc p))) b)
   cut-padding T s zero b (d ∷ x) n = absurd (omega arith)
@@ -176,14 +177,14 @@ module _ (M : Machine) (U : Bulk M) where
       (cut-after-first (Open T (PastHeader s zero (suc (suc p)))) (Open T (PastHeader Skip zero (suc p))) b refl (cut-padding T Skip p d x (omega arith)))
 
   cut-content : (T : Slots M) (s : Target M) (c p b : ℕ) (x : List ℕ) → length x ≤ c
-      → CutsTo (contentBytes M U s (c - length x) p (b ∷ x) T) (Open T (PastHeader s (suc c) p)) (byteItems M (b ∷ x))
+      → CutsTo (contentBytes M U s (c - length x) p (b ∷ x) T) (Open T (PastHeader s (suc c) p)) (byteItems (b ∷ x))
   unfolding contentBytes
   cut-content T Skip c p b x n = cut-skip T c p b x n
   cut-content T (ToBegin id g) c p b x n = cut-begin T id g c p b x n
   cut-content T (ToQuery g) c p b x n = cut-query T g c p b x n
   cut-content T (ToSlot i k) c p b x n = cut-slot T i k c p b x (slotAt clean T i) refl n
 
-  cut-record : (T : Slots M) (F : Reading M) (x : List ℕ) → length x ≤ needed M F → CutsTo (neededBytes M U T F x) (Open T F) (byteItems M x)
+  cut-record : (T : Slots M) (F : Reading M) (x : List ℕ) → length x ≤ needed M F → CutsTo (neededBytes M U T F x) (Open T F) (byteItems x)
   unfolding neededBytes needed stateAfter observations byteItems asObservations
   cut-record T F [] n = record { same-state = refl; same-observations = refl }
   cut-record T (AtHeader h) (b ∷ x) n = cut-header T h b x (omega arith)
@@ -192,7 +193,7 @@ module _ (M : Machine) (U : Bulk M) where
   cut-record T (PastHeader s zero (suc p)) (b ∷ x) n = rw (suc-sub-suc p (length x)) (cut-padding T s p b x (omega arith))
 
   -- A step over any piece, from any state.
-  pub piece-cut : (s : Connection M) (x : List ℕ) → CutsTo (onPiece M U s x) s (byteItems M (usedBytes M s x))
+  pub piece-cut : (s : Connection M) (x : List ℕ) → CutsTo (onPiece M U s x) s (byteItems (usedBytes M s x))
   unfolding onPiece usedBytes stateAfter observations byteItems asObservations
   piece-cut Closed x = record { same-state = refl; same-observations = refl }
   piece-cut (Open T F) x = cut-record T F (take (needed M F) x) (simp length-take (omega arith))
@@ -204,7 +205,7 @@ module _ (M : Machine) (U : Bulk M) where
   run-state s [] = refl
   run-state s (StepOn x ∷ os) =
       let u = timeline M U ((onPiece M U s x) .0) os in
-      run-state ((onPiece M U s x) .0) os ∙ ap (λ w. stateAfter M w u) ((piece-cut s x) .same-state) ∙ sym (state-append M s (byteItems M (usedBytes M s x)) u)
+      run-state ((onPiece M U s x) .0) os ∙ ap (λ w. stateAfter M w u) ((piece-cut s x) .same-state) ∙ sym (state-append M s (byteItems (usedBytes M s x)) u)
   run-state s (MakeCall c ∷ os) = run-state ((onItem M s (CallItem c)) .0) os
 
   pub run-observations : (s : Connection M) (os : List (Operation M)) → runObservations M U s os ≡ observations M s (timeline M U s os)
@@ -212,9 +213,9 @@ module _ (M : Machine) (U : Bulk M) where
   run-observations s [] = refl
   run-observations s (StepOn x ∷ os) =
       let u = timeline M U ((onPiece M U s x) .0) os in
-      let e : runObservations M U ((onPiece M U s x) .0) os ≡ observations M (stateAfter M s (byteItems M (usedBytes M s x))) u =
+      let e : runObservations M U ((onPiece M U s x) .0) os ≡ observations M (stateAfter M s (byteItems (usedBytes M s x))) u =
       run-observations ((onPiece M U s x) .0) os ∙ ap (λ w. observations M w u) ((piece-cut s x) .same-state) in
-      ap₂ (λ a b. a ++ b) ((piece-cut s x) .same-observations) e ∙ sym (observations-append M s (byteItems M (usedBytes M s x)) u)
+      ap₂ (λ a b. a ++ b) ((piece-cut s x) .same-observations) e ∙ sym (observations-append M s (byteItems (usedBytes M s x)) u)
   run-observations s (MakeCall c ∷ os) = ap (λ l. asList M ((onItem M s (CallItem c)) .1) ++ l) (run-observations ((onItem M s (CallItem c)) .0) os)
 
   pub run-is-timeline : (s : Connection M) (os : List (Operation M)) → operated M U s os ≡ ran M s (timeline M U s os)

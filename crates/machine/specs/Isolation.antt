@@ -5,8 +5,8 @@ use mathlib.Core.Option.{Option}
 use mathlib.Core.Bool.{true, false}
 use Prim.Native.Nat.{ℕ, _<_}
 use native.Mathlib.Omega.{arith}
-use Rattle.machine.specs.Machine.{Machine, Reading, AtHeader, Slots, Connection, Open, Item, Ran, ranFresh, observed, requestIn}
-use Rattle.machine.specs.Purge.{Scan, purge}
+use Rattle.machine.specs.Timeline.{Item, Scan, purge}
+use Rattle.machine.specs.Machine.{Machine, Reading, AtHeader, Slots, Connection, Open, Ran, ranFresh, observed, requestIn}
 use Rattle.machine.specs.SimulationRelation.{aloneSlots, Readings, BothInHeader, InOwnRecord, InOthersRecord, contains-request, alone-request}
 use Rattle.machine.specs.Simulation.{EndsOpen, NeverOverloaded, simulation-from-fresh}
 
@@ -25,7 +25,7 @@ module _ (M : Machine) (R : ℕ) where
     pub same-request : requestIn M R (B .state) ≡ requestIn M R (A .state)
 
   -- where the whole run is between two records, so is the purged one
-  both-between : {T : Slots M} {v : Option Request} {m : Scan M} {F F′ : Reading M} → Readings M R T [] v m F F′ → F ≡ AtHeader [] → F′ ≡ AtHeader []
+  both-between : {T : Slots M} {v : Option Request} {m : Scan} {F F′ : Reading M} → Readings M R T [] v m F F′ → F ≡ AtHeader [] → F′ ≡ AtHeader []
   both-between (BothInHeader {h = h} true e) d = d
   both-between (BothInHeader {h = h} false e) d = refl
   both-between (InOwnRecord x) d = cc
@@ -33,8 +33,8 @@ module _ (M : Machine) (R : ℕ) where
 
   -- The item theorem. Take any timeline t, bytes and calls of many requests in any order, and what purging leaves of it: R's records and R's calls. Run both from a fresh start with the same number of slots. Then the run of what is left ends open and between two records; it shows the same events of R and gives R's calls the same answers, in the same order and with the same request before and after each; and the request of R at the end is the same.
   -- Why each premise. R is not 0: records of id 0 are management records and belong to no request. The whole run ends open: a close by others ends R too. It ends between two records: the bytes of a header that is cut off belong to no id yet, and what is said of the end of the second run is said of a whole number of records. R is nowhere refused for want of a slot: that others hold all slots is the one thing of them that R can notice. There is a slot at all (suc n), as R needs one.
-  pub isolation : (n : ℕ) (t : List (Item M)) → 0 < R → BetweenRecords M (ranFresh M n t .state) → NeverOverloaded M R (ranFresh M n t)
-      → Isolated (ranFresh M n t) (ranFresh M n (purge M R t))
+  pub isolation : (n : ℕ) (t : List (Item (M .Argument))) → 0 < R → BetweenRecords M (ranFresh M n t .state) → NeverOverloaded M R (ranFresh M n t)
+      → Isolated (ranFresh M n t) (ranFresh M n (purge R t))
   isolation n t z a r =
       let o : EndsOpen M R (ranFresh M n t) = λ d. let y : _≡_ {A = ℕ} 0 1 = cc (a .is-open) in omega arith in
       let e = simulation-from-fresh M R n t z o r in

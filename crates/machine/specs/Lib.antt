@@ -1,4 +1,6 @@
 pub mod Slots
+pub mod Timeline
+pub mod TimelineLaws
 pub mod Machine
 pub mod Purge
 pub mod RunLaws

@@ -4,7 +4,8 @@ use mathlib.Core.List.{List, _++_}
 use mathlib.Core.Option.{Option, none, some}
 use Prim.Native.Nat.{ℕ, suc, _<_}
 use borrow.Author.Tests.{eq-eqb}
-use Rattle.machine.specs.Machine.{Machine, fresh, Item, Observation, eventFrom, stateAfter, asList, ranFresh, concerns, observed, requestIn}
+use Rattle.machine.specs.Timeline.{Item}
+use Rattle.machine.specs.Machine.{Machine, fresh, Observation, eventFrom, stateAfter, asList, ranFresh, concerns, observed, requestIn}
 use Rattle.machine.specs.SimulationRelation.{LifeStep, NothingHappens, OwnHeader, OwnByte, IsDeclined, IsAccepted, CallInactive, CallStays, CallLeaves, contains-request}
 use Rattle.machine.specs.Simulation.{Lifetime, LifeEnds, LifeGoesOn, EndsOpen, NeverOverloaded, simulation-from-fresh}
 
@@ -35,7 +36,7 @@ module _ (M : Machine) (R : ℕ) where
   life-observed (LifeGoesOn {o = o} {os = os} x h) = step-observed os x ∙ ap (λ l. asList M o ++ l) (life-observed h)
 
   -- In a run from a fresh start that ends open and never refuses R for want of a slot, what is observed of R is a life that ends with R as it stands.
-  pub life-of : (n : ℕ) (t : List (Item M)) → 0 < R → EndsOpen M R (ranFresh M n t) → NeverOverloaded M R (ranFresh M n t)
+  pub life-of : (n : ℕ) (t : List (Item (M .Argument))) → 0 < R → EndsOpen M R (ranFresh M n t) → NeverOverloaded M R (ranFresh M n t)
       → Lifetime M R none (observed M R (ranFresh M n t .seen)) (requestIn M R (ranFresh M n t .state))
   life-of n t z o r =
       let e = simulation-from-fresh M R n t z o r in

@@ -5,8 +5,7 @@ use mathlib.Core.Bool.{Bool, true, false}
 use Prim.Native.Nat.{ℕ, zero, suc}
 use lib.ListN.{length, set, replicate}
 use Rattle.wire.specs.Test.{if_then_else_, _<?_, _=?_}
-use Rattle.wire.specs.Buffer.{byteAt}
-use Rattle.wire.specs.Number.{number2}
+use Rattle.machine.specs.Timeline.{RequestCall, CountCall, Item, ByteItem, CallItem, headerVersion, headerType, headerId, headerContent, headerPadding}
 use Rattle.machine.specs.Slots.{SlotState, Vacant, HeldBy, Lookup, Absent, FoundAt, Vacancy, NoVacancy, VacancyAt, lookup, firstVacancy, slotAt}
 
 -- ---- what one request decides
@@ -67,27 +66,6 @@ pub record Machine : Type 1 where
   pub whenInactive : Argument → Answer
   pub whenClosed : Argument → Answer
 
--- ---- the fields of a header of eight bytes
--- the version
-unfoldable pub headerVersion : List ℕ → ℕ
-headerVersion h = byteAt h 0
-
--- the record type
-unfoldable pub headerType : List ℕ → ℕ
-headerType h = byteAt h 1
-
--- the request id
-unfoldable pub headerId : List ℕ → ℕ
-headerId h = number2 (byteAt h 2) (byteAt h 3)
-
--- the content length
-unfoldable pub headerContent : List ℕ → ℕ
-headerContent h = number2 (byteAt h 4) (byteAt h 5)
-
--- the padding length
-unfoldable pub headerPadding : List ℕ → ℕ
-headerPadding h = byteAt h 6
-
 module _ (M : Machine) where
   open Machine M using (Leftover, clean, Request, Stream, Event, Notice, Argument, Answer, onHeader, onByte, onBegin, overloaded, onInactive, onManagement, onQuery, onCall, whenInactive, whenClosed)
 
@@ -117,17 +95,7 @@ module _ (M : Machine) where
   unfoldable pub fresh : ℕ → Connection
   fresh n = Open (replicate n (Vacant clean)) (AtHeader [])
 
-  -- ---- items and observations
-  -- A call names the request that it is for; the active number names nobody.
-  pub data Call : Type 0 where
-    RequestCall : ℕ → Argument → Call
-    CountCall : Call
-
-  -- One item of a timeline: a byte that was used, or a call.
-  pub data Item : Type 0 where
-    ByteItem : ℕ → Item
-    CallItem : Call → Item
-
+  -- ---- observations
   -- What is observed: an event of a request, one of a management record, a close with its number, the slots that the active number is counted from (none: closed), and the answer of a call with the request before and after it.
   pub data Observation : Type 0 where
     RequestEvent : ℕ → Event → Observation
@@ -263,7 +231,7 @@ module _ (M : Machine) where
 
   -- ---- runs
   -- one item
-  unfoldable pub onItem : Connection → Item → Effect
+  unfoldable pub onItem : Connection → Item Argument → Effect
   onItem Closed (ByteItem b) = (Closed, none)
   onItem Closed (CallItem (RequestCall id a)) = (Closed, some (CallAnswer id a (whenClosed a) none none))
   onItem Closed (CallItem CountCall) = (Closed, some (CountAnswer none))
@@ -272,7 +240,7 @@ module _ (M : Machine) where
   onItem (Open T F) (CallItem CountCall) = (Open T F, some (CountAnswer (some T)))
 
   -- the state after the items of a timeline
-  unfoldable pub stateAfter : Connection → List Item → Connection
+  unfoldable pub stateAfter : Connection → List (Item Argument) → Connection
   stateAfter s [] = s
   stateAfter s (x ∷ t) = stateAfter ((onItem s x) .0) t
 
@@ -282,7 +250,7 @@ module _ (M : Machine) where
   asList (some o) = o ∷ []
 
   -- what is observed on the way, in order
-  unfoldable pub observations : Connection → List Item → List Observation
+  unfoldable pub observations : Connection → List (Item Argument) → List Observation
   observations s [] = []
   observations s (x ∷ t) = asList ((onItem s x) .1) ++ observations ((onItem s x) .0) t
 
@@ -292,11 +260,11 @@ module _ (M : Machine) where
     pub seen : List Observation
 
   -- the run of a timeline from a state
-  abbrev pub ran : Connection → List Item → Ran
+  abbrev pub ran : Connection → List (Item Argument) → Ran
   ran s t = record { state = stateAfter s t; seen = observations s t }
 
   -- the run from a fresh start with n + 1 slots
-  abbrev pub ranFresh : ℕ → List Item → Ran
+  abbrev pub ranFresh : ℕ → List (Item Argument) → Ran
   ranFresh n t = ran (fresh (suc n)) t
 
   -- ---- what is R's

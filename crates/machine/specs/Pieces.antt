@@ -5,7 +5,8 @@ use Prim.Native.Nat.{ℕ, zero, suc, _-_}
 use lib.ListN.{length, set, take}
 use Rattle.wire.specs.Test.{_<?_}
 use Rattle.machine.specs.Slots.{SlotState, Vacant, HeldBy, slotAt}
-use Rattle.machine.specs.Machine.{Machine, Target, Skip, ToBegin, ToQuery, ToSlot, Reading, AtHeader, PastHeader, Slots, Connection, Open, Closed, fresh, Call, Item, ByteItem, CallItem, Observation, RequestEvent, Effect, withLeft, queryWhole, headerByte, beginWhole, onItem, asList, Ran}
+use Rattle.machine.specs.Timeline.{Call, Item, CallItem, byteItems}
+use Rattle.machine.specs.Machine.{Machine, Target, Skip, ToBegin, ToQuery, ToSlot, Reading, AtHeader, PastHeader, Slots, Connection, Open, Closed, fresh, Observation, RequestEvent, Effect, withLeft, queryWhole, headerByte, beginWhole, onItem, asList, Ran}
 use Rattle.machine.specs.Laws.{Bulk}
 
 module _ (M : Machine) where
@@ -28,15 +29,10 @@ module _ (M : Machine) where
   eventsFor id [] = []
   eventsFor id (e ∷ es) = RequestEvent id e ∷ eventsFor id es
 
-  -- bytes as items of a timeline
-  unfoldable pub byteItems : List ℕ → List (Item M)
-  byteItems [] = []
-  byteItems (b ∷ x) = ByteItem b ∷ byteItems x
-
   -- An operation: a step over a piece, or a call.
   pub data Operation : Type 0 where
     StepOn : List ℕ → Operation
-    MakeCall : Call M → Operation
+    MakeCall : Call (M .Argument) → Operation
 
 module _ (M : Machine) (U : Bulk M) where
   open Machine M using (Leftover, clean, Request, Stream, onBegin, onQuery)
@@ -112,9 +108,9 @@ module _ (M : Machine) (U : Bulk M) where
   runObservations s (MakeCall c ∷ os) = asList M ((onItem M s (CallItem c)) .1) ++ runObservations ((onItem M s (CallItem c)) .0) os
 
   -- The timeline of a run: the bytes that its steps used and its calls, in order.
-  unfoldable pub timeline : Connection M → List (Operation M) → List (Item M)
+  unfoldable pub timeline : Connection M → List (Operation M) → List (Item (M .Argument))
   timeline s [] = []
-  timeline s (StepOn x ∷ os) = byteItems M (usedBytes M s x) ++ timeline ((onPiece s x) .0) os
+  timeline s (StepOn x ∷ os) = byteItems (usedBytes M s x) ++ timeline ((onPiece s x) .0) os
   timeline s (MakeCall c ∷ os) = CallItem c ∷ timeline ((onItem M s (CallItem c)) .0) os
 
   -- a run of operations: where it ends, and what was observed
@@ -126,5 +122,5 @@ module _ (M : Machine) (U : Bulk M) where
   operatedFresh n os = operated (fresh M (suc n)) os
 
   -- and its timeline
-  abbrev pub timelineFresh : ℕ → List (Operation M) → List (Item M)
+  abbrev pub timelineFresh : ℕ → List (Operation M) → List (Item (M .Argument))
   timelineFresh n os = timeline (fresh M (suc n)) os

@@ -1,4 +1,4 @@
--- Purging a timeline (striking out): of its bytes those of R's records stay, of its calls those that name R. Below the definition two theorems say that it is so.
+-- What purging leaves of a timeline is R's records, whole and in order, and R's calls.
 use mathlib.Core.Path.{_≡_, refl, ap, sym, _∙_}
 use mathlib.Core.List.{List, [], _∷_, _++_, append-assoc}
 use mathlib.Core.Bool.{Bool, true, false}
@@ -7,61 +7,8 @@ use native.Mathlib.Omega.{arith}
 use lib.ListN.{length, List·getD-append, length-append}
 use lib.Dec.{eqb}
 use borrow.Author.Tests.{lt-ltb, le-ltb}
-use Rattle.wire.specs.Test.{if_then_else_, _<?_, _=?_}
-use Rattle.machine.specs.Machine.{Machine, headerId, headerContent, headerPadding, Call, RequestCall, CountCall, Item, ByteItem, CallItem}
-
--- ---- the definition
--- Whether a byte of a header is R's is decided by the id of the whole header: it is read from the bytes that are in and those that still come.
-module _ (M : Machine) where
-  -- the bytes of a timeline, without its calls
-  unfoldable pub itemBytes : List (Item M) → List ℕ
-  itemBytes [] = []
-  itemBytes (ByteItem b ∷ t) = b ∷ itemBytes t
-  itemBytes (CallItem c ∷ t) = itemBytes t
-
-  -- Where the next byte stands: in a header, with the bytes of it that are in; or past a header, with whether the record is R's and its content and padding left.
-  pub data Scan : Type 0 where
-    ScanHeader : List ℕ → Scan
-    ScanRest : Bool → ℕ → ℕ → Scan
-
-  -- with so much left of the record
-  unfoldable pub scanLeft : Bool → ℕ → ℕ → Scan
-  scanLeft k zero zero = ScanHeader []
-  scanLeft k zero (suc p) = ScanRest k zero (suc p)
-  scanLeft k (suc c) p = ScanRest k (suc c) p
-
-  -- behind a header byte: are they fewer than eight still?
-  unfoldable pub scanWhole : Bool → ℕ → List ℕ → Scan
-  scanWhole true R h = ScanHeader h
-  scanWhole false R h = scanLeft (headerId h =? R) (headerContent h) (headerPadding h)
-
-  -- behind any byte
-  unfoldable pub scanNext : ℕ → Scan → ℕ → Scan
-  scanNext R (ScanHeader h) b = scanWhole (length (h ++ b ∷ []) <? 8) R (h ++ b ∷ [])
-  scanNext R (ScanRest k (suc c) p) b = scanLeft k c p
-  scanNext R (ScanRest k zero (suc p)) b = scanLeft k zero p
-  scanNext R (ScanRest k zero zero) b = ScanHeader []
-
-  -- is the first of the bytes that still come one of R's record?
-  unfoldable pub isOwn : ℕ → Scan → List ℕ → Bool
-  isOwn R (ScanHeader h) l = headerId (h ++ l) =? R
-  isOwn R (ScanRest k c p) l = k
-
-  -- does a call name R?
-  unfoldable pub isOwnCall : ℕ → Call M → Bool
-  isOwnCall R (RequestCall id a) = id =? R
-  isOwnCall R CountCall = false
-
-  -- what stays of a timeline from there on
-  unfoldable pub purgeFrom : ℕ → Scan → List (Item M) → List (Item M)
-  purgeFrom R m [] = []
-  purgeFrom R m (ByteItem b ∷ t) =
-      if isOwn R m (b ∷ itemBytes t) then ByteItem b ∷ purgeFrom R (scanNext R m b) t else purgeFrom R (scanNext R m b) t
-  purgeFrom R m (CallItem c ∷ t) = if isOwnCall R c then CallItem c ∷ purgeFrom R m t else purgeFrom R m t
-
-  -- what stays of a timeline that begins between two records
-  abbrev pub purge : ℕ → List (Item M) → List (Item M)
-  purge R t = purgeFrom R (ScanHeader []) t
+use Rattle.wire.specs.Test.{if_then_else_, _=?_}
+use Rattle.machine.specs.Timeline.{Call, Item, ByteItem, CallItem, itemBytes, headerId, headerContent, headerPadding, Scan, ScanHeader, scanLeft, scanWhole, scanNext, isOwn, isOwnCall, purgeFrom, purge}
 
 -- a header's first eight bytes tell its id
 pub header-id-known : (h l : List ℕ) → 8 ≤ length h → headerId (h ++ l) ≡ headerId h
@@ -104,30 +51,30 @@ unfolding keepIf
 keep-nil true l = refl
 keep-nil false l = refl
 
-module _ (M : Machine) (R : ℕ) where
+module _ (Argument : Type 0) (R : ℕ) where
   -- the bytes that stay, without calls among them
-  keptBytes : Scan M → List ℕ → List ℕ
+  keptBytes : Scan → List ℕ → List ℕ
   keptBytes m [] = []
-  keptBytes m (b ∷ l) = if isOwn M R m (b ∷ l) then b ∷ keptBytes (scanNext M R m b) l else keptBytes (scanNext M R m b) l
+  keptBytes m (b ∷ l) = if isOwn R m (b ∷ l) then b ∷ keptBytes (scanNext R m b) l else keptBytes (scanNext R m b) l
 
-  bytes-if-byte : (k : Bool) (b : ℕ) (t : List (Item M)) → itemBytes M (if k then ByteItem b ∷ t else t) ≡ (if k then b ∷ itemBytes M t else itemBytes M t)
+  bytes-if-byte : (k : Bool) (b : ℕ) (t : List (Item Argument)) → itemBytes (if k then ByteItem b ∷ t else t) ≡ (if k then b ∷ itemBytes t else itemBytes t)
   unfolding itemBytes
   bytes-if-byte true b t = refl
   bytes-if-byte false b t = refl
 
-  bytes-if-call : (k : Bool) (c : Call M) (t : List (Item M)) → itemBytes M (if k then CallItem c ∷ t else t) ≡ itemBytes M t
+  bytes-if-call : (k : Bool) (c : Call Argument) (t : List (Item Argument)) → itemBytes (if k then CallItem c ∷ t else t) ≡ itemBytes t
   unfolding itemBytes
   bytes-if-call true c t = refl
   bytes-if-call false c t = refl
 
-  bytes-purged : (m : Scan M) (t : List (Item M)) → itemBytes M (purgeFrom M R m t) ≡ keptBytes m (itemBytes M t)
+  bytes-purged : (m : Scan) (t : List (Item Argument)) → itemBytes (purgeFrom R m t) ≡ keptBytes m (itemBytes t)
   unfolding itemBytes purgeFrom keptBytes
   bytes-purged m [] = refl
-  bytes-purged m (ByteItem b ∷ t) = bytes-if-byte (isOwn M R m (b ∷ itemBytes M t)) b (purgeFrom M R (scanNext M R m b) t) ∙ rw (bytes-purged (scanNext M R m b) t)
-  bytes-purged m (CallItem c ∷ t) = bytes-if-call (isOwnCall M R c) c (purgeFrom M R m t) ∙ bytes-purged m t
+  bytes-purged m (ByteItem b ∷ t) = bytes-if-byte (isOwn R m (b ∷ itemBytes t)) b (purgeFrom R (scanNext R m b) t) ∙ rw (bytes-purged (scanNext R m b) t)
+  bytes-purged m (CallItem c ∷ t) = bytes-if-call (isOwnCall R c) c (purgeFrom R m t) ∙ bytes-purged m t
 
   -- the rest of a record
-  kept-past-header : (k : Bool) (c p : ℕ) (y l : List ℕ) → length y ≡ c + p → keptBytes (scanLeft M k c p) (y ++ l) ≡ keepIf k y ++ keptBytes (ScanHeader []) l
+  kept-past-header : (k : Bool) (c p : ℕ) (y l : List ℕ) → length y ≡ c + p → keptBytes (scanLeft k c p) (y ++ l) ≡ keepIf k y ++ keptBytes (ScanHeader []) l
   unfolding keptBytes scanLeft isOwn scanNext
   kept-past-header k zero zero [] l e = sym (keep-nil k (keptBytes (ScanHeader []) l))
   kept-past-header k zero zero (b ∷ y) l e = absurd (omega arith)
@@ -169,34 +116,34 @@ module _ (M : Machine) (R : ℕ) where
       go false = refl
 
   -- Where the bytes of a timeline are whole records, purging leaves just the records of R, in their order.
-  pub purge-leaves-records : (t : List (Item M)) (rs : List WireRecord) → itemBytes M t ≡ onWire rs → itemBytes M (purge M R t) ≡ onWire (recordsOf R rs)
+  pub purge-leaves-records : (t : List (Item Argument)) (rs : List WireRecord) → itemBytes t ≡ onWire rs → itemBytes (purge R t) ≡ onWire (recordsOf R rs)
   purge-leaves-records t rs e = bytes-purged (ScanHeader []) t ∙ ap (keptBytes (ScanHeader [])) e ∙ kept-on-wire rs
 
   -- ---- a check: calls
   -- the calls of a timeline, without its bytes
-  unfoldable pub callsIn : List (Item M) → List (Call M)
+  unfoldable pub callsIn : List (Item Argument) → List (Call Argument)
   callsIn [] = []
   callsIn (ByteItem b ∷ t) = callsIn t
   callsIn (CallItem c ∷ t) = c ∷ callsIn t
 
   -- those that name R
-  unfoldable pub ownCalls : List (Call M) → List (Call M)
+  unfoldable pub ownCalls : List (Call Argument) → List (Call Argument)
   ownCalls [] = []
-  ownCalls (c ∷ cs) = if isOwnCall M R c then c ∷ ownCalls cs else ownCalls cs
+  ownCalls (c ∷ cs) = if isOwnCall R c then c ∷ ownCalls cs else ownCalls cs
 
-  calls-if-byte : (k : Bool) (b : ℕ) (t : List (Item M)) → callsIn (if k then ByteItem b ∷ t else t) ≡ callsIn t
+  calls-if-byte : (k : Bool) (b : ℕ) (t : List (Item Argument)) → callsIn (if k then ByteItem b ∷ t else t) ≡ callsIn t
   unfolding callsIn
   calls-if-byte true b t = refl
   calls-if-byte false b t = refl
 
-  calls-if-call : (k : Bool) (c : Call M) (t : List (Item M)) → callsIn (if k then CallItem c ∷ t else t) ≡ (if k then c ∷ callsIn t else callsIn t)
+  calls-if-call : (k : Bool) (c : Call Argument) (t : List (Item Argument)) → callsIn (if k then CallItem c ∷ t else t) ≡ (if k then c ∷ callsIn t else callsIn t)
   unfolding callsIn
   calls-if-call true c t = refl
   calls-if-call false c t = refl
 
   -- Of the calls purging leaves just those that name R, in their order.
-  pub purge-leaves-calls : (m : Scan M) (t : List (Item M)) → callsIn (purgeFrom M R m t) ≡ ownCalls (callsIn t)
+  pub purge-leaves-calls : (m : Scan) (t : List (Item Argument)) → callsIn (purgeFrom R m t) ≡ ownCalls (callsIn t)
   unfolding callsIn ownCalls purgeFrom
   purge-leaves-calls m [] = refl
-  purge-leaves-calls m (ByteItem b ∷ t) = calls-if-byte (isOwn M R m (b ∷ itemBytes M t)) b (purgeFrom M R (scanNext M R m b) t) ∙ purge-leaves-calls (scanNext M R m b) t
-  purge-leaves-calls m (CallItem c ∷ t) = calls-if-call (isOwnCall M R c) c (purgeFrom M R m t) ∙ rw (purge-leaves-calls m t)
+  purge-leaves-calls m (ByteItem b ∷ t) = calls-if-byte (isOwn R m (b ∷ itemBytes t)) b (purgeFrom R (scanNext R m b) t) ∙ purge-leaves-calls (scanNext R m b) t
+  purge-leaves-calls m (CallItem c ∷ t) = calls-if-call (isOwnCall R c) c (purgeFrom R m t) ∙ rw (purge-leaves-calls m t)

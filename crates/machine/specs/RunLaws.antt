@@ -4,11 +4,12 @@ use mathlib.Core.List.{List, [], _∷_, _++_, append-assoc}
 use mathlib.Core.Bool.{Bool, true, false}
 use Prim.Native.Nat.{ℕ, zero, suc}
 use Rattle.wire.specs.Test.{if_then_else_}
-use Rattle.machine.specs.Machine.{Machine, Target, Skip, Connection, Closed, RequestCall, CountCall, Item, ByteItem, CallItem, Observation, withLeft, onItem, stateAfter, asList, observations, concerns, observed}
+use Rattle.machine.specs.Timeline.{RequestCall, CountCall, Item, ByteItem, CallItem}
+use Rattle.machine.specs.Machine.{Machine, Target, Skip, Connection, Closed, Observation, withLeft, onItem, stateAfter, asList, observations, concerns, observed}
 
 module _ (M : Machine) where
   -- A connection that is closed stays closed, whatever comes.
-  pub closed-stays : (t : List (Item M)) → stateAfter M Closed t ≡ Closed
+  pub closed-stays : (t : List (Item (M .Argument))) → stateAfter M Closed t ≡ Closed
   unfolding stateAfter onItem
   closed-stays [] = refl
   closed-stays (ByteItem b ∷ t) = closed-stays t
@@ -16,12 +17,12 @@ module _ (M : Machine) where
   closed-stays (CallItem CountCall ∷ t) = closed-stays t
 
   -- the state and the observations after two timelines
-  pub state-append : (s : Connection M) (t u : List (Item M)) → stateAfter M s (t ++ u) ≡ stateAfter M (stateAfter M s t) u
+  pub state-append : (s : Connection M) (t u : List (Item (M .Argument))) → stateAfter M s (t ++ u) ≡ stateAfter M (stateAfter M s t) u
   unfolding stateAfter
   state-append s [] u = refl
   state-append s (x ∷ t) u = state-append ((onItem M s x) .0) t u
 
-  pub observations-append : (s : Connection M) (t u : List (Item M)) → observations M s (t ++ u) ≡ observations M s t ++ observations M (stateAfter M s t) u
+  pub observations-append : (s : Connection M) (t u : List (Item (M .Argument))) → observations M s (t ++ u) ≡ observations M s t ++ observations M (stateAfter M s t) u
   unfolding stateAfter observations
   observations-append s [] u = refl
   observations-append s (x ∷ t) u =

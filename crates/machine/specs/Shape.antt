@@ -5,7 +5,8 @@ use Prim.Native.Nat.{ℕ, _+_, _≤_, _<_}
 use lib.ListN.{length}
 use Rattle.wire.specs.Buffer.{byteAt}
 use Rattle.machine.specs.Slots.{SlotState, Vacant, HeldBy, slotAt}
-use Rattle.machine.specs.Machine.{Machine, Target, Skip, ToBegin, ToQuery, ToSlot, Reading, AtHeader, PastHeader, Slots, Connection, Open, Closed, Item, ByteItem, CallItem, Effect}
+use Rattle.machine.specs.Timeline.{Item, ByteItem, CallItem}
+use Rattle.machine.specs.Machine.{Machine, Target, Skip, ToBegin, ToQuery, ToSlot, Reading, AtHeader, PastHeader, Slots, Connection, Open, Closed, Effect}
 use Rattle.machine.specs.Laws.{Laws}
 
 -- every element is a byte (behind the end of a list there stands 0)
@@ -14,14 +15,14 @@ BytesOk h = (i : ℕ) → byteAt h i < 256
 
 module _ (M : Machine) where
   -- the bytes of a timeline are bytes
-  abbrev pub ItemOk : Item M → Type 0
+  abbrev pub ItemOk : Item (M .Argument) → Type 0
   ItemOk (ByteItem b) = b < 256
   ItemOk (CallItem c) = Unit {0}
 
   -- all of them
-  pub data ItemsOk : List (Item M) → Type 0 where
+  pub data ItemsOk : List (Item (M .Argument)) → Type 0 where
     ItemsEnd : ItemsOk []
-    ItemsMore : {x : Item M} {t : List (Item M)} → ItemOk x → ItemsOk t → ItemsOk (x ∷ t)
+    ItemsMore : {x : Item (M .Argument)} {t : List (Item (M .Argument))} → ItemOk x → ItemsOk t → ItemsOk (x ∷ t)
 
 module _ (M : Machine) (L : Laws M) where
   open Machine M using (Leftover, clean, Request)

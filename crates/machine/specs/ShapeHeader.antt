@@ -9,7 +9,8 @@ use lib.ListN.{length}
 use lib.Dec.{eqb, ltb}
 use borrow.Author.Tests.{eqb-false, ltb-true}
 use Rattle.machine.specs.Slots.{HeldBy, Lookup, Absent, FoundAt, lookup, slotAt, LookupRight, lookup-right, slot-written}
-use Rattle.machine.specs.Machine.{HeaderOutcome, Decided, InactiveOutcome, WrongBegin, NewBegin, PassedOver, ManagementOutcome, QueryTooLong, Notices, Gathers, Machine, headerVersion, headerType, headerId, headerContent, headerPadding, Target, Skip, ToBegin, ToSlot, Reading, Slots, withLeft, queryWhole, queryHeader, managementHeader, inactiveHeader, targetAt, headerDecided, headerFound, headerRouted, headerVersioned, headerByte}
+use Rattle.machine.specs.Timeline.{headerVersion, headerType, headerId, headerContent, headerPadding}
+use Rattle.machine.specs.Machine.{HeaderOutcome, Decided, InactiveOutcome, WrongBegin, NewBegin, PassedOver, ManagementOutcome, QueryTooLong, Notices, Gathers, Machine, Target, Skip, ToBegin, ToSlot, Reading, Slots, withLeft, queryWhole, queryHeader, managementHeader, inactiveHeader, targetAt, headerDecided, headerFound, headerRouted, headerVersioned, headerByte}
 use Rattle.machine.specs.Laws.{HeaderOutcomeOk, InactiveOutcomeOk, ManagementOutcomeOk, Laws}
 use Rattle.machine.specs.Shape.{BytesOk, SlotOk, IsAbsent, SlotsOk, TargetOk, ReadingOk, EffectOk}
 use Rattle.machine.specs.ShapeSlots.{slots-kept, lookup-absent}

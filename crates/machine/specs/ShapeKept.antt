@@ -5,9 +5,10 @@ use Prim.Native.Nat.{ℕ, zero, suc}
 use native.Mathlib.Omega.{arith}
 use lib.ListN.{take, replicate, length-replicate}
 use Rattle.machine.specs.Slots.{SlotState, Vacant, HeldBy, lookup, slotAt, lookup-right}
-use Rattle.machine.specs.Machine.{Machine, Connection, Open, Closed, fresh, RequestCall, CountCall, Item, ByteItem, CallItem, onItem, stateAfter}
+use Rattle.machine.specs.Timeline.{RequestCall, CountCall, Item, ByteItem, CallItem, byteItems}
+use Rattle.machine.specs.Machine.{Machine, Connection, Open, Closed, fresh, onItem, stateAfter}
 use Rattle.machine.specs.Laws.{Bulk, Laws}
-use Rattle.machine.specs.Pieces.{needed, usedBytes, byteItems, onPiece}
+use Rattle.machine.specs.Pieces.{needed, usedBytes, onPiece}
 use Rattle.machine.specs.Cutting.{piece-cut}
 use Rattle.machine.specs.Shape.{BytesOk, ItemOk, ItemsOk, ItemsEnd, ItemsMore, SlotsOk, WellShaped}
 use Rattle.machine.specs.ShapeContent.{shape-record-byte}
@@ -18,7 +19,7 @@ module _ (M : Machine) (L : Laws M) where
   open Laws L using (slotCount, clean-ok)
 
   -- one item
-  pub shape-item : (s : Connection M) (x : Item M) → ItemOk M x → WellShaped M L s → WellShaped M L ((onItem M s x) .0)
+  pub shape-item : (s : Connection M) (x : Item (M .Argument)) → ItemOk M x → WellShaped M L s → WellShaped M L ((onItem M s x) .0)
   unfolding onItem
   shape-item Closed (ByteItem b) p h = tt
   shape-item Closed (CallItem (RequestCall id a)) p h = tt
@@ -28,7 +29,7 @@ module _ (M : Machine) (L : Laws M) where
   shape-item (Open T F) (CallItem CountCall) p h = h
 
   -- a timeline
-  pub shape-after : (s : Connection M) {t : List (Item M)} → ItemsOk M t → WellShaped M L s → WellShaped M L (stateAfter M s t)
+  pub shape-after : (s : Connection M) {t : List (Item (M .Argument))} → ItemsOk M t → WellShaped M L s → WellShaped M L (stateAfter M s t)
   unfolding stateAfter
   shape-after s ItemsEnd h = h
   shape-after s (ItemsMore {x = x} p q) h = shape-after ((onItem M s x) .0) q (shape-item s x p h)
@@ -53,7 +54,7 @@ module _ (M : Machine) (L : Laws M) where
 
 module _ (M : Machine) where
   -- bytes as items
-  pub items-all : (x : List ℕ) → BytesOk x → ItemsOk M (byteItems M x)
+  pub items-all : (x : List ℕ) → BytesOk x → ItemsOk M (byteItems x)
   unfolding byteItems
   items-all [] h = ItemsEnd
   items-all (b ∷ x) h = ItemsMore (h 0) (items-all x (λ i. h (suc i)))

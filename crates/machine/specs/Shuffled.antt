@@ -2,8 +2,8 @@
 use mathlib.Core.Path.{_≡_, ap, sym, _∙_}
 use mathlib.Core.List.{List}
 use Prim.Native.Nat.{ℕ, _<_}
-use Rattle.machine.specs.Machine.{Machine, Item, Ran, ranFresh, observed, requestIn}
-use Rattle.machine.specs.Purge.{purge}
+use Rattle.machine.specs.Timeline.{Item, purge}
+use Rattle.machine.specs.Machine.{Machine, Ran, ranFresh, observed, requestIn}
 use Rattle.machine.specs.Simulation.{NeverOverloaded}
 use Rattle.machine.specs.Isolation.{BetweenRecords, isolation}
 
@@ -14,9 +14,9 @@ module _ (M : Machine) (R : ℕ) where
     pub same-request : requestIn M R (A .state) ≡ requestIn M R (B .state)
 
   -- Isolation twice: both runs agree with the run of R's items alone.
-  pub shuffled : (n : ℕ) (t u : List (Item M)) → 0 < R
+  pub shuffled : (n : ℕ) (t u : List (Item (M .Argument))) → 0 < R
       → BetweenRecords M (ranFresh M n t .state) → NeverOverloaded M R (ranFresh M n t)
-      → BetweenRecords M (ranFresh M n u .state) → NeverOverloaded M R (ranFresh M n u) → purge M R t ≡ purge M R u
+      → BetweenRecords M (ranFresh M n u .state) → NeverOverloaded M R (ranFresh M n u) → purge R t ≡ purge R u
       → SameOf (ranFresh M n t) (ranFresh M n u)
   shuffled n t u z a r b q e =
       let i = isolation M R n t z a r in

@@ -9,8 +9,8 @@ use lib.Dec.{eqb}
 use borrow.Author.Tests.{ne-eqb}
 use Rattle.wire.specs.Test.{if_then_else_}
 use Rattle.machine.specs.Slots.{Contains, contains-none}
-use Rattle.machine.specs.Machine.{Machine, Reading, AtHeader, Slots, Connection, Open, Closed, fresh, Item, ByteItem, CallItem, Observation, RequestEvent, onItem, stateAfter, asList, observations, Ran, ran, ranFresh, observed}
-use Rattle.machine.specs.Purge.{itemBytes, Scan, ScanHeader, scanNext, isOwn, isOwnCall, purgeFrom, purge}
+use Rattle.machine.specs.Timeline.{Item, ByteItem, CallItem, itemBytes, Scan, ScanHeader, scanNext, isOwn, isOwnCall, purgeFrom, purge}
+use Rattle.machine.specs.Machine.{Machine, Reading, AtHeader, Slots, Connection, Open, Closed, fresh, Observation, RequestEvent, onItem, stateAfter, asList, observations, Ran, ran, ranFresh, observed}
 use Rattle.machine.specs.RunLaws.{closed-stays, observed-append}
 use Rattle.machine.specs.SimulationRelation.{aloneSlots, Readings, LifeStep, StepTogether, between-records, LeftOpen, NotOverloaded, whenOwn}
 use Rattle.machine.specs.SimulationContent.{byte-together}
@@ -31,7 +31,7 @@ module _ (M : Machine) (R : ℕ) where
     pub reading : Reading M
     pub request : Option Request
     pub aloneReading : Reading M
-    pub scan : Scan M
+    pub scan : Scan
     pub is-whole : A .state ≡ Open slots reading
     pub is-alone : B .state ≡ Open (aloneSlots M R n request) aloneReading
     pub contains : Contains clean R slots request
@@ -44,7 +44,7 @@ module _ (M : Machine) (R : ℕ) where
       → observed M R (xs ++ ys) ≡ observed M R (xs′ ++ ys′)
   observed-joined xs ys xs′ ys′ e d = cc (observed-append M R xs ys, observed-append M R xs′ ys′)
 
-  item-then-rest : {v : Option Request} {l : List ℕ} {m : Scan M} (n : ℕ) (t u : List (Item M)) (x : Item M) (k : Bool) (A B : Connection M)
+  item-then-rest : {v : Option Request} {l : List ℕ} {m : Scan} (n : ℕ) (t u : List (Item (M .Argument))) (x : Item (M .Argument)) (k : Bool) (A B : Connection M)
       → (g : StepTogether M R v n l m (onItem M A x) (whenOwn M R k (onItem M B x) B))
       → RunTogether (g .request) n (ran M (Open (g .slots) (g .reading)) t) (ran M (Open (aloneSlots M R n (g .request)) (g .aloneReading)) u)
       → RunTogether v n (ran M A (x ∷ t)) (ran M B (if k then x ∷ u else u))
@@ -89,45 +89,45 @@ module _ (M : Machine) (R : ℕ) where
   NeverOverloaded A = List·Memᴰ (RequestEvent R overloaded) (A .seen) → ⊥
 
   -- where they hold of a run, they hold of its first item and of the rest
-  open-here : (A : Connection M) (x : Item M) (t : List (Item M)) → EndsOpen (ran M A (x ∷ t)) → LeftOpen M R (onItem M A x)
+  open-here : (A : Connection M) (x : Item (M .Argument)) (t : List (Item (M .Argument))) → EndsOpen (ran M A (x ∷ t)) → LeftOpen M R (onItem M A x)
   unfolding stateAfter
   open-here A x t a e = a (ap (λ w. stateAfter M w t) e ∙ closed-stays M t)
 
-  open-next : (A A′ : Connection M) (x : Item M) (t : List (Item M)) → (onItem M A x) .0 ≡ A′ → EndsOpen (ran M A (x ∷ t)) → EndsOpen (ran M A′ t)
+  open-next : (A A′ : Connection M) (x : Item (M .Argument)) (t : List (Item (M .Argument))) → (onItem M A x) .0 ≡ A′ → EndsOpen (ran M A (x ∷ t)) → EndsOpen (ran M A′ t)
   unfolding stateAfter
   open-next A A′ x t e a d = a (ap (λ w. stateAfter M w t) e ∙ d)
 
-  room-here : (A : Connection M) (x : Item M) (t : List (Item M)) → NeverOverloaded (ran M A (x ∷ t)) → NotOverloaded M R (onItem M A x)
+  room-here : (A : Connection M) (x : Item (M .Argument)) (t : List (Item (M .Argument))) → NeverOverloaded (ran M A (x ∷ t)) → NotOverloaded M R (onItem M A x)
   unfolding observations asList
   room-here A x t r h =
       let m : List·Memᴰ (RequestEvent R overloaded) (asList M ((onItem M A x) .1)) = rw h (List·Memᴰ·head refl) in
       r (Memᴰ·append-left _ m)
 
-  room-next : (A A′ : Connection M) (x : Item M) (t : List (Item M)) → (onItem M A x) .0 ≡ A′ → NeverOverloaded (ran M A (x ∷ t)) → NeverOverloaded (ran M A′ t)
+  room-next : (A A′ : Connection M) (x : Item (M .Argument)) (t : List (Item (M .Argument))) → (onItem M A x) .0 ≡ A′ → NeverOverloaded (ran M A (x ∷ t)) → NeverOverloaded (ran M A′ t)
   unfolding observations
   room-next A A′ x t e r h =
       let h′ : List·Memᴰ (RequestEvent R overloaded) (observations M ((onItem M A x) .0) t) = rw e h in
       r (Memᴰ·append-right (asList M ((onItem M A x) .1)) h′)
 
   -- From states that go together, with any timeline in the whole run and the purged one in the other.
-  pub simulation : {T : Slots M} {v : Option Request} {m : Scan M} {F F′ : Reading M} (n : ℕ) (t : List (Item M)) → eqb R 0 ≡ false → Contains clean R T v
-      → Readings M R T (itemBytes M t) v m F F′ → EndsOpen (ran M (Open T F) t) → NeverOverloaded (ran M (Open T F) t)
-      → RunTogether v n (ran M (Open T F) t) (ran M (Open (aloneSlots M R n v) F′) (purgeFrom M R m t))
+  pub simulation : {T : Slots M} {v : Option Request} {m : Scan} {F F′ : Reading M} (n : ℕ) (t : List (Item (M .Argument))) → eqb R 0 ≡ false → Contains clean R T v
+      → Readings M R T (itemBytes t) v m F F′ → EndsOpen (ran M (Open T F) t) → NeverOverloaded (ran M (Open T F) t)
+      → RunTogether v n (ran M (Open T F) t) (ran M (Open (aloneSlots M R n v) F′) (purgeFrom R m t))
   unfolding stateAfter observations itemBytes purgeFrom onItem
   simulation {T} {v} {m} n [] z s f a r =
       record { slots = T; reading = _; request = v; aloneReading = _; scan = m; is-whole = refl; is-alone = refl; contains = s; readings = f; same-observed = refl; life = LifeEnds }
   simulation {T} {v} {m} {F} {F′} n (ByteItem b ∷ t) z s f a r =
-      let g = byte-together M R n (itemBytes M t) b z s f (open-here (Open T F) (ByteItem b) t a) (room-here (Open T F) (ByteItem b) t r) in
-      item-then-rest n t (purgeFrom M R (scanNext M R m b) t) (ByteItem b) (isOwn M R m (b ∷ itemBytes M t)) (Open T F) (Open (aloneSlots M R n v) F′) g
+      let g = byte-together M R n (itemBytes t) b z s f (open-here (Open T F) (ByteItem b) t a) (room-here (Open T F) (ByteItem b) t r) in
+      item-then-rest n t (purgeFrom R (scanNext R m b) t) (ByteItem b) (isOwn R m (b ∷ itemBytes t)) (Open T F) (Open (aloneSlots M R n v) F′) g
       (simulation n t z (g .contains) (g .readings) (open-next (Open T F) _ (ByteItem b) t (g .is-whole) a) (room-next (Open T F) _ (ByteItem b) t (g .is-whole) r))
   simulation {T} {v} {m} {F} {F′} n (CallItem c ∷ t) z s f a r =
-      let g = call-together M R n (itemBytes M t) c s f (open-here (Open T F) (CallItem c) t a) in
-      item-then-rest n t (purgeFrom M R m t) (CallItem c) (isOwnCall M R c) (Open T F) (Open (aloneSlots M R n v) F′) g
+      let g = call-together M R n (itemBytes t) c s f (open-here (Open T F) (CallItem c) t a) in
+      item-then-rest n t (purgeFrom R m t) (CallItem c) (isOwnCall R c) (Open T F) (Open (aloneSlots M R n v) F′) g
       (simulation n t z (g .contains) (g .readings) (open-next (Open T F) _ (CallItem c) t (g .is-whole) a) (room-next (Open T F) _ (CallItem c) t (g .is-whole) r))
 
   -- From a fresh start: the purged run begins between two records too.
-  pub simulation-from-fresh : (n : ℕ) (t : List (Item M)) → 0 < R → EndsOpen (ranFresh M n t) → NeverOverloaded (ranFresh M n t)
-      → RunTogether none n (ranFresh M n t) (ranFresh M n (purge M R t))
+  pub simulation-from-fresh : (n : ℕ) (t : List (Item (M .Argument))) → 0 < R → EndsOpen (ranFresh M n t) → NeverOverloaded (ranFresh M n t)
+      → RunTogether none n (ranFresh M n t) (ranFresh M n (purge R t))
   unfolding fresh
   simulation-from-fresh n t z a r =
       simulation {v = none} {m = ScanHeader []} {F = AtHeader []} {F′ = AtHeader []} n t (ne-eqb R 0 (omega arith)) (contains-none clean R (suc n)) (between-records M R) a r

@@ -9,8 +9,8 @@ use lib.Dec.{eqb}
 use borrow.Author.Tests.{eqb-true, eqb-false, eq-eqb, ne-eqb}
 use Rattle.wire.specs.Test.{if_then_else_}
 use Rattle.machine.specs.Slots.{SlotState, Vacant, HeldBy, Lookup, Absent, FoundAt, lookup, slotAt, OfOthers, Contains, contains-absent, OwnSlot, own-slot, LookupRight, lookup-right, contains-set, lookup-set, others-set, others-not-own, others-kept}
-use Rattle.machine.specs.Machine.{CallOutcome, Stays, Leaves, Closes, Machine, Skip, ToSlot, Reading, Slots, Open, Call, RequestCall, CountCall, CallItem, targetWithout, readingWithout, callDecided, requestCalled, onItem, asList, concerns, observed}
-use Rattle.machine.specs.Purge.{Scan, isOwnCall}
+use Rattle.machine.specs.Timeline.{Call, RequestCall, CountCall, CallItem, Scan, isOwnCall}
+use Rattle.machine.specs.Machine.{CallOutcome, Stays, Leaves, Closes, Machine, Skip, ToSlot, Reading, Slots, Open, targetWithout, readingWithout, callDecided, requestCalled, onItem, asList, concerns, observed}
 use Rattle.machine.specs.SimulationRelation.{aloneSlots, SameSkip, SameBegin, SameSlot, OthersTarget, OthersSkip, OthersBegin, OthersQuery, OthersSlot, Readings, BothInHeader, InOwnRecord, InOthersRecord, CallInactive, CallStays, CallLeaves, StepTogether, together, waits, LeftOpen, alone-found, alone-absent, found-of-others, whenOwn}
 
 module _ (M : Machine) (R : ℕ) where
@@ -18,7 +18,7 @@ module _ (M : Machine) (R : ℕ) where
 
   -- ---- where the runs read, when a slot is written between two bytes
   -- others write into a slot of theirs
-  readings-others : {T : Slots M} {l : List ℕ} {v : Option Request} {m : Scan M} {F F′ : Reading M} (i : ℕ) (s : SlotState Leftover Request)
+  readings-others : {T : Slots M} {l : List ℕ} {v : Option Request} {m : Scan} {F F′ : Reading M} (i : ℕ) (s : SlotState Leftover Request)
       → OfOthers clean R (slotAt clean T i) → OfOthers clean R s
       → Readings M R T l v m F F′ → Readings M R (set T i s) l v m F F′
   readings-others i s f g (BothInHeader k e) = BothInHeader k e
@@ -38,7 +38,7 @@ module _ (M : Machine) (R : ℕ) where
   others-without T j k false h = OthersSlot h
 
   -- others leave their slot: content for it is skipped
-  readings-others-leave : {T : Slots M} {l : List ℕ} {v : Option Request} {m : Scan M} {F F′ : Reading M} (i : ℕ) → OfOthers clean R (slotAt clean T i)
+  readings-others-leave : {T : Slots M} {l : List ℕ} {v : Option Request} {m : Scan} {F F′ : Reading M} (i : ℕ) → OfOthers clean R (slotAt clean T i)
       → Readings M R T l v m F F′ → Readings M R (set T i (Vacant clean)) l v m (readingWithout M i F) F′
   unfolding readingWithout targetWithout
   readings-others-leave i f (BothInHeader k e) = BothInHeader k e
@@ -54,7 +54,7 @@ module _ (M : Machine) (R : ℕ) where
       InOthersRecord (others-without (set T i (Vacant clean)) j k (eqb i j) (others-set clean R T i j (Vacant clean) refl h))
 
   -- R is written back into its slot
-  readings-own : {T : Slots M} {l : List ℕ} {r : Request} {m : Scan M} {F F′ : Reading M} (q : OwnSlot clean R T r) (x : Request)
+  readings-own : {T : Slots M} {l : List ℕ} {r : Request} {m : Scan} {F F′ : Reading M} (q : OwnSlot clean R T r) (x : Request)
       → Readings M R T l (some r) m F F′ → Readings M R (set T (q .index) (HeldBy R x)) l (some x) m F F′
   readings-own q x (BothInHeader k e) = BothInHeader k e
   readings-own q x (InOwnRecord SameSkip) = InOwnRecord SameSkip
@@ -67,7 +67,7 @@ module _ (M : Machine) (R : ℕ) where
   readings-own {T} {r = r} q x (InOthersRecord (OthersSlot {i = j} h)) = InOthersRecord (OthersSlot (others-kept clean R T (q .index) j r (HeldBy R x) (q .is-there) h))
 
   -- R leaves its slot, in both runs
-  readings-own-leaves : {T : Slots M} {l : List ℕ} {r : Request} {m : Scan M} {F F′ : Reading M} (q : OwnSlot clean R T r)
+  readings-own-leaves : {T : Slots M} {l : List ℕ} {r : Request} {m : Scan} {F F′ : Reading M} (q : OwnSlot clean R T r)
       → Readings M R T l (some r) m F F′ → Readings M R (set T (q .index) (Vacant clean)) l none m (readingWithout M (q .index) F) (readingWithout M 0 F′)
   unfolding readingWithout targetWithout
   readings-own-leaves q (BothInHeader k e) = BothInHeader k e
@@ -83,7 +83,7 @@ module _ (M : Machine) (R : ℕ) where
 
   -- ---- calls
   -- a call that names R
-  own-call-decided : {T : Slots M} {r : Request} {m : Scan M} {F F′ : Reading M} (n : ℕ) (l : List ℕ) (o : CallOutcome Request Answer) (a : Argument) (q : OwnSlot clean R T r)
+  own-call-decided : {T : Slots M} {r : Request} {m : Scan} {F F′ : Reading M} (n : ℕ) (l : List ℕ) (o : CallOutcome Request Answer) (a : Argument) (q : OwnSlot clean R T r)
       → onCall a r ≡ o → Readings M R T l (some r) m F F′ → LeftOpen M R (callDecided M o (q .index) r R a T F)
       → StepTogether M R (some r) n l m (callDecided M o (q .index) r R a T F) (callDecided M o 0 r R a (aloneSlots M R n (some r)) F′)
   unfolding callDecided
@@ -91,7 +91,7 @@ module _ (M : Machine) (R : ℕ) where
   own-call-decided n l (Leaves y) a q w f d = together M R (q .vacated) (readings-own-leaves q f) refl (CallLeaves a w)
   own-call-decided n l (Closes y) a q w f d = absurd (d refl)
 
-  own-call : {T : Slots M} (v : Option Request) {m : Scan M} {F F′ : Reading M} (n : ℕ) (l : List ℕ) (a : Argument) → Contains clean R T v → Readings M R T l v m F F′
+  own-call : {T : Slots M} (v : Option Request) {m : Scan} {F F′ : Reading M} (n : ℕ) (l : List ℕ) (a : Argument) → Contains clean R T v → Readings M R T l v m F F′
       → LeftOpen M R (requestCalled M (lookup R T) R a T F)
       → StepTogether M R v n l m (requestCalled M (lookup R T) R a T F) (requestCalled M (lookup R (aloneSlots M R n v)) R a (aloneSlots M R n v) F′)
   unfolding requestCalled
@@ -100,7 +100,7 @@ module _ (M : Machine) (R : ℕ) where
       let q = own-slot clean s in rw (q .is-found, alone-found M R n r) (own-call-decided n l (onCall a r) a q refl f (rw (q .is-found) at d))
 
   -- a call that names another id
-  others-call-decided : {T : Slots M} {v : Option Request} {m : Scan M} {F F′ : Reading M} (n : ℕ) (l : List ℕ) (o : CallOutcome Request Answer) (i : ℕ) (r : Request) (id : ℕ) (a : Argument)
+  others-call-decided : {T : Slots M} {v : Option Request} {m : Scan} {F F′ : Reading M} (n : ℕ) (l : List ℕ) (o : CallOutcome Request Answer) (i : ℕ) (r : Request) (id : ℕ) (a : Argument)
       → Contains clean R T v → Readings M R T l v m F F′ → (id ≡ R → ⊥) → OfOthers clean R (slotAt clean T i)
       → LeftOpen M R (callDecided M o i r id a T F) → StepTogether M R v n l m (callDecided M o i r id a T F) (Open (aloneSlots M R n v) F′, none)
   unfolding callDecided observed asList concerns
@@ -110,14 +110,14 @@ module _ (M : Machine) (R : ℕ) where
       waits M R (contains-set clean i (Vacant clean) g refl s) (readings-others-leave i g f) (rw (ne-eqb id R e))
   others-call-decided n l (Closes y) i r id a s f e g d = absurd (d refl)
 
-  others-call : {T : Slots M} {v : Option Request} {m : Scan M} {F F′ : Reading M} (n : ℕ) (l : List ℕ) (o : Lookup Request) (id : ℕ) (a : Argument)
+  others-call : {T : Slots M} {v : Option Request} {m : Scan} {F F′ : Reading M} (n : ℕ) (l : List ℕ) (o : Lookup Request) (id : ℕ) (a : Argument)
       → Contains clean R T v → Readings M R T l v m F F′ → (id ≡ R → ⊥) → LookupRight clean id T o
       → LeftOpen M R (requestCalled M o id a T F) → StepTogether M R v n l m (requestCalled M o id a T F) (Open (aloneSlots M R n v) F′, none)
   unfolding requestCalled observed asList concerns
   others-call n l Absent id a s f e g d = waits M R s f (rw (ne-eqb id R e))
   others-call {T} n l (FoundAt i r) id a s f e g d = others-call-decided n l (onCall a r) i r id a s f e (found-of-others M R T id i r e g) d
 
-  request-call-together : {T : Slots M} {v : Option Request} {m : Scan M} {F F′ : Reading M} (n : ℕ) (l : List ℕ) (id : ℕ) (a : Argument) (o : Bool) → eqb id R ≡ o
+  request-call-together : {T : Slots M} {v : Option Request} {m : Scan} {F F′ : Reading M} (n : ℕ) (l : List ℕ) (id : ℕ) (a : Argument) (o : Bool) → eqb id R ≡ o
       → Contains clean R T v → Readings M R T l v m F F′ → LeftOpen M R (requestCalled M (lookup id T) id a T F)
       → StepTogether M R v n l m (requestCalled M (lookup id T) id a T F) (whenOwn M R o (requestCalled M (lookup id (aloneSlots M R n v)) id a (aloneSlots M R n v) F′) (Open (aloneSlots M R n v) F′))
   request-call-together {T} {v} n l id a true e s f d =
@@ -125,9 +125,9 @@ module _ (M : Machine) (R : ℕ) where
       rw x (own-call v n l a s f (rw x at d))
   request-call-together {T} n l id a false e s f d = others-call n l (lookup id T) id a s f (eqb-false _ _ e) (lookup-right clean id T) d
 
-  pub call-together : {T : Slots M} {v : Option Request} {m : Scan M} {F F′ : Reading M} (n : ℕ) (l : List ℕ) (c : Call M) → Contains clean R T v
+  pub call-together : {T : Slots M} {v : Option Request} {m : Scan} {F F′ : Reading M} (n : ℕ) (l : List ℕ) (c : Call (M .Argument)) → Contains clean R T v
       → Readings M R T l v m F F′ → LeftOpen M R (onItem M (Open T F) (CallItem c))
-      → StepTogether M R v n l m (onItem M (Open T F) (CallItem c)) (whenOwn M R (isOwnCall M R c) (onItem M (Open (aloneSlots M R n v) F′) (CallItem c)) (Open (aloneSlots M R n v) F′))
+      → StepTogether M R v n l m (onItem M (Open T F) (CallItem c)) (whenOwn M R (isOwnCall R c) (onItem M (Open (aloneSlots M R n v) F′) (CallItem c)) (Open (aloneSlots M R n v) F′))
   unfolding onItem isOwnCall observed asList concerns
   call-together n l (RequestCall id a) s f d = request-call-together n l id a (eqb id R) refl s f d
   call-together n l CountCall s f d = waits M R s f refl

@@ -9,8 +9,8 @@ use lib.Dec.{eqb}
 use borrow.Author.Tests.{eq-eqb, ne-eqb}
 use Rattle.wire.specs.Test.{if_then_else_}
 use Rattle.machine.specs.Slots.{SlotState, Vacant, HeldBy, Absent, FoundAt, lookup, slotAt, OfOthers, Contains, ContainsVacant, ContainsOwn, contains-absent, own-slot, contains-none}
-use Rattle.machine.specs.Machine.{Decided, Declined, Accepted, Stays, Leaves, Machine, headerId, Target, Skip, ToBegin, ToQuery, ToSlot, Reading, AtHeader, PastHeader, Slots, Connection, Open, Closed, Observation, RequestEvent, CallAnswer, Effect, eventFrom, withLeft, asList, concerns, observed, requestFound, requestIn}
-use Rattle.machine.specs.Purge.{Scan, ScanHeader, ScanRest, scanLeft}
+use Rattle.machine.specs.Timeline.{headerId, Scan, ScanHeader, ScanRest, scanLeft}
+use Rattle.machine.specs.Machine.{Decided, Declined, Accepted, Stays, Leaves, Machine, Target, Skip, ToBegin, ToQuery, ToSlot, Reading, AtHeader, PastHeader, Slots, Connection, Open, Closed, Observation, RequestEvent, CallAnswer, Effect, eventFrom, withLeft, asList, concerns, observed, requestFound, requestIn}
 
 module _ (M : Machine) (R : ℕ) where
   open Machine M using (Leftover, clean, Request, Stream, Event, Argument, Answer, onHeader, onByte, onBegin, overloaded, onCall, whenInactive)
@@ -39,7 +39,7 @@ module _ (M : Machine) (R : ℕ) where
     OthersSlot : {i : ℕ} {k : Stream} → OfOthers clean R (slotAt clean T i) → OthersTarget T (ToSlot i k)
 
   -- Where the two runs read, with l the bytes of the whole run that still come: both in the same header if it is R's, and the purged run between records if it is not; both as far in a record of R; the purged run between records while the whole run is in a record of others.
-  pub data Readings (T : Slots M) (l : List ℕ) (v : Option Request) : Scan M → Reading M → Reading M → Type 0 where
+  pub data Readings (T : Slots M) (l : List ℕ) (v : Option Request) : Scan → Reading M → Reading M → Type 0 where
     BothInHeader : {h : List ℕ} (k : Bool) → eqb (headerId (h ++ l)) R ≡ k → Readings T l v (ScanHeader h) (AtHeader h) (AtHeader (if k then h else []))
     InOwnRecord : {s s′ : Target M} {c p : ℕ} → SameTargets T v s s′ → Readings T l v (ScanRest true c p) (PastHeader s c p) (PastHeader s′ c p)
     InOthersRecord : {s : Target M} {c p : ℕ} → OthersTarget T s → Readings T l v (ScanRest false c p) (PastHeader s c p) (AtHeader [])
@@ -58,7 +58,7 @@ module _ (M : Machine) (R : ℕ) where
 
   -- ---- one item in both runs
   -- The effects A in the whole run and B in the purged run: the states still go together, and the same of R is observed. v₀ is R before the item, m where the whole run stands behind it.
-  pub record StepTogether (v₀ : Option Request) (n : ℕ) (l : List ℕ) (m : Scan M) (A B : Effect M) : Type 0 where
+  pub record StepTogether (v₀ : Option Request) (n : ℕ) (l : List ℕ) (m : Scan) (A B : Effect M) : Type 0 where
     pub slots : Slots M
     pub reading : Reading M
     pub request : Option Request
@@ -71,18 +71,18 @@ module _ (M : Machine) (R : ℕ) where
     pub life : LifeStep v₀ (B .1) request
 
   -- the whole run takes an item of others, and the purged run stays between two records
-  abbrev pub PurgedWaits : Option Request → ℕ → List ℕ → Scan M → Effect M → Type 0
+  abbrev pub PurgedWaits : Option Request → ℕ → List ℕ → Scan → Effect M → Type 0
   PurgedWaits v n l m A = StepTogether v n l m A (Open (aloneSlots n v) (AtHeader []), none)
 
   -- both runs take the item
-  pub together : {T : Slots M} {v₀ v : Option Request} {m : Scan M} {l : List ℕ} {F F′ : Reading M} {os ps : Option (Observation M)} {n : ℕ}
+  pub together : {T : Slots M} {v₀ v : Option Request} {m : Scan} {l : List ℕ} {F F′ : Reading M} {os ps : Option (Observation M)} {n : ℕ}
       → Contains clean R T v → Readings T l v m F F′ → observed M R (asList M os) ≡ observed M R (asList M ps) → LifeStep v₀ ps v
       → StepTogether v₀ n l m (Open T F, os) (Open (aloneSlots n v) F′, ps)
   together {T} {v = v} {m} {l} {F} {F′} s f e w =
       record { slots = T; reading = F; request = v; aloneReading = F′; is-whole = refl; is-alone = refl; contains = s; readings = f; same-observed = e; life = w }
 
   -- only the whole run takes it, and it is nothing to R
-  pub waits : {T : Slots M} {v : Option Request} {m : Scan M} {l : List ℕ} {F F′ : Reading M} {os : Option (Observation M)} {n : ℕ}
+  pub waits : {T : Slots M} {v : Option Request} {m : Scan} {l : List ℕ} {F F′ : Reading M} {os : Option (Observation M)} {n : ℕ}
       → Contains clean R T v → Readings T l v m F F′ → observed M R (asList M os) ≡ observed M R (asList M none)
       → StepTogether v n l m (Open T F, os) (Open (aloneSlots n v) F′, none)
   waits s f e = together s f e NothingHappens
@@ -98,7 +98,7 @@ module _ (M : Machine) (R : ℕ) where
 
   -- both runs with as much left of a record of R
   pub own-left : {T : Slots M} {l : List ℕ} {v : Option Request} {s s′ : Target M} (c p : ℕ) → SameTargets T v s s′
-      → Readings T l v (scanLeft M true c p) (withLeft M s c p) (withLeft M s′ c p)
+      → Readings T l v (scanLeft true c p) (withLeft M s c p) (withLeft M s′ c p)
   unfolding scanLeft withLeft
   own-left zero zero h = between-records
   own-left zero (suc p) h = InOwnRecord SameSkip
@@ -106,7 +106,7 @@ module _ (M : Machine) (R : ℕ) where
 
   -- the whole run with so much left of a record of others
   pub others-left : {T : Slots M} {l : List ℕ} {v : Option Request} {s : Target M} (c p : ℕ) → OthersTarget T s
-      → Readings T l v (scanLeft M false c p) (withLeft M s c p) (AtHeader [])
+      → Readings T l v (scanLeft false c p) (withLeft M s c p) (AtHeader [])
   unfolding scanLeft withLeft
   others-left zero zero h = between-records
   others-left zero (suc p) h = InOthersRecord OthersSkip

@@ -88,7 +88,7 @@ padding-falls k h = falls (λ c. at 0 c k h) Padding one
         (ap (λ (a : Advanced). a .position) s ∙ ap (λ (n : ℕ). at 0 (c - n) k h) m, ap (λ (a : Advanced). a .phase) s)
 
 -- in a header, up to the seventh byte
-part-grows : (x : List ℕ) (k : ℕ) (h : List ℕ) → length h ≡ 8 → k + length x < 8 → Does (at 0 0 k h) x (at 0 0 (k + length x) (putAt h k x)) (replicate (length x) Part)
+pub part-grows : (x : List ℕ) (k : ℕ) (h : List ℕ) → length h ≡ 8 → k + length x < 8 → Does (at 0 0 k h) x (at 0 0 (k + length x) (putAt h k x)) (replicate (length x) Part)
 unfolding after phases
 part-grows [] k h l g = let z : k ≡ k + 0 = omega arith in (ap₂ (at 0 0) z (sym (put-none h k)), refl)
 part-grows (b ∷ x) k h l g =

@@ -1,0 +1,27 @@
+-- What holds of whole runs. `Theorem` proves the statement of Isolation; the files before it lead there.
+pub mod Receiver
+pub mod ReceiverLaws
+pub mod Loading
+pub mod LoadingLaws
+pub mod Telling
+pub mod Linking
+pub mod LinkingContent
+pub mod LinkingByte
+pub mod LinkingStep
+pub mod CallShape
+pub mod LinkingCalls
+pub mod LinkingRuns
+pub mod Closed
+pub mod Records
+pub mod Theorem
+pub mod Hygiene
+pub mod SecondRun
+pub mod PremiseTests
+pub mod Example
+pub mod WellFormedLists
+pub mod History
+pub mod HistoryRequest
+pub mod HistoryTarget
+pub mod HistoryScan
+pub mod HistoryRuns
+pub mod HistoryCase

@@ -1,0 +1,281 @@
+-- What the rules for one request do to its list, and to whether it takes PARAMS: both are told.
+use mathlib.Core.Path.{_≡_, refl, ap}
+use mathlib.Core.List.{List, [], _∷_, _++_}
+use mathlib.Core.Option.{Option, none, some}
+use mathlib.Core.Bool.{Bool, true, false}
+use Prim.Native.Nat.{ℕ, _+_, _≤_, _<_}
+use native.Mathlib.Omega.{arith}
+use lib.ListN.{length, take, drop, length-append, length-take}
+use lib.Seq.{take-at}
+use lib.Dec.{eqb, ltb, leb}
+use Rattle.wire.specs.Test.{if_then_else_, byTest}
+use Rattle.wire.specs.BufferLaws.{copied-room}
+use Rattle.record.specs.Names.{BEGIN-REQUEST, ABORT-REQUEST, RESPONDER, AUTHORIZER, FILTER, PARAMS}
+use Rattle.record.specs.Body.{beginBodyOf}
+use Rattle.machine.specs.Machine.{BeginOutcome, Declined, Accepted, CallOutcome, Stays, Leaves, Closes, Skip}
+use Rattle.connection.specs.declared.request.Turn.{Turn}
+use Rattle.connection.specs.declared.request.Due.{Due}
+use Rattle.connection.specs.declared.request.Role.{Role}
+use Rattle.connection.specs.Sizes.{AREA}
+use Rattle.connection.specs.Event.{Event}
+use Rattle.connection.specs.Request.{Held, Ruled, listOf, isSpent, isInput, turnType, faulted, aborted, turned, paramsFault, paramsEnded, onParams, onStdin, onData, inTurn, onInput, onLive, onHeader, grown, opened, withLife, withTurn, afterParams, afterStdin}
+use Rattle.connection.specs.RequestCalls as Of
+use Rattle.connection.specs.Laws.CuttingContent.{grown-room}
+use Rattle.connection.specs.Bytewise.{Note}
+use borrow.Author.Tests.{eqb-true, eq-eqb}
+use Rattle.connection.specs.declared.request.Request.{Request}
+use Rattle.connection.specs.RequestCalls.{inParams}
+use Rattle.connection.specs.Arguments.{Argument, ForValue, ForSource, ForPair, ForWalk, ForSay, ForEnd, ForFinish, Answer, Wrote, FinishedWith, refused}
+use Rattle.connection.specs.Runs.Receiver.{beginAs, receiveBegin, finishedAs, receiveCall}
+use Rattle.connection.specs.Runs.ReceiverLaws.{say-same, end-same}
+use Rattle.connection.specs.Runs.History.{opensOrFaults, tellsAnew, isFinish, isClose, takesAfter, takesTold}
+
+-- ---- its list
+-- a header leaves the list, or empties it and tells so
+abbrev pub KeepsList : Held → Ruled → Type 0
+KeepsList h r = listOf (r .held) ≡ (if opensOrFaults (r .event) then [] else listOf h)
+
+module _ (n : ℕ) (h : Held) where
+  list-faulted : (k : ℕ) → KeepsList h (faulted h k)
+  unfolding faulted
+  list-faulted k = refl
+
+  list-turned : (t : Turn) (e : Event) → opensOrFaults e ≡ false → KeepsList h (turned h t e)
+  unfolding turned
+  list-turned t e f = rw f
+
+  list-ended : KeepsList h (paramsEnded h)
+  unfolding paramsEnded
+  list-ended = byTest (eqb (paramsFault (listOf h)) 0) (λ e. simp e (list-turned _ _ refl)) (λ e. simp e (list-faulted _))
+
+  list-params : KeepsList h (onParams n h)
+  unfolding onParams
+  list-params =
+      byTest (ltb AREA (h .request .length + n))
+      (λ e. simp e (list-faulted 24))
+      (λ e. byTest (eqb n 0) (λ z. simp (e, z) list-ended) (λ z. simp (e, z) refl))
+
+  list-turn : (t : Turn) → KeepsList h (inTurn t n h)
+  unfolding onStdin onData
+  list-turn Turn.Params = list-params
+  list-turn Turn.Stdin = byTest (eqb n 0) (λ z. simp z (list-turned _ _ refl)) (λ z. simp z refl)
+  list-turn Turn.Data = byTest (eqb n 0) (λ z. simp z (list-turned _ _ refl)) (λ z. simp z refl)
+  list-turn Turn.Done = list-faulted 22
+
+  list-live : (kind : ℕ) → KeepsList h (onLive kind n h)
+  unfolding onLive onInput aborted
+  list-live kind =
+      byTest (eqb kind BEGIN-REQUEST)
+      (λ a. simp a (list-faulted 21))
+      (λ a. byTest (eqb kind ABORT-REQUEST)
+      (λ b. simp (a, b) refl)
+      (λ b. byTest (isInput kind)
+      (λ i. byTest (eqb kind (turnType (h .request .mark .turn))) (λ e. simp (a, b, i, e) (list-turn (h .request .mark .turn))) (λ e. simp (a, b, i, e) (list-faulted 22)))
+      (λ i. simp (a, b, i) (list-faulted 23))))
+
+  pub list-header : (kind : ℕ) → KeepsList h (onHeader kind n h)
+  unfolding onHeader
+  list-header kind = byTest (isSpent (h .request .mark .life)) (λ e. simp e refl) (λ e. simp e (list-live kind))
+
+-- PARAMS content is added to the list
+pub list-grown : (h : Held) (b : ℕ) → h .request .length + 1 ≤ AREA → length (h .area) ≡ AREA → listOf (grown h (b ∷ [])) ≡ listOf h ++ b ∷ []
+list-grown h b l a =
+    let n = h .request .length in
+    let k : length (take n (h .area) ++ b ∷ []) ≡ n + 1 = simp (length-append, length-take) (omega (arith, a)) in
+    rw (grown-room h (b ∷ []) l, copied-room (h .area) n (b ∷ []) (omega (arith, a)))
+    (take-at (take n (h .area) ++ b ∷ []) (drop (n + 1) (h .area)) (n + 1) k)
+
+-- a BEGIN body is declined, or accepted with an empty list, and both are told
+abbrev pub BeginsAnew : BeginOutcome (List ℕ) Held Note → Type 0
+BeginsAnew (Declined e) = tellsAnew e ≡ false
+BeginsAnew (Accepted r e) = (tellsAnew e ≡ true) × ((x : List ℕ) → listOf (r x) ≡ [])
+
+begins-as : (id : ℕ) (body : List ℕ) (role : Role) → BeginsAnew (beginAs id (beginBodyOf body) role)
+unfolding opened
+begins-as id body role = (refl, λ x. refl)
+
+pub begins : (id : ℕ) (body : List ℕ) → BeginsAnew (receiveBegin id body)
+unfolding receiveBegin
+begins id body =
+    byTest (eqb (beginBodyOf body .role) RESPONDER) (λ a. simp a (begins-as id body Role.Responder))
+    (λ a. byTest (eqb (beginBodyOf body .role) AUTHORIZER) (λ b. simp (a, b) (begins-as id body Role.Authorizer))
+    (λ b. byTest (eqb (beginBodyOf body .role) FILTER) (λ c. simp (a, b, c) (begins-as id body Role.Filter)) (λ c. simp (a, b, c) refl)))
+
+-- a call keeps the list, or the request is finished
+abbrev pub CallKeeps : Held → CallOutcome Held Answer → Type 0
+CallKeeps h (Stays q n) = (isFinish n ≡ false) × (listOf q ≡ listOf h)
+CallKeeps h (Leaves n) = (isFinish n ≡ true) × (isClose n ≡ false)
+CallKeeps h (Closes n) = (isFinish n ≡ true) × (isClose n ≡ true)
+
+finish-keeps : (keep : Bool) (h : Held) (w : Of.Wrote) → CallKeeps h (finishedAs keep h w)
+unfolding finishedAs
+finish-keeps keep h w = go (eqb (w .refusal) 0) refl keep
+  where
+    go : (a : Bool) → eqb (w .refusal) 0 ≡ a → (k : Bool)
+        → CallKeeps h
+        (if a then (if k then Leaves (FinishedWith 0 (w .written) false (w .buffer)) else Closes (FinishedWith 0 (w .written) true (w .buffer)))
+        else Stays h (FinishedWith (w .refusal) 0 false (w .buffer)))
+    go true e true = (refl, refl)
+    go true e false = (refl, refl)
+    go false e k = (e, refl)
+
+pub call-keeps : (a : Argument) (h : Held) → CallKeeps h (receiveCall a h)
+unfolding receiveCall
+call-keeps (ForValue name fallback) h = (refl, refl)
+call-keeps (ForSource name) h = (refl, refl)
+call-keeps (ForPair k) h = (refl, refl)
+call-keeps ForWalk h = (refl, refl)
+call-keeps (ForSay output bytes buffer) h = (refl, ap (λ n. take n (h .area)) (say-same (h .request) output bytes buffer .length))
+call-keeps (ForEnd output buffer) h = (refl, ap (λ n. take n (h .area)) (end-same (h .request) output buffer .length))
+call-keeps (ForFinish status buffer) h = finish-keeps (h .request .mark .keep) h (Of.finishIn (h .request) status buffer)
+
+pub refused-keeps : (n : ℕ) (a : Argument) → eqb n 0 ≡ false → isFinish (refused n a) ≡ false
+unfolding refused
+refused-keeps n (ForValue name fallback) e = refl
+refused-keeps n (ForSource name) e = refl
+refused-keeps n (ForPair k) e = refl
+refused-keeps n ForWalk e = refl
+refused-keeps n (ForSay output bytes buffer) e = refl
+refused-keeps n (ForEnd output buffer) e = refl
+refused-keeps n (ForFinish status buffer) e = e
+
+-- ---- whether it takes PARAMS
+-- it takes PARAMS: it is not spent, and it is their turn
+abbrev pub takes : Held → Bool
+takes h = if isSpent (h .request .mark .life) then false else inParams (h .request .mark .turn)
+
+abbrev pub takesFound : Option Held → Bool
+takesFound none = false
+takesFound (some h) = takes h
+
+-- content is due to PARAMS
+abbrev pub isParamsDue : Due → Bool
+isParamsDue Due.Skip = false
+isParamsDue Due.Params = true
+isParamsDue Due.Stdin = false
+isParamsDue Due.Data = false
+
+-- a header of that type: whether the request takes PARAMS is told, and content is due to PARAMS just where it still takes them
+pub record TakesBy (h : Held) (kind n : ℕ) (r : Ruled) : Type 0 where
+  pub told : takes (r .held) ≡ takesAfter (r .event) (takes h)
+  pub due : 0 < n → isParamsDue (r .due) ≡ (if eqb kind PARAMS then takes (r .held) else false)
+
+pub off : (b : Bool) → false ≡ (if b then false else false)
+off true = refl
+off false = refl
+
+module _ (kind n : ℕ) (h : Held) where
+  takes-faulted : (k : ℕ) → TakesBy h kind n (faulted h k)
+  unfolding faulted withLife
+  takes-faulted k = record { told = refl; due = λ z. off (eqb kind PARAMS) }
+
+  module _ (live : isSpent (h .request .mark .life) ≡ false) where
+    past-params : (t : Role) → inParams (afterParams t) ≡ false
+    past-params Role.Responder = refl
+    past-params Role.Authorizer = refl
+    past-params Role.Filter = refl
+
+    past-stdin : (t : Role) → inParams (afterStdin t) ≡ false
+    past-stdin Role.Responder = refl
+    past-stdin Role.Authorizer = refl
+    past-stdin Role.Filter = refl
+
+    takes-ended : n ≡ 0 → TakesBy h kind n (paramsEnded h)
+    unfolding paramsEnded turned withTurn
+    takes-ended z =
+        byTest (eqb (paramsFault (listOf h)) 0)
+        (λ e. simp e (record { told = rw (live, past-params (h .request .mark .role)); due = λ k. absurd (omega arith) }))
+        (λ e. simp e (takes-faulted _))
+
+    takes-params : h .request .mark .turn ≡ Turn.Params → kind ≡ PARAMS → TakesBy h kind n (onParams n h)
+    unfolding onParams
+    takes-params t q =
+        byTest (ltb AREA (h .request .length + n))
+        (λ e. simp e (takes-faulted 24))
+        (λ e. byTest (eqb n 0) (λ z. simp (e, z) (takes-ended (eqb-true n 0 z))) (λ z. simp (e, z) (record { told = refl; due = λ k. rw (eq-eqb kind PARAMS q, live, t) })))
+
+    takes-turn : (t : Turn) → h .request .mark .turn ≡ t → kind ≡ turnType t → TakesBy h kind n (inTurn t n h)
+    unfolding onStdin onData turned withTurn
+    takes-turn Turn.Params t q = takes-params t q
+    takes-turn Turn.Stdin t q =
+        byTest (eqb n 0)
+        (λ z. simp z (record { told = rw (live, t, past-stdin (h .request .mark .role)); due = λ k. rw q }))
+        (λ z. simp z (record { told = refl; due = λ k. rw q }))
+    takes-turn Turn.Data t q =
+        byTest (eqb n 0)
+        (λ z. simp z (record { told = rw (live, t); due = λ k. rw q }))
+        (λ z. simp z (record { told = refl; due = λ k. rw q }))
+    takes-turn Turn.Done t q = takes-faulted 22
+
+    takes-abort : TakesBy h kind n (aborted h)
+    unfolding aborted withLife
+    takes-abort = record { told = refl; due = λ z. off (eqb kind PARAMS) }
+
+    takes-live : TakesBy h kind n (onLive kind n h)
+    unfolding onLive onInput
+    takes-live =
+        byTest (eqb kind BEGIN-REQUEST)
+        (λ a. simp a (takes-faulted 21))
+        (λ a. byTest (eqb kind ABORT-REQUEST)
+        (λ b. simp (a, b) takes-abort)
+        (λ b. byTest (isInput kind)
+        (λ i. byTest (eqb kind (turnType (h .request .mark .turn))) (λ e. simp (a, b, i, e) (takes-turn (h .request .mark .turn) refl (eqb-true kind (turnType (h .request .mark .turn)) e))) (λ e. simp (a, b, i, e) (takes-faulted 22)))
+        (λ i. simp (a, b, i) (takes-faulted 23))))
+
+  pub takes-header : TakesBy h kind n (onHeader kind n h)
+  unfolding onHeader
+  takes-header = byTest (isSpent (h .request .mark .life)) (λ e. simp e (record { told = refl; due = λ z. rw e (off (eqb kind PARAMS)) })) (λ e. simp e (takes-live e))
+
+-- PARAMS content
+pub takes-grown : (h : Held) (x : List ℕ) → takes (grown h x) ≡ takes h
+unfolding grown
+takes-grown h x = byTest (leb (h .request .length + length x) AREA) (λ e. simp e) (λ e. simp e)
+
+-- a BEGIN body
+abbrev pub TakesNew : BeginOutcome (List ℕ) Held Note → Type 0
+TakesNew (Declined e) = (k : Bool) → takesTold e k ≡ k
+TakesNew (Accepted r e) = ((k : Bool) → takesTold e k ≡ true) × ((x : List ℕ) → takes (r x) ≡ true)
+
+takes-as : (id : ℕ) (body : List ℕ) (role : Role) → TakesNew (beginAs id (beginBodyOf body) role)
+unfolding opened
+takes-as id body role = ((λ k. refl), λ x. refl)
+
+pub takes-new : (id : ℕ) (body : List ℕ) → TakesNew (receiveBegin id body)
+unfolding receiveBegin
+takes-new id body =
+    byTest (eqb (beginBodyOf body .role) RESPONDER) (λ a. simp a (takes-as id body Role.Responder))
+    (λ a. byTest (eqb (beginBodyOf body .role) AUTHORIZER) (λ b. simp (a, b) (takes-as id body Role.Authorizer))
+    (λ b. byTest (eqb (beginBodyOf body .role) FILTER) (λ c. simp (a, b, c) (takes-as id body Role.Filter)) (λ c. simp (a, b, c) (λ k. refl))))
+
+-- calls
+abbrev pub CallTakes : Held → CallOutcome Held Answer → Type 0
+CallTakes h (Stays q n) = takes q ≡ takes h
+CallTakes h (Leaves n) = Unit {0}
+CallTakes h (Closes n) = Unit {0}
+
+takes-writes : (n : ℕ) (bytes : List ℕ) (after r : Request) (buffer area : List ℕ) → takes (record { request = after; area = area }) ≡ takes (record { request = r; area = area })
+    → takes (record { request = Of.writes n bytes after r buffer .request; area = area }) ≡ takes (record { request = r; area = area })
+unfolding Of.writes
+takes-writes n bytes after r buffer area s = byTest (eqb n 0) (λ e. simp e s) (λ e. simp e)
+
+takes-finished : (keep : Bool) (h : Held) (w : Of.Wrote) → CallTakes h (finishedAs keep h w)
+unfolding finishedAs
+takes-finished keep h w = go (eqb (w .refusal) 0) keep
+  where
+    go : (a k : Bool)
+        → CallTakes h
+        (if a then (if k then Leaves (FinishedWith 0 (w .written) false (w .buffer)) else Closes (FinishedWith 0 (w .written) true (w .buffer)))
+        else Stays h (FinishedWith (w .refusal) 0 false (w .buffer)))
+    go true true = tt
+    go true false = tt
+    go false k = refl
+
+pub takes-call : (a : Argument) (h : Held) → CallTakes h (receiveCall a h)
+unfolding receiveCall Of.sayIn Of.saidOn Of.endIn Of.endedOn
+takes-call (ForValue name fallback) h = refl
+takes-call (ForSource name) h = refl
+takes-call (ForPair k) h = refl
+takes-call ForWalk h = refl
+takes-call (ForSay output bytes buffer) h = takes-writes _ _ _ (h .request) buffer (h .area) refl
+takes-call (ForEnd output buffer) h = takes-writes _ _ _ (h .request) buffer (h .area) refl
+takes-call (ForFinish status buffer) h = takes-finished (h .request .mark .keep) h (Of.finishIn (h .request) status buffer)

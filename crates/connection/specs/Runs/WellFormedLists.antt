@@ -1,0 +1,251 @@
+-- In a run the list of a request whose PARAMS have ended, and that is not faulted, is well formed.
+use mathlib.Core.Path.{_≡_, refl, ap, sym, _∙_, subst}
+use mathlib.Core.List.{List, [], _∷_}
+use mathlib.Core.Option.{Option}
+use mathlib.Core.Bool.{Bool, true, false}
+use Prim.Native.Nat.{ℕ, suc, _+_, _≤_, _<_}
+use native.Mathlib.Omega.{arith}
+use lib.ListN.{length, take}
+use lib.Dec.{eqb, ltb, leb}
+use Rattle.wire.specs.Test.{if_then_else_, byTest}
+use Rattle.record.specs.Names.{BEGIN-REQUEST, ABORT-REQUEST, RESPONDER, AUTHORIZER, FILTER}
+use Rattle.record.specs.Body.{beginBodyOf}
+use Rattle.lists.specs.List.{wellFormed}
+use Rattle.machine.specs.Machine.{Decided, Stays, Leaves, Closes}
+use Rattle.machine.specs.Laws.{Laws, HeaderOutcomeOk, BeginOutcomeOk, CallOutcomeOk}
+use Rattle.machine.specs.Shape.{SlotOk, WellShaped}
+use Rattle.machine.specs.ShapeKept.{shape-after, shape-fresh}
+use Rattle.connection.specs.declared.request.Turn.{Turn}
+use Rattle.connection.specs.declared.request.Life.{Life}
+use Rattle.connection.specs.declared.request.Due.{Due}
+use Rattle.connection.specs.declared.request.Role.{Role}
+use Rattle.connection.specs.declared.request.Request.{Request}
+use Rattle.connection.specs.declared.answer.Output.{Output}
+use Rattle.connection.specs.Sizes.{SLOTS, AREA, STORE, QUERY}
+use Rattle.connection.specs.Event.{Event}
+use Rattle.connection.specs.Request.{Held, Ruled, listOf, isSpent, isInput, turnType, withTurn, withLife, faulted, aborted, turned, paramsFault, paramsEnded, onParams, onStdin, onData, inTurn, onInput, onLive, onHeader, grown, opened}
+use Rattle.connection.specs.RequestCalls as Of
+use Rattle.connection.specs.RequestCalls.{inParams, isFaulted}
+use Rattle.connection.specs.Slots.{heldAt}
+use Rattle.connection.specs.Bytewise.{Note}
+use Rattle.connection.specs.Laws.ShapeLaws.{InUse}
+use Rattle.connection.specs.Arguments.{Argument, ForValue, ForSource, ForPair, ForWalk, ForSay, ForEnd, ForFinish, FinishedWith}
+use Rattle.connection.specs.Runs.Receiver.{receiver, noteOf, dueStream, receiveHeader, receiveByte, beginAs, receiveBegin, writtenAs, finishedAs, receiveCall}
+use Rattle.connection.specs.Runs.ReceiverLaws.{inactive-ok, management-ok}
+use Rattle.connection.specs.Runs.Loading.{loadedSlot, slotOf}
+use Rattle.connection.specs.Runs.LoadingLaws.{slot-loaded}
+use Rattle.connection.specs.Run.{Memory, Operation, finalMemory, startOf, PiecesOk, WholeRun, beginning, ending}
+use Rattle.connection.specs.Runs.LinkingStep.{loadedOf, open-loaded}
+use Rattle.connection.specs.Runs.LinkingRuns.{run-linked, start-loaded, start-steady}
+use Rattle.connection.specs.Runs.Hygiene.{timeline-ok}
+
+-- PARAMS have ended and the request is not faulted: then its list is well formed
+abbrev pub ListOk : Held → Type 0
+ListOk h = inParams (h .request .mark .turn) ≡ false → isFaulted (h .request .mark .life) ≡ false → wellFormed (listOf h) ≡ true
+
+-- PARAMS content comes while PARAMS have not ended
+abbrev InTurn : Due → ℕ → Held → Type 0
+InTurn Due.Skip n h = Unit {0}
+InTurn Due.Params n h = inParams (h .request .mark .turn) ≡ true
+InTurn Due.Stdin n h = Unit {0}
+InTurn Due.Data n h = Unit {0}
+
+true-false : {A : Type 0} → true ≡ false → A
+true-false e = let z : _≡_ {A = ℕ} 0 1 = cc in absurd (omega arith)
+
+-- ---- a header
+record Decides (n : ℕ) (r : Ruled) : Type 0 where
+  list : ListOk (r .held)
+  due : InTurn (r .due) n (r .held)
+
+not-faulted : (l : Life) → isSpent l ≡ false → isFaulted l ≡ false
+not-faulted Life.Live e = refl
+not-faulted Life.Faulted e = true-false e
+not-faulted Life.Aborted e = refl
+
+well-formed : (list : List ℕ) → eqb (paramsFault list) 0 ≡ true → wellFormed list ≡ true
+unfolding paramsFault
+well-formed list e = byTest (wellFormed list) (λ w. w) (λ w. true-false (sym (rw w at e)))
+
+module _ (n : ℕ) (h : Held) where
+  by-faulted : (k : ℕ) → Decides n (faulted h k)
+  unfolding faulted withLife
+  by-faulted k = record { list = λ t f. true-false f; due = tt }
+
+  by-turned : (t : Turn) (e : Event) → wellFormed (listOf h) ≡ true → Decides n (turned h t e)
+  unfolding turned withTurn
+  by-turned t e w = record { list = λ a b. w; due = tt }
+
+  by-ended : Decides n (paramsEnded h)
+  unfolding paramsEnded
+  by-ended = byTest (eqb (paramsFault (listOf h)) 0) (λ e. simp e (by-turned _ _ (well-formed (listOf h) e))) (λ e. simp e (by-faulted _))
+
+  by-params : inParams (h .request .mark .turn) ≡ true → Decides n (onParams n h)
+  unfolding onParams
+  by-params p =
+      byTest (ltb AREA (h .request .length + n))
+      (λ e. simp e (by-faulted 24))
+      (λ e. byTest (eqb n 0) (λ z. simp (e, z) by-ended) (λ z. simp (e, z) (record { list = λ t f. true-false (sym p ∙ t); due = p })))
+
+  module _ (ok : ListOk h) (live : isSpent (h .request .mark .life) ≡ false) where
+    by-turn : (t : Turn) → h .request .mark .turn ≡ t → Decides n (inTurn t n h)
+    unfolding onStdin onData
+    by-turn Turn.Params e = by-params (ap inParams e)
+    by-turn Turn.Stdin e =
+        let w = ok (ap inParams e) (not-faulted (h .request .mark .life) live) in
+        byTest (eqb n 0) (λ z. simp z (by-turned _ _ w)) (λ z. simp z (record { list = ok; due = tt }))
+    by-turn Turn.Data e =
+        let w = ok (ap inParams e) (not-faulted (h .request .mark .life) live) in
+        byTest (eqb n 0) (λ z. simp z (by-turned _ _ w)) (λ z. simp z (record { list = ok; due = tt }))
+    by-turn Turn.Done e = by-faulted 22
+
+    by-abort : Decides n (aborted h)
+    unfolding aborted withLife
+    by-abort = record { list = λ t f. ok t (not-faulted (h .request .mark .life) live); due = tt }
+
+    by-live : (kind : ℕ) → Decides n (onLive kind n h)
+    unfolding onLive onInput
+    by-live kind =
+        byTest (eqb kind BEGIN-REQUEST)
+        (λ a. simp a (by-faulted 21))
+        (λ a. byTest (eqb kind ABORT-REQUEST)
+        (λ b. simp (a, b) by-abort)
+        (λ b. byTest (isInput kind)
+        (λ i. byTest (eqb kind (turnType (h .request .mark .turn))) (λ e. simp (a, b, i, e) (by-turn (h .request .mark .turn) refl)) (λ e. simp (a, b, i, e) (by-faulted 22)))
+        (λ i. simp (a, b, i) (by-faulted 23))))
+
+  by-header : (kind : ℕ) → ListOk h → Decides n (onHeader kind n h)
+  unfolding onHeader
+  by-header kind ok = byTest (isSpent (h .request .mark .life)) (λ e. simp e (record { list = ok; due = tt })) (λ e. simp e (by-live ok e kind))
+
+decided-list : (n : ℕ) (q : Held) (e : Option Note) (due : Due) → ListOk q → InTurn due n q → HeaderOutcomeOk ListOk InTurn n (Decided q e (dueStream due))
+decided-list n q e Due.Skip f r = f
+decided-list n q e Due.Params f r = (f, r)
+decided-list n q e Due.Stdin f r = (f, r)
+decided-list n q e Due.Data f r = (f, r)
+
+-- A header keeps it.
+pub header-list : (kind n : ℕ) (h : Held) → n ≤ 65535 → ListOk h → HeaderOutcomeOk ListOk InTurn n (receiveHeader kind n h)
+unfolding receiveHeader
+header-list kind n h l ok =
+    let r = onHeader kind n h in
+    let d = by-header n h kind ok in
+    decided-list n (r .held) (noteOf (r .event) 0) (r .due) (d .list) (d .due)
+
+-- ---- content, a BEGIN body, calls
+grown-turn : (h : Held) (x : List ℕ) → grown h x .request .mark .turn ≡ h .request .mark .turn
+unfolding grown
+grown-turn h x = byTest (leb (h .request .length + length x) AREA) (λ e. simp e) (λ e. simp e)
+
+-- So does a content byte.
+pub byte-list : (due : Due) (b n : ℕ) (h : Held) → b < 256 → ListOk h → InTurn due (suc n) h
+    → ListOk ((receiveByte due b h) .0) × InTurn due n ((receiveByte due b h) .0)
+unfolding receiveByte
+byte-list Due.Skip b n h w f r = (f, tt)
+byte-list Due.Params b n h w f r =
+    let e : inParams (grown h (b ∷ []) .request .mark .turn) ≡ true = ap inParams (grown-turn h (b ∷ [])) ∙ r in
+    ((λ t g. true-false (sym e ∙ t)), e)
+byte-list Due.Stdin b n h w f r = (f, tt)
+byte-list Due.Data b n h w f r = (f, tt)
+
+begin-as-list : (id : ℕ) (body : List ℕ) (role : Role) → BeginOutcomeOk {Leftover = List ℕ} ListOk (λ x. Unit {0}) (beginAs id (beginBodyOf body) role)
+unfolding opened
+begin-as-list id body role = λ x u t f. true-false t
+
+-- A request begins with it.
+pub begin-list : (id : ℕ) (body : List ℕ) → BeginOutcomeOk {Leftover = List ℕ} ListOk (λ x. Unit {0}) (receiveBegin id body)
+unfolding receiveBegin
+begin-list id body =
+    byTest (eqb (beginBodyOf body .role) RESPONDER) (λ a. simp a (begin-as-list id body Role.Responder))
+    (λ a. byTest (eqb (beginBodyOf body .role) AUTHORIZER) (λ b. simp (a, b) (begin-as-list id body Role.Authorizer))
+    (λ b. byTest (eqb (beginBodyOf body .role) FILTER) (λ c. simp (a, b, c) (begin-as-list id body Role.Filter)) (λ c. simp (a, b, c) tt)))
+
+-- what writes keeps length, turn and life
+record SameTurn (r q : Request) : Type 0 where
+  length : q .length ≡ r .length
+  turn : q .mark .turn ≡ r .mark .turn
+  life : q .mark .life ≡ r .mark .life
+
+turn-writes : (n : ℕ) (bytes : List ℕ) (after r : Request) (buffer : List ℕ) → SameTurn r after → SameTurn r (Of.writes n bytes after r buffer .request)
+unfolding Of.writes
+turn-writes n bytes after r buffer s = byTest (eqb n 0) (λ e. simp e s) (λ e. simp e (record { length = refl; turn = refl; life = refl }))
+
+turn-say : (r : Request) (output : Output) (bytes buffer : List ℕ) → SameTurn r (Of.sayIn r output bytes buffer .request)
+unfolding Of.sayIn Of.saidOn
+turn-say r output bytes buffer = turn-writes _ _ _ r buffer (record { length = refl; turn = refl; life = refl })
+
+turn-end : (r : Request) (output : Output) (buffer : List ℕ) → SameTurn r (Of.endIn r output buffer .request)
+unfolding Of.endIn Of.endedOn
+turn-end r output buffer = turn-writes _ _ _ r buffer (record { length = refl; turn = refl; life = refl })
+
+written-list : (h : Held) (w : Of.Wrote) → ListOk h → SameTurn (h .request) (w .request) → CallOutcomeOk ListOk InTurn h (writtenAs h w)
+written-list h w ok s =
+    ((λ t f. ap (λ n. wellFormed (take n (h .area))) (s .length) ∙ ok (sym (ap inParams (s .turn)) ∙ t) (sym (ap isFaulted (s .life)) ∙ f)), due-same)
+  where
+    due-same : (due : Due) (n : ℕ) → InTurn due n h → InTurn due n (record { request = w .request; area = h .area })
+    due-same Due.Skip n r = tt
+    due-same Due.Params n r = ap inParams (s .turn) ∙ r
+    due-same Due.Stdin n r = tt
+    due-same Due.Data n r = tt
+
+finished-list : (keep : Bool) (h : Held) (w : Of.Wrote) → ListOk h → CallOutcomeOk ListOk InTurn h (finishedAs keep h w)
+unfolding finishedAs
+finished-list keep h w f = go (eqb (w .refusal) 0) keep
+  where
+    go : (a k : Bool)
+        → CallOutcomeOk ListOk InTurn h
+        (if a then (if k then Leaves (FinishedWith 0 (w .written) false (w .buffer)) else Closes (FinishedWith 0 (w .written) true (w .buffer)))
+        else Stays h (FinishedWith (w .refusal) 0 false (w .buffer)))
+    go true true = tt
+    go true false = tt
+    go false k = (f, λ due n r. r)
+
+-- Every call keeps it.
+pub call-list : (a : Argument) (h : Held) → ListOk h → CallOutcomeOk ListOk InTurn h (receiveCall a h)
+unfolding receiveCall
+call-list (ForValue name fallback) h f = (f, λ due n r. r)
+call-list (ForSource name) h f = (f, λ due n r. r)
+call-list (ForPair k) h f = (f, λ due n r. r)
+call-list ForWalk h f = (f, λ due n r. r)
+call-list (ForSay output bytes buffer) h f = written-list h (Of.sayIn (h .request) output bytes buffer) f (turn-say (h .request) output bytes buffer)
+call-list (ForEnd output buffer) h f = written-list h (Of.endIn (h .request) output buffer) f (turn-end (h .request) output buffer)
+call-list (ForFinish status buffer) h f = finished-list (h .request .mark .keep) h (Of.finishIn (h .request) status buffer) f
+
+-- The laws of shape, with lists well formed for shape.
+abbrev pub list-laws : Laws receiver
+list-laws =
+    record {
+      slotCount = SLOTS;
+      queryLimit = QUERY;
+      RequestOk = ListOk;
+      LeftoverOk = λ x. Unit {0};
+      StreamOk = InTurn;
+      clean-ok = tt;
+      header-ok = header-list;
+      byte-ok = byte-list;
+      begin-ok = begin-list;
+      call-ok = call-list;
+      inactive-ok = inactive-ok;
+      management-ok = management-ok;
+    }
+
+-- ---- every run
+slot-list : (m : Memory) (i : ℕ) → m .state .conn .«open» ≡ true → WellShaped receiver list-laws (loadedOf m) → InUse (m .state .conn .table) i
+    → ListOk (heldAt (m .state .conn .table) (m .store) i)
+unfolding slotOf loadedSlot
+slot-list m i e w u =
+    let t = m .state .conn .table in
+    let k = subst (λ s. WellShaped receiver list-laws s) (open-loaded m e) w in
+    let s : SlotOk receiver list-laws (slotOf t (m .store) i) = subst (λ s. SlotOk receiver list-laws s) (slot-loaded t (m .store) i (u .low)) (k .0 .fits i) in
+    let r = rw (u .is-taken) at s in
+    r .1
+
+-- After any run from a start that leaves the connection open, for each active request.
+pub lists-well-formed : (r : WholeRun) → ending r .state .conn .«open» ≡ true → (i : ℕ) → InUse (ending r .state .conn .table) i
+    → ListOk (heldAt (ending r .state .conn .table) (ending r .store) i)
+lists-well-formed r e i u =
+    let A = beginning r in
+    let k = run-linked (r .operations) A (start-steady (r .gathered) (r .store) (r .gathered-size) (r .store-size)) (r .pieces) in
+    let fresh-ok = subst (λ s. WellShaped receiver list-laws s) (sym (start-loaded (r .gathered) (r .store) (r .store-size))) (shape-fresh receiver list-laws) in
+    let ends-ok = subst (λ s. WellShaped receiver list-laws s) (sym (k .state)) (shape-after receiver list-laws (loadedOf A) (timeline-ok (r .operations) A (r .pieces)) fresh-ok) in
+    slot-list (ending r) i e ends-ok u

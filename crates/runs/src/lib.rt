@@ -1,1 +1,0 @@
-// Theorems only: runs of the receiver, and that requests on one connection are kept apart in them.
