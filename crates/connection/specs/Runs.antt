@@ -16,6 +16,9 @@ pub mod Records
 pub mod Theorem
 pub mod Hygiene
 pub mod SecondRun
+pub mod RunParts
+pub mod SmallRuns
+pub mod PremiseRuns
 pub mod PremiseTests
 pub mod Example
 pub mod WellFormedLists

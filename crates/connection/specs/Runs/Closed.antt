@@ -1,25 +1,15 @@
 -- A closed connection is final: whatever is done on it changes nothing.
-use mathlib.Core.Path.{_≡_, refl, ap, ap₂, sym, _∙_}
-use mathlib.Core.List.{List, [], _∷_, _++_, append-assoc, append-nil, List·Memᴰ}
-use mathlib.Core.Bool.{true, false}
-use mathlib.Core.Logic.{inl}
-use Prim.Native.Nat.{ℕ, zero, suc, _≤_, _<_}
+use mathlib.Core.Path.{_≡_, refl, ap, _∙_}
+use mathlib.Core.List.{List, [], _∷_}
+use mathlib.Core.Bool.{false}
+use Prim.Native.Nat.{ℕ}
 use native.Mathlib.Omega.{arith}
-use lib.ListN.{length, take, drop, length-drop, take-append-drop}
-use Rattle.wire.specs.Test.{byTest}
-use Rattle.machine.specs.Timeline.{RequestCall, CountCall, Item, ByteItem, CallItem, byteItems, purge}
-use Rattle.machine.specs.Machine.{Connection, Open, Closed, AtHeader, stateAfter}
-use Rattle.machine.specs.RunLaws.{closed-stays, state-append}
 use Rattle.machine.specs.Isolation as Generic
-use Rattle.connection.specs.Sizes.{STORE, QUERY}
 use Rattle.connection.specs.Calls as C
-use Rattle.connection.specs.Laws.PieceLaws.{AllBytes, drop-bytes}
-use Rattle.connection.specs.Laws.Progress.{admitted-fits, step-refused, step-uses-some}
-use Rattle.connection.specs.Runs.Receiver.{receiver}
-use Rattle.connection.specs.Run.{Memory, Operation, StepOver, CallFor, CountActive, stepOf, memoryOf, leftBy, itemsOf, finalMemory, allSeen, timeline, startOf}
-use Rattle.connection.specs.Runs.LinkingStep.{loadedOf, closed-loaded, Steady, step-linked}
-use Rattle.connection.specs.Runs.LinkingCalls.{lent-closed, call-closed, refused-call, call-linked, count-linked}
-use Rattle.connection.specs.Runs.LinkingRuns.{run-linked, start-loaded, start-steady, BetweenRecords}
+use Rattle.connection.specs.Laws.Progress.{admitted-fits, step-refused}
+use Rattle.connection.specs.Run.{Memory, Operation, StepOver, CallFor, CountActive, memoryOf, leftBy, finalMemory}
+use Rattle.connection.specs.Runs.LinkingStep.{Steady}
+use Rattle.connection.specs.Runs.LinkingCalls.{lent-closed, call-closed, refused-call}
 
 closed-operation : (m : Memory) (o : Operation) → Steady m → m .state .conn .«open» ≡ false → leftBy m o ≡ m
 unfolding leftBy

@@ -1,5 +1,5 @@
 -- A worked instance of isolation: two requests, interleaved, with calls. R is 1.
-use mathlib.Core.Path.{_≡_, refl, sym, _∙_, ap}
+use mathlib.Core.Path.{_≡_, refl, _∙_}
 use mathlib.Core.List.{List, [], _∷_, _++_, flatten, append-nil}
 use mathlib.Core.Logic.{inl}
 use mathlib.Core.Option.{none, some}
@@ -34,9 +34,8 @@ use Rattle.connection.specs.Step.{onInactive, onActive, judged, opens, b
 use Rattle.connection.specs.Calls as C
 use Rattle.connection.specs.Bytewise.{Note, showing}
 use Rattle.connection.specs.Arguments.{ForValue, ForSay, ForFinish, ValueIs, Wrote, FinishedWith}
-use Rattle.connection.specs.Run.{Operation, StepOver, CallFor, CountActive, Observed, Heard, Answered, requestOf, called, leftBy, seenIn, itemsOf, finalMemory, allSeen, timeline, startOf, WholeRun, ending, timelineOf, observedIn, seenOf, observed}
-use Rattle.connection.specs.Isolation.{EndsBetweenRecords, RunsFor, Isolated}
-use Rattle.connection.specs.Runs.LinkingRuns.{BetweenRecords}
+use Rattle.connection.specs.Run.{Operation, StepOver, CallFor, CountActive, Heard, Answered, requestOf, called, leftBy, seenIn, itemsOf, finalMemory, allSeen, timeline, startOf, WholeRun, ending, timelineOf, observedIn, seenOf, observed}
+use Rattle.connection.specs.Isolation.{EndsBetweenRecords, Isolated}
 use Rattle.connection.specs.Runs.Records.{between-whole}
 use Rattle.connection.specs.Runs.Theorem.{isolation}
 use Rattle.connection.specs.Runs.PremiseTests.{allBelow, piecesBelow, below-pieces, refusedIn, never-refused}

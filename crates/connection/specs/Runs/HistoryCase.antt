@@ -8,7 +8,6 @@ use Rattle.machine.specs.Machine as M
 use Rattle.machine.specs.Timeline.{byteItems, headerVersion, headerType, headerId, headerContent, headerPadding, scanLeft}
 use Rattle.connection.specs.Request as Q
 use Rattle.connection.specs.Runs.Receiver as P
-use Rattle.connection.specs.Runs.Receiver.{receiver}
 use Rattle.connection.specs.Runs.History.{historyOf, parametersBy, witnessed, scanParams, scanWholeParams}
 
 -- BEGIN of request 1, PARAMS with three bytes and one of padding

@@ -5,14 +5,14 @@ use mathlib.Core.Option.{Option, none, some}
 use mathlib.Core.Bool.{Bool, true, false}
 use Prim.Native.Nat.{ℕ, zero, suc}
 use native.Mathlib.Omega.{arith}
-use lib.ListN.{length, set}
+use lib.ListN.{set}
 use lib.Dec.{eqb}
 use Rattle.wire.specs.Test.{if_then_else_, byTest}
 use Rattle.machine.specs.Slots.{SlotState, Vacant, HeldBy, slotAt, Lookup, Absent, FoundAt, lookupFurther, lookup, LookupRight, lookup-right, lookup-set, slot-written}
 use Rattle.machine.specs.Timeline.{Call, RequestCall, CountCall, Item, ByteItem, CallItem, Scan, ScanHeader, ScanRest}
 use Rattle.machine.specs.Machine.{CallOutcome, Stays, Leaves, Closes, Target, Skip, ToBegin, ToQuery, ToSlot, Reading, AtHeader, PastHeader, Slots, Connection, Open, Closed, Observation, CallAnswer, onItem, fresh, recordByte, readingWithout, callDecided, requestCalled, requestFound, targetWithout, asList, observations}
 use Rattle.connection.specs.declared.request.Due.{Due}
-use Rattle.connection.specs.Sizes.{SLOTS, STORE, QUERY}
+use Rattle.connection.specs.Sizes.{SLOTS}
 use Rattle.connection.specs.Request.{listOf, Held}
 use borrow.Author.Tests.{eqb-true, eqb-false, ne-eqb}
 use mathlib.Core.Logic.{_⊎_, inl, inr}
@@ -22,7 +22,7 @@ use Rattle.machine.specs.ShapeKept.{shape-item, shape-fresh}
 use Rattle.connection.specs.Arguments.{Argument, Answer}
 use Rattle.connection.specs.Runs.Receiver.{cleanArea, receiver, receiveCall}
 use Rattle.connection.specs.Runs.ReceiverLaws.{receiver-laws}
-use Rattle.connection.specs.Run.{Operation, requestOf, finalMemory, timeline, startOf, allSeen, PiecesOk, WholeRun, beginning, ending, timelineOf, observedIn}
+use Rattle.connection.specs.Run.{requestOf, WholeRun, beginning, ending, timelineOf, observedIn}
 use Rattle.connection.specs.Runs.LinkingRuns.{run-linked, start-loaded, start-steady}
 use Rattle.connection.specs.Runs.Hygiene.{timeline-ok}
 use Rattle.connection.specs.Runs.Telling.{toldAll}

@@ -12,7 +12,7 @@ use Rattle.machine.specs.Slots.{SlotState, Vacant, HeldBy, slotAt, Lookup, Abse
 use Rattle.machine.specs.Timeline.{RequestCall, CountCall, Item, ByteItem, CallItem, headerVersion, headerType, headerId, headerContent, headerPadding}
 use Rattle.machine.specs.Machine.{BeginOutcome, Declined, Accepted, CallOutcome, Stays, Leaves, Closes, Target, Skip, ToBegin, ToQuery, ToSlot, Reading, AtHeader, PastHeader, Slots, Connection, Open, Closed, Observation, RequestEvent, NoticeEvent, CloseEvent, CountAnswer, CallAnswer, onItem, InactiveOutcome, WrongBegin, NewBegin, PassedOver, ManagementOutcome, QueryTooLong, Notices, Gathers, fresh, Effect, eventFrom, withLeft, queryWhole, queryHeader, managementHeader, inactiveHeader, headerDecided, headerFound, headerRouted, headerVersioned, headerByte, requestSeated, beginWhole, streamByte, contentByte, recordByte, readingWithout, callDecided, requestCalled, stateAfter, requestFound, requestIn}
 use Rattle.connection.specs.declared.request.Due.{Due}
-use Rattle.connection.specs.Sizes.{SLOTS, STORE, QUERY}
+use Rattle.connection.specs.Sizes.{SLOTS}
 use Rattle.connection.specs.Event.{Event}
 use Rattle.connection.specs.Request.{Held, listOf, onHeader, grown}
 use Rattle.connection.specs.Bytewise.{Note}
@@ -24,7 +24,7 @@ use Rattle.machine.specs.ShapeKept.{shape-item, shape-fresh}
 use Rattle.connection.specs.Arguments.{Argument, Answer, refused}
 use Rattle.connection.specs.Runs.Receiver.{cleanArea, receiver, receiveBegin, receiveCall, Notice, noteOf, receiveHeader, receiveByte, receiveQuery, receiveManagement, receiveInactive}
 use Rattle.connection.specs.Runs.ReceiverLaws.{StreamOk, receiver-laws}
-use Rattle.connection.specs.Run.{Operation, requestOf, finalMemory, timeline, startOf, PiecesOk, WholeRun, beginning, ending, timelineOf}
+use Rattle.connection.specs.Run.{requestOf, WholeRun, beginning, ending, timelineOf}
 use Rattle.connection.specs.Runs.LinkingRuns.{run-linked, start-loaded, start-steady, request-loaded}
 use Rattle.connection.specs.Runs.Hygiene.{timeline-ok}
 use Rattle.connection.specs.Runs.History.{listFound, opensOrFaults, tellsAnew, emptiesAny, parametersThen}

@@ -15,7 +15,7 @@ use Rattle.machine.specs.Timeline.{Item}
 use Rattle.machine.specs.Shape.{ItemsOk, ItemsEnd, ItemsMore, SlotOk, WellShaped}
 use Rattle.machine.specs.ShapeKept.{shape-after, shape-fresh, items-all}
 use Rattle.connection.specs.declared.state.Slot.{Slot}
-use Rattle.connection.specs.Sizes.{SLOTS, AREA, STORE, QUERY}
+use Rattle.connection.specs.Sizes.{SLOTS, AREA, STORE}
 use Rattle.connection.specs.Slots.{requestAt, areaAt, find}
 use Rattle.connection.specs.Step.{Stepped, closedConn, stepRefusal, started}
 use Rattle.connection.specs.RequestCalls as Of

@@ -19,7 +19,6 @@ use Rattle.connection.specs.declared.state.Slot.{Slot}
 use Rattle.connection.specs.Sizes.{SLOTS, STORE, QUERY}
 use Rattle.connection.specs.Slots.{requestAt, areaAt, heldAt, find, onSlot, noRequests}
 use Rattle.connection.specs.Step.{noFrame, started}
-use Rattle.connection.specs.Laws.PieceLaws.{AllBytes}
 use Rattle.connection.specs.Laws.StepShape.{start-in-shape, start-arrays}
 use Rattle.connection.specs.Laws.StepSizes.{start-sizes}
 use Rattle.connection.specs.Runs.Receiver.{cleanArea, receiver}

@@ -13,9 +13,7 @@ use Rattle.connection.specs.Calls as C
 use Rattle.connection.specs.Bytewise.{Note}
 use Rattle.connection.specs.Laws.PieceLaws.{AllBytes}
 use Rattle.connection.specs.Run.{Operation, StepOver, CallFor, CountActive, Observed, Heard, Answered, PiecesOk}
-
 use Rattle.connection.specs.Isolation.{overloadedFor}
-
 
 -- all are bytes
 unfoldable pub allBelow : List ℕ → Bool

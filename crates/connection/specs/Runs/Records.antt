@@ -1,15 +1,14 @@
 -- Where a run stands, by the records that its used bytes make: an open run is between two records just where its used bytes split into records without a rest.
 use mathlib.Core.Path.{_≡_, refl, ap, sym, _∙_, subst}
-use mathlib.Core.List.{List, [], _∷_, _++_, List·Memᴰ}
+use mathlib.Core.List.{List, [], _∷_}
 use mathlib.Core.Bool.{Bool, true, false}
-use Prim.Native.Nat.{ℕ, _≤_, _<_}
+use Prim.Native.Nat.{ℕ, _≤_}
 use native.Mathlib.Omega.{arith}
 use lib.ListN.{length, take}
 use lib.Seq.{take-nil}
 use lib.Dec.{eqb, ltb}
 use Rattle.wire.specs.Test.{if_then_else_, byTest}
 use Rattle.record.specs.Names.{VERSION, BEGIN-REQUEST, GET-VALUES, RESPONDER, AUTHORIZER, FILTER}
-use Rattle.record.specs.Split.{split}
 use Rattle.record.specs.declared.header.Header.{Header}
 use Rattle.record.specs.declared.body.BeginBody.{BeginBody}
 use Rattle.reader.specs.Position.{betweenRecords, behindHeader, advanced, after}
@@ -34,8 +33,7 @@ use Rattle.connection.specs.Laws.PieceLaws.{by-step}
 use Rattle.connection.specs.Laws.ShapeLaws.{shaped}
 use Rattle.connection.specs.Laws.Progress.{fits-admitted, step-advances, step-nothing}
 use Rattle.connection.specs.Arguments.{Argument, ForValue, ForSource, ForPair, ForWalk, ForSay, ForEnd, ForFinish}
-use Rattle.connection.specs.Runs.Receiver.{receiver}
-use Rattle.connection.specs.Run.{Memory, Operation, StepOver, CallFor, CountActive, CallResult, finishedBy, called, stepOf, usedOf, leftBy, itemsOf, finalMemory, allSeen, timeline, startOf, PiecesOk, WholeRun, beginning, ending, timelineOf}
+use Rattle.connection.specs.Run.{Memory, Operation, StepOver, CallFor, CountActive, CallResult, finishedBy, called, stepOf, usedOf, leftBy, itemsOf, finalMemory, timeline, startOf, PiecesOk, WholeRun, beginning, ending, timelineOf}
 use Rattle.connection.specs.Runs.LinkingStep.{Steady, step-linked}
 use Rattle.connection.specs.Runs.LinkingCalls.{lent-absent, call-absent, lent-found, call-found, refused-call, resultAt, slot-found, found-result, call-linked}
 use Rattle.connection.specs.Runs.LinkingRuns.{start-steady, BetweenRecords}

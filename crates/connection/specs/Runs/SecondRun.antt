@@ -1,13 +1,13 @@
 -- A run of R's items exists, in every cutting of their bytes into pieces: what isolation says of such runs is said of something.
 use mathlib.Core.Path.{_≡_, refl, ap, ap₂, sym, _∙_}
-use mathlib.Core.List.{List, [], _∷_, _++_, append-assoc, append-nil, List·Memᴰ}
-use mathlib.Core.Bool.{true, false}
+use mathlib.Core.List.{List, [], _∷_, _++_, append-assoc, append-nil}
+use mathlib.Core.Bool.{true}
 use mathlib.Core.Logic.{inl}
 use Prim.Native.Nat.{ℕ, zero, suc, _≤_, _<_}
 use native.Mathlib.Omega.{arith}
 use lib.ListN.{length, take, drop, length-drop, take-append-drop}
 use Rattle.wire.specs.Test.{byTest}
-use Rattle.machine.specs.Timeline.{RequestCall, CountCall, Item, ByteItem, CallItem, byteItems, purge}
+use Rattle.machine.specs.Timeline.{RequestCall, CountCall, Item, CallItem, byteItems, purge}
 use Rattle.machine.specs.Machine.{Connection, Open, Closed, AtHeader, stateAfter}
 use Rattle.machine.specs.TimelineLaws.{byte-items-append}
 use Rattle.machine.specs.RunLaws.{closed-stays, state-append}
@@ -15,13 +15,13 @@ use Rattle.machine.specs.Isolation as Generic
 use Rattle.connection.specs.Sizes.{STORE, QUERY}
 use Rattle.connection.specs.Calls as C
 use Rattle.connection.specs.Laws.PieceLaws.{AllBytes, drop-bytes}
-use Rattle.connection.specs.Laws.Progress.{admitted-fits, step-refused, step-uses-some}
+use Rattle.connection.specs.Laws.Progress.{step-uses-some}
 use Rattle.connection.specs.Runs.Receiver.{receiver}
 use Rattle.connection.specs.Arguments.{Argument}
-use Rattle.connection.specs.Run.{Memory, Operation, StepOver, CallFor, CountActive, stepOf, memoryOf, leftBy, itemsOf, finalMemory, timeline, startOf, PiecesOk, WholeRun, timelineOf}
+use Rattle.connection.specs.Run.{Memory, Operation, StepOver, CallFor, CountActive, stepOf, leftBy, itemsOf, finalMemory, timeline, startOf, PiecesOk, WholeRun, timelineOf}
 use Rattle.connection.specs.Runs.LinkingStep.{loadedOf, closed-loaded, Steady, step-linked}
-use Rattle.connection.specs.Runs.LinkingCalls.{lent-closed, call-closed, refused-call, call-linked, count-linked}
-use Rattle.connection.specs.Runs.LinkingRuns.{run-linked, start-loaded, start-steady, BetweenRecords}
+use Rattle.connection.specs.Runs.LinkingCalls.{call-linked, count-linked}
+use Rattle.connection.specs.Runs.LinkingRuns.{run-linked, start-loaded, start-steady}
 use Rattle.connection.specs.Isolation.{EndsBetweenRecords, NeverOverloaded, RunsFor, Isolated}
 use Rattle.connection.specs.Runs.Theorem.{purged-between, isolation}
 

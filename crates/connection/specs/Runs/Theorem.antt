@@ -1,10 +1,9 @@
 -- The proof of Isolation: runs of the receiver are runs of a machine of one request, for which it is shown in the crate `machine`.
 use mathlib.Core.Path.{_≡_, refl, ap, sym, _∙_, subst}
-use mathlib.Core.List.{List, [], _∷_, _++_, List·Memᴰ, List·Memᴰ·head, List·Memᴰ·tail, Memᴰ·append-left, Memᴰ·append-right}
+use mathlib.Core.List.{List, [], _∷_, List·Memᴰ, List·Memᴰ·head, List·Memᴰ·tail, Memᴰ·append-left, Memᴰ·append-right}
 use mathlib.Core.Logic.{_⊎_, inl, inr}
 use mathlib.Core.Bool.{false}
 use Prim.Native.Nat.{ℕ, _<_}
-use lib.ListN.{length}
 use Rattle.record.specs.Names.{OVERLOADED}
 use Rattle.machine.specs.Timeline.{Item, purge}
 use Rattle.machine.specs.Machine.{Connection, Closed, Observation, RequestEvent, stateAfter, observations, ranFresh}

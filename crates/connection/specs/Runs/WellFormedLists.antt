@@ -21,7 +21,7 @@ use Rattle.connection.specs.declared.request.Due.{Due}
 use Rattle.connection.specs.declared.request.Role.{Role}
 use Rattle.connection.specs.declared.request.Request.{Request}
 use Rattle.connection.specs.declared.answer.Output.{Output}
-use Rattle.connection.specs.Sizes.{SLOTS, AREA, STORE, QUERY}
+use Rattle.connection.specs.Sizes.{SLOTS, AREA, QUERY}
 use Rattle.connection.specs.Event.{Event}
 use Rattle.connection.specs.Request.{Held, Ruled, listOf, isSpent, isInput, turnType, withTurn, withLife, faulted, aborted, turned, paramsFault, paramsEnded, onParams, onStdin, onData, inTurn, onInput, onLive, onHeader, grown, opened}
 use Rattle.connection.specs.RequestCalls as Of
@@ -34,7 +34,7 @@ use Rattle.connection.specs.Runs.Receiver.{receiver, noteOf, dueStream, 
 use Rattle.connection.specs.Runs.ReceiverLaws.{inactive-ok, management-ok}
 use Rattle.connection.specs.Runs.Loading.{loadedSlot, slotOf}
 use Rattle.connection.specs.Runs.LoadingLaws.{slot-loaded}
-use Rattle.connection.specs.Run.{Memory, Operation, finalMemory, startOf, PiecesOk, WholeRun, beginning, ending}
+use Rattle.connection.specs.Run.{Memory, WholeRun, beginning, ending}
 use Rattle.connection.specs.Runs.LinkingStep.{loadedOf, open-loaded}
 use Rattle.connection.specs.Runs.LinkingRuns.{run-linked, start-loaded, start-steady}
 use Rattle.connection.specs.Runs.Hygiene.{timeline-ok}

@@ -1,0 +1,59 @@
+-- Why isolation has its premises: for each a small run that breaks it, and in which 1 does notice, computed.
+use mathlib.Core.Path.{_≡_, refl}
+use mathlib.Core.List.{List, [], _∷_, _++_, flatten}
+use mathlib.Core.Option.{Option, none}
+use Rattle.wire.specs.Number.{number4}
+use Rattle.wire.specs.Buffer.{copied, zeros}
+use Rattle.occupancy.specs.Word.{taken, lowestFree, withBit, withSlot, withoutBit, withoutSlot}
+use Rattle.record.specs.Names.{OVERLOADED}
+use Rattle.record.specs.Header.{headerOf, headerBytes}
+use Rattle.record.specs.Body.{beginBodyOf, endBodyBytes}
+use Rattle.reader.specs.Position.{advanced, inHeader}
+use Rattle.pairs.specs.Length.{fourAt, lengthAt}
+use Rattle.pairs.specs.Name.{sameBytes}
+use Rattle.pairs.specs.Pair.{pairAt}
+use Rattle.lists.specs.List.{pairsIn, pairsFrom, endingOf, wellFormed, firstIn, firstNamed}
+use Rattle.writer.specs.Written.{paddingOf, recordBytes, chunksIn, chunks, streamBytes}
+use Rattle.machine.specs.Timeline.{byteItems}
+use Rattle.connection.specs.declared.request.Turn.{Turn}
+use Rattle.connection.specs.Sizes.{AREA}
+use Rattle.connection.specs.Event.{Event}
+use Rattle.connection.specs.Request.{Held, withTurn, withLife, faulted, aborted, turned, paramsFault, paramsEnded, onParams, onStdin, onData, onInput, onLive, onHeader, grown, opened}
+use Rattle.connection.specs.RequestCalls as Of
+use Rattle.connection.specs.Slots.{requestAt, areaAt, putRequest, putArea, takeSlot, freeSlot, holdsId, findFrom}
+use Rattle.connection.specs.Shape.{idFits, slotsFit, positionFits, inShape}
+use Rattle.connection.specs.Step.{closes, onInactive, onActive, judged, opens, begun, ofBegin, ofRequest, advances, stepRefusal, stepped, started}
+use Rattle.connection.specs.Calls as C
+use Rattle.connection.specs.Bytewise.{Note, showing}
+use Rattle.connection.specs.Run.{Operation, StepOver, Observed, Heard, requestOf, called, leftBy, seenIn, itemsOf, finalMemory, allSeen, timeline, startOf, seenOf}
+use Rattle.connection.specs.Runs.RunParts.{fresh, header, begin, finish, one, opened-one}
+
+-- what is told of 1
+abbrev seenOfOne : List Operation → List Observed
+seenOfOne os = seenOf 1 (allSeen fresh os)
+
+-- 1 at the end
+abbrev leftOfOne : List Operation → Option Held
+leftOfOne os = requestOf 1 (finalMemory fresh os)
+
+-- sixteen others
+abbrev others : List Operation
+others =
+    begin 2 ++ begin 3 ++ begin 4 ++ begin 5 ++ begin 6 ++ begin 7 ++ begin 8 ++ begin 9 ++ begin 10 ++ begin 11 ++ begin 12 ++ begin 13 ++ begin 14 ++ begin 15 ++ begin 16 ++ begin 17
+
+pub record PremiseRuns : Type 0 where
+  -- The whole run ends open. Here a record of 2 has the version 2 and closes the connection; alone, 1 would still be there.
+  closed-by-another : leftOfOne (begin 1 ++ (StepOver (2 ∷ 1 ∷ 0 ∷ 2 ∷ 0 ∷ 8 ∷ 0 ∷ 0 ∷ []) ∷ [])) ≡ none
+  not-alone : leftOfOne (begin 1) ≡ one 0 Turn.Params (zeros AREA)
+  -- It ends between two records. Here it ends in a header of 1, and so does the run of what is left: four bytes are held.
+  cut-in-header : finalMemory fresh (StepOver (1 ∷ 1 ∷ 0 ∷ 1 ∷ []) ∷ []) .state .conn .frame .position .held ≡ 4
+  -- 1 is not refused for want of a slot. Here sixteen others are active; alone, 1 would open.
+  refused-for-others : seenOfOne (others ++ begin 1) ≡ Heard (Note.Told (Event.Refuse 1 OVERLOADED)) ∷ []
+  opens-alone : seenOfOne (begin 1) ≡ opened-one ∷ []
+  -- The second run has all of 1's items, or is closed. Here it has only the header of the BEGIN record: nothing is told of 1 yet.
+  stops-early : seenOfOne (header 1 1 8 ∷ []) ≡ []
+
+pub premise-runs : PremiseRuns
+unfolding copied taken lowestFree withBit withSlot withoutBit withoutSlot headerOf beginBodyOf headerBytes endBodyBytes advanced inHeader number4 fourAt lengthAt pairAt sameBytes pairsIn pairsFrom endingOf wellFormed firstIn firstNamed paddingOf recordBytes chunksIn chunks streamBytes flatten withTurn withLife faulted aborted turned paramsFault paramsEnded onParams onStdin onData onInput onLive onHeader grown opened Of.valueIn Of.writes Of.saidOn Of.sayIn Of.owesOut Of.owesErr Of.finishBytes Of.finishIn requestAt areaAt putRequest putArea takeSlot freeSlot holdsId findFrom idFits slotsFit positionFits inShape onInactive onActive judged opens begun ofBegin ofRequest advances stepRefusal stepped started showing C.lentRefusal C.callRefusal C.value C.say C.released C.finishes C.finish byteItems requestOf called leftBy seenIn itemsOf finalMemory allSeen timeline startOf seenOf closes
+premise-runs =
+    record { closed-by-another = refl; not-alone = refl; cut-in-header = refl; refused-for-others = refl; opens-alone = refl; stops-early = refl }
