@@ -20,5 +20,6 @@ pub mod Ways
 pub mod Closing
 pub mod Causes
 pub mod Faults
+pub mod Readiness
 pub mod Gathered
 pub mod NumbersLaws

@@ -28,3 +28,4 @@ pub mod HistoryTarget
 pub mod HistoryScan
 pub mod HistoryRuns
 pub mod HistoryCase
+pub mod ReadyLength

@@ -79,7 +79,7 @@ by-closing {P} st store piece =
     (λ fits used l w same f g. go used l w f g)
   where
     go : {k : Slot} (used : ℕ) (l : Left) → Way st store k l → (StaysOpen (leaves used l) → P) → ((n : ℕ) → ClosedBy store n (leaves used l) → P) → P
-    go used l (Way.Reads gathered frame e q) f g = f (record { is-open = refl; goes-on = not-final e q })
+    go used l (Way.Reads gathered frame e q w) f g = f (record { is-open = refl; goes-on = not-final e q })
     go used l (Way.Closes gathered n c) f g = g n (record { cause = c; told = refl; freed = refl; zeroed = refl })
     go used l (Way.Rules h i k e) f g = f (record { is-open = refl; goes-on = header-goes-on (h .kind) (h .content) (heldAt (st .conn .table) store i) })
     go used l (Way.Feeds due i bytes p k low) f g = f (record { is-open = refl; goes-on = content-goes-on due bytes (heldAt (st .conn .table) store i) })

@@ -63,7 +63,7 @@ step-other-slots st store piece j apart =
     other i k q = apart (k ∙ ap (λ (n : ℕ). Slot.At n) (sym q))
 
     go : Fits (st .conn) store → (used : ℕ) (l : Left) → Way st store (concerned st piece) l → l .conn .«open» ≡ true → Untouched st store j (leaves used l)
-    go fits used _ (Way.Reads g f e q) o = record { request = refl; area = refl; is-taken = refl }
+    go fits used _ (Way.Reads g f e q w) o = record { request = refl; area = refl; is-taken = refl }
     go fits used _ (Way.Closes g n c) o = let z : _≡_ {A = ℕ} 0 1 = cc in absurd (omega arith)
     go fits used _ (Way.Rules h i k e) o =
         let low = find-at (st .conn .table) (h .id) i e .low in
@@ -99,7 +99,7 @@ by-header P st store piece spent =
     by-way (λ (s : Stepped). isFinal (s .event) ≡ true → isClosing (s .event) ≡ false → P s) st store piece (λ n f c. let z : _≡_ {A = ℕ} 0 1 = cc in absurd (omega arith)) go
   where
     go : Fits (st .conn) store → (used : ℕ) (l : Left) → Way st store (concerned st piece) l → isFinal (l .event) ≡ true → isClosing (l .event) ≡ false → P (leaves used l)
-    go fits used _ (Way.Reads g frame e q) f c = let z : _≡_ {A = ℕ} 0 1 = cc in absurd (omega arith)
+    go fits used _ (Way.Reads g frame e q w) f c = let z : _≡_ {A = ℕ} 0 1 = cc in absurd (omega arith)
     go fits used _ (Way.Closes g n k) f c = let z : _≡_ {A = ℕ} 0 1 = cc in absurd (omega arith)
     go fits used _ (Way.Rules h i k e) f c = spent used h i (fits .size) e
     go fits used _ (Way.Feeds due i bytes p k low) f c =

@@ -86,6 +86,20 @@ isFinal (Event.Query conns reqs mpxs) = false
 isFinal (Event.Unknown kind) = false
 isFinal (Event.Closed n) = true
 
+-- the event that PARAMS has ended
+abbrev pub isReady : Event → Bool
+isReady Event.None = false
+isReady (Event.Open id role keep) = false
+isReady (Event.Ready id n) = true
+isReady (Event.Data id stream n) = false
+isReady (Event.End id stream) = false
+isReady (Event.Abort id) = false
+isReady (Event.Refuse id status) = false
+isReady (Event.Fault id n) = false
+isReady (Event.Query conns reqs mpxs) = false
+isReady (Event.Unknown kind) = false
+isReady (Event.Closed n) = false
+
 -- the numbers of the closes
 abbrev pub isCause : ℕ → Bool
 isCause n = if n =? 11 then true else if n =? 12 then true else if n =? 13 then true else n =? 14
@@ -96,7 +110,7 @@ gathering st g = record { conn = st .conn; gathered = g }
 
 -- A step that is about slot k, or about none: it reads on, closes the connection, rules by a header about the request of slot k, feeds it, or takes slot k.
 pub data Way (st : State) (store : List ℕ) (k : Slot) : Left → Type 0 where
-  Reads : (g : List ℕ) (f : Frame) (e : Event) → isFinal e ≡ false → Way st store k (reads (gathering st g) store f e)
+  Reads : (g : List ℕ) (f : Frame) (e : Event) → isFinal e ≡ false → isReady e ≡ false → Way st store k (reads (gathering st g) store f e)
   Closes : (g : List ℕ) (n : ℕ) → isCause n ≡ true → Way st store k (closes (gathering st g) store n)
   Rules : (h : Header) (i : ℕ) → k ≡ Slot.At i → find (st .conn .table) (h .id) ≡ Slot.At i → Way st store k (onActive st store h i)
   Feeds : (due : Due) (i : ℕ) (bytes : List ℕ) (p : Position) → k ≡ Slot.At i → i < SLOTS → Way st store k (ofRequest st store due i bytes p)
@@ -118,7 +132,7 @@ fork false f g = g refl
 module _ (st : State) (store : List ℕ) where
   way-queried : (k : Slot) (g list : List ℕ) (f : Frame) → Way st store k (queried (gathering st g) store list f)
   unfolding queried queryOf
-  way-queried k g list f = fork (wellFormed list) (λ t. Way.Reads g f _ refl) (λ t. Way.Closes g 14 refl)
+  way-queried k g list f = fork (wellFormed list) (λ t. Way.Reads g f _ refl refl) (λ t. Way.Closes g 14 refl)
 
   -- ---- a header
   way-management : (k : Slot) (h : Header) → Way st store k (onManagement st store h)
@@ -127,15 +141,15 @@ module _ (st : State) (store : List ℕ) where
       fork (eqb (h .kind) GET-VALUES)
       (λ t.
       fork (ltb QUERY (h .content)) (λ q. Way.Closes (st .gathered) 13 refl)
-      (λ q. fork (eqb (h .content) 0) (λ z. way-queried k (st .gathered) [] _) (λ z. Way.Reads (st .gathered) _ Event.None refl)))
-      (λ t. Way.Reads (st .gathered) _ (Event.Unknown (h .kind)) refl)
+      (λ q. fork (eqb (h .content) 0) (λ z. way-queried k (st .gathered) [] _) (λ z. Way.Reads (st .gathered) _ Event.None refl refl)))
+      (λ t. Way.Reads (st .gathered) _ (Event.Unknown (h .kind)) refl refl)
 
   way-inactive : (k : Slot) (h : Header) → Way st store k (onInactive st store h)
   unfolding onInactive
   way-inactive k h =
       fork (eqb (h .kind) BEGIN-REQUEST)
-      (λ t. fork (eqb (h .content) 8) (λ q. Way.Reads (st .gathered) _ Event.None refl) (λ q. Way.Closes (st .gathered) 12 refl))
-      (λ t. Way.Reads (st .gathered) _ Event.None refl)
+      (λ t. fork (eqb (h .content) 8) (λ q. Way.Reads (st .gathered) _ Event.None refl refl) (λ q. Way.Closes (st .gathered) 12 refl))
+      (λ t. Way.Reads (st .gathered) _ Event.None refl refl)
 
   way-judged : (h : Header) → Way st store (find (st .conn .table) (h .id)) (judged st store h)
   unfolding judged
@@ -154,7 +168,7 @@ module _ (st : State) (store : List ℕ) where
   way-opens id b role f =
       fork (ltb (freeSlotOf (st .conn .table)) SLOTS)
       (λ t. Way.Takes id role (b .keep) f refl (ltb-true (freeSlotOf (st .conn .table)) SLOTS t))
-      (λ t. Way.Reads (st .gathered) f _ refl)
+      (λ t. Way.Reads (st .gathered) f _ refl refl)
 
   way-begun : (id : ℕ) (b : BeginBody) (f : Frame) → Way st store (Slot.At (freeSlotOf (st .conn .table))) (begun st store id b f)
   unfolding begun
@@ -162,15 +176,15 @@ module _ (st : State) (store : List ℕ) where
       fork (eqb (b .role) RESPONDER) (λ t. way-opens id b Role.Responder f)
       (λ t.
       fork (eqb (b .role) AUTHORIZER) (λ q. way-opens id b Role.Authorizer f)
-      (λ q. fork (eqb (b .role) FILTER) (λ r. way-opens id b Role.Filter f) (λ r. Way.Reads (st .gathered) f _ refl)))
+      (λ q. fork (eqb (b .role) FILTER) (λ r. way-opens id b Role.Filter f) (λ r. Way.Reads (st .gathered) f _ refl refl)))
 
   way-begin : (id : ℕ) (bytes : List ℕ) (p : Position) → Way st store (Slot.At (freeSlotOf (st .conn .table))) (ofBegin st store id bytes p)
   unfolding ofBegin
-  way-begin id bytes p = fork (eqb (p .content) 0) (λ t. way-begun id _ _) (λ t. Way.Reads (st .gathered) _ Event.None refl)
+  way-begin id bytes p = fork (eqb (p .content) 0) (λ t. way-begun id _ _) (λ t. Way.Reads (st .gathered) _ Event.None refl refl)
 
   way-query : (k : Slot) (bytes : List ℕ) (p : Position) → Way st store k (ofQuery st store bytes p)
   unfolding ofQuery
-  way-query k bytes p = fork (eqb (p .content) 0) (λ t. way-queried k _ _ _) (λ t. Way.Reads _ _ Event.None refl)
+  way-query k bytes p = fork (eqb (p .content) 0) (λ t. way-queried k _ _ _) (λ t. Way.Reads _ _ Event.None refl refl)
 
 -- ---- a step
 -- the slot that content is for: a BEGIN body's is the one that an opening takes
@@ -195,7 +209,7 @@ concerned st piece = slotIn (advanced (st .conn .frame .position) piece .phase) 
 
 way-target : (target : Target) (st : State) (store bytes : List ℕ) (p : Position) (n left : ℕ) → Aimed target (st .conn .table) n left
     → Way st store (slotFor target (st .conn .table)) (onTarget target st store bytes p)
-way-target Target.Skip st store bytes p n left a = Way.Reads (st .gathered) _ Event.None refl
+way-target Target.Skip st store bytes p n left a = Way.Reads (st .gathered) _ Event.None refl refl
 way-target (Target.Begin id) st store bytes p n left a = way-begin st store id bytes p
 way-target Target.Query st store bytes p n left a = way-query st store Slot.Nowhere bytes p
 way-target (Target.Params i) st store bytes p n left a = Way.Feeds Due.Params i bytes p refl (a .slot .low)
@@ -205,8 +219,8 @@ way-target (Target.Data i) st store bytes p n left a = Way.Feeds Due.Data i byte
 way-phase : (phase : Phase) (st : State) (store bytes : List ℕ) (p : Position) (n left : ℕ) → Aimed (st .conn .frame .target) (st .conn .table) n left
     → Way st store (slotIn phase (st .conn)) (onPhase phase st store bytes p)
 way-phase Phase.Content st store bytes p n left a = way-target (st .conn .frame .target) st store bytes p n left a
-way-phase Phase.Padding st store bytes p n left a = Way.Reads (st .gathered) _ Event.None refl
-way-phase Phase.Part st store bytes p n left a = Way.Reads (st .gathered) _ Event.None refl
+way-phase Phase.Padding st store bytes p n left a = Way.Reads (st .gathered) _ Event.None refl refl
+way-phase Phase.Part st store bytes p n left a = Way.Reads (st .gathered) _ Event.None refl refl
 way-phase (Phase.Whole h) st store bytes p n left a = way-judged st store h
 
 -- A step changes nothing, by whatever refusal or none; or it is not refused and ends in one of the ways.
