@@ -9,6 +9,7 @@ pub mod LinkingContent
 pub mod LinkingByte
 pub mod LinkingStep
 pub mod CallShape
+pub mod CallEnds
 pub mod LinkingCalls
 pub mod LinkingRuns
 pub mod Closed

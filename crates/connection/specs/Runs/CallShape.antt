@@ -99,7 +99,8 @@ grows-free : (t : Table) (i j left : ℕ) → (j ≡ i → ⊥) → Grows t j le
 grows-free t i j left ne g =
     record { slot = use-free t i j ne (g .slot); room = omega (arith, length-of t j, length-of (freeSlot t i) j, ap (λ (x : Request). x .length) (other-of-free t i j ne), g .room) }
 
-aimed-free : (t : Table) (i : ℕ) (target : Aim) (gathered left : ℕ) → Aimed target t gathered left → Aimed (redirected i target) (freeSlot t i) gathered left
+-- What the content left is for, with slot i given back.
+pub aimed-free : (t : Table) (i : ℕ) (target : Aim) (gathered left : ℕ) → Aimed target t gathered left → Aimed (redirected i target) (freeSlot t i) gathered left
 aimed-free t i Aim.Skip gathered left a = tt
 aimed-free t i (Aim.Begin id) gathered left a =
     record {
