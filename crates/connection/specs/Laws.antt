@@ -21,5 +21,6 @@ pub mod Closing
 pub mod Causes
 pub mod Faults
 pub mod Readiness
+pub mod Spent
 pub mod Gathered
 pub mod NumbersLaws

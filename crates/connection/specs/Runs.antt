@@ -23,6 +23,8 @@ pub mod PremiseRuns
 pub mod PremiseTests
 pub mod Example
 pub mod WellFormedLists
+pub mod DueLive
+pub mod SpentSilent
 pub mod History
 pub mod HistoryRequest
 pub mod HistoryTarget

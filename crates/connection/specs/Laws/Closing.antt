@@ -16,7 +16,7 @@ use Rattle.connection.specs.Request.{Held, Ruled, faulted, aborted, turn
 use Rattle.connection.specs.Slots.{heldAt}
 use Rattle.connection.specs.Laws.ShapeLaws.{closed-in-shape}
 use Rattle.connection.specs.Step.{State, Left, closedConn, closes, onActive, ofRequest, Stepped, stays, leaves, stepRefusal, stepped}
-use Rattle.connection.specs.Laws.Ways.{by-rule, isFinal, isCause, Way, by-way}
+use Rattle.connection.specs.Laws.Ways.{nameless-not-final, by-rule, isFinal, isCause, Way, by-way}
 
 -- an event that closes the connection
 abbrev pub isClosing : Event → Bool
@@ -79,11 +79,11 @@ by-closing {P} st store piece =
     (λ fits used l w same f g. go used l w f g)
   where
     go : {k : Slot} (used : ℕ) (l : Left) → Way st store k l → (StaysOpen (leaves used l) → P) → ((n : ℕ) → ClosedBy store n (leaves used l) → P) → P
-    go used l (Way.Reads gathered frame e q w) f g = f (record { is-open = refl; goes-on = not-final e q })
+    go used l (Way.Reads gathered frame e q) f g = f (record { is-open = refl; goes-on = not-final e (nameless-not-final (st .conn .table) e q) })
     go used l (Way.Closes gathered n c) f g = g n (record { cause = c; told = refl; freed = refl; zeroed = refl })
     go used l (Way.Rules h i k e) f g = f (record { is-open = refl; goes-on = header-goes-on (h .kind) (h .content) (heldAt (st .conn .table) store i) })
-    go used l (Way.Feeds due i bytes p k low) f g = f (record { is-open = refl; goes-on = content-goes-on due bytes (heldAt (st .conn .table) store i) })
-    go used l (Way.Takes id role keep frame k low) f g = f (record { is-open = refl; goes-on = refl })
+    go used l (Way.Feeds due i bytes p k low aim some) f g = f (record { is-open = refl; goes-on = content-goes-on due bytes (heldAt (st .conn .table) store i) })
+    go used l (Way.Takes id role keep frame k low idle) f g = f (record { is-open = refl; goes-on = refl })
 
 -- Where a step over an open connection leaves it closed, it tells a close, by one of the numbers 11, 12, 13 and 14.
 pub closes-by-cause : (st : State) (store piece : List ℕ) → st .conn .«open» ≡ true → stepped st store piece .state .conn .«open» ≡ false

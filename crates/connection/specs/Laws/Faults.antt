@@ -26,7 +26,7 @@ use Rattle.connection.specs.Laws.SlotsLaws.{Sized, request-of-put, reque
 use Rattle.connection.specs.Step.{State, Left, putsBack, closes, onActive, ofRequest, Stepped, leaves, stepped}
 use Rattle.connection.specs.Laws.Progress.{Fits}
 use Rattle.connection.specs.Laws.StepSizes.{content-area}
-use Rattle.connection.specs.Laws.Ways.{by-rule, isFinal, Way, concerned, by-way}
+use Rattle.connection.specs.Laws.Ways.{nameless-not-final, by-rule, isFinal, Way, concerned, by-way}
 use Rattle.connection.specs.Laws.Closing.{isClosing}
 
 -- ---- slots that a step is not about
@@ -63,16 +63,16 @@ step-other-slots st store piece j apart =
     other i k q = apart (k ∙ ap (λ (n : ℕ). Slot.At n) (sym q))
 
     go : Fits (st .conn) store → (used : ℕ) (l : Left) → Way st store (concerned st piece) l → l .conn .«open» ≡ true → Untouched st store j (leaves used l)
-    go fits used _ (Way.Reads g f e q w) o = record { request = refl; area = refl; is-taken = refl }
+    go fits used _ (Way.Reads g f e q) o = record { request = refl; area = refl; is-taken = refl }
     go fits used _ (Way.Closes g n c) o = let z : _≡_ {A = ℕ} 0 1 = cc in absurd (omega arith)
     go fits used _ (Way.Rules h i k e) o =
         let low = find-at (st .conn .table) (h .id) i e .low in
         let held = heldAt (st .conn .table) store i in
         untouched-put st store i (fits .size) low (onHeader (h .kind) (h .content) held .held) (ruled-area (h .kind) (h .content) held ∙ area-length store i (fits .size) low) _ _ used j (other i k)
-    go fits used _ (Way.Feeds due i bytes p k low) o =
+    go fits used _ (Way.Feeds due i bytes p k low aim some) o =
         let held = heldAt (st .conn .table) store i in
         untouched-put st store i (fits .size) low (onContent due bytes held .held) (content-area due bytes held ∙ area-length store i (fits .size) low) _ _ used j (other i k)
-    go fits used _ (Way.Takes id role keep f k low) o =
+    go fits used _ (Way.Takes id role keep f k low idle) o =
         record { request = other-of-take (st .conn .table) _ j _ (other _ k); area = refl; is-taken = taken-of-take-other (st .conn .table) _ j _ (other _ k) }
 
 -- ---- a request that a step spends
@@ -99,12 +99,12 @@ by-header P st store piece spent =
     by-way (λ (s : Stepped). isFinal (s .event) ≡ true → isClosing (s .event) ≡ false → P s) st store piece (λ n f c. let z : _≡_ {A = ℕ} 0 1 = cc in absurd (omega arith)) go
   where
     go : Fits (st .conn) store → (used : ℕ) (l : Left) → Way st store (concerned st piece) l → isFinal (l .event) ≡ true → isClosing (l .event) ≡ false → P (leaves used l)
-    go fits used _ (Way.Reads g frame e q w) f c = let z : _≡_ {A = ℕ} 0 1 = cc in absurd (omega arith)
+    go fits used _ (Way.Reads g frame e q) f c = let z : _≡_ {A = ℕ} 0 1 = cc (nameless-not-final (st .conn .table) e q) in absurd (omega arith)
     go fits used _ (Way.Closes g n k) f c = let z : _≡_ {A = ℕ} 0 1 = cc in absurd (omega arith)
     go fits used _ (Way.Rules h i k e) f c = spent used h i (fits .size) e
-    go fits used _ (Way.Feeds due i bytes p k low) f c =
+    go fits used _ (Way.Feeds due i bytes p k low aim some) f c =
         let z : _≡_ {A = ℕ} 0 1 = cc (content-spends-none due bytes (heldAt (st .conn .table) store i)) in absurd (omega arith)
-    go fits used _ (Way.Takes id role keep frame k low) f c = let z : _≡_ {A = ℕ} 0 1 = cc in absurd (omega arith)
+    go fits used _ (Way.Takes id role keep frame k low idle) f c = let z : _≡_ {A = ℕ} 0 1 = cc in absurd (omega arith)
 
 -- the slot found has the id of its request
 id-found : (t : Table) (id i : ℕ) → find t id ≡ Slot.At i → requestAt t i .id ≡ id

@@ -1,18 +1,17 @@
 -- A step that tells that a request is ready tells the length of its list.
-use mathlib.Core.Path.{_≡_, refl, ap, sym, _∙_}
+use mathlib.Core.Path.{_≡_, sym, _∙_, subst}
 use Prim.Native.Nat.{ℕ}
-use mathlib.Core.Bool.{false}
 use mathlib.Core.List.{List}
 use native.Mathlib.Omega.{arith}
 use Rattle.connection.specs.declared.request.Due.{Due}
 use Rattle.connection.specs.declared.state.Slot.{Slot}
 use Rattle.connection.specs.Event.{Event}
-use Rattle.connection.specs.Request.{Held, Ruled, faulted, aborted, turned, onHeader, onContent}
+use Rattle.connection.specs.Request.{Held, Ruled, faulted, aborted, turned, onHeader}
 use Rattle.connection.specs.Slots.{requestAt, heldAt, find}
 use Rattle.connection.specs.Step.{State, Left, closes, onActive, ofRequest, Stepped, stepped}
 use Rattle.connection.specs.Laws.SlotsLaws.{find-at}
 use Rattle.connection.specs.Laws.Progress.{Fits}
-use Rattle.connection.specs.Laws.Ways.{by-rule, isReady, Way, concerned, by-way}
+use Rattle.connection.specs.Laws.Ways.{by-rule, Nameless, Way, concerned, by-way}
 
 ready-rule : (kind m : ℕ) (h : Held) (id n : ℕ) → onHeader kind m h .event ≡ Event.Ready id n → (h .request .id ≡ id) × (h .request .length ≡ n)
 unfolding faulted aborted turned
@@ -24,12 +23,6 @@ ready-rule kind m h id n =
     (λ t e. (cc, cc))
     (λ t s e. let z : _≡_ {A = ℕ} 0 1 = cc in absurd (omega arith))
     kind m
-
-content-not-ready : (due : Due) (bytes : List ℕ) (h : Held) → isReady (onContent due bytes h .event) ≡ false
-content-not-ready Due.Skip bytes h = refl
-content-not-ready Due.Params bytes h = refl
-content-not-ready Due.Stdin bytes h = refl
-content-not-ready Due.Data bytes h = refl
 
 -- The connection is open, and the id has a slot whose list has n bytes.
 pub record ReadyWith (st : State) (store : List ℕ) (id n : ℕ) : Type 0 where
@@ -45,14 +38,15 @@ ready-with st store piece id n =
     by-way (λ (s : Stepped). s .event ≡ Event.Ready id n → ReadyWith st store id n) st store piece (λ k e. let z : _≡_ {A = ℕ} 0 1 = cc in absurd (omega arith)) go
   where
     go : Fits (st .conn) store → (used : ℕ) (l : Left) → Way st store (concerned st piece) l → l .event ≡ Event.Ready id n → ReadyWith st store id n
-    go fits used _ (Way.Reads g f e q w) d = let y : isReady e ≡ isReady (Event.Ready id n) = ap isReady d in let z : _≡_ {A = ℕ} 0 1 = cc in absurd (omega arith)
+    go fits used _ (Way.Reads g f e q) d = absurd (subst (Nameless (st .conn .table)) d q)
     go fits used _ (Way.Closes g k c) d = let z : _≡_ {A = ℕ} 0 1 = cc in absurd (omega arith)
     go fits used _ (Way.Rules h i k e) d =
         let t = st .conn .table in
         let r = ready-rule (h .kind) (h .content) (heldAt t store i) id n d in
         let same : h .id ≡ id = sym (find-at t (h .id) i e .has-id) ∙ r .0 in
         record { fits = fits; slot = i; found = rw same at e; length = r .1 }
-    go fits used _ (Way.Feeds due i bytes p k low) d =
-        let y : isReady (onContent due bytes (heldAt (st .conn .table) store i) .event) ≡ isReady (Event.Ready id n) = ap isReady d in
-        let z : _≡_ {A = ℕ} 0 1 = cc (content-not-ready due bytes (heldAt (st .conn .table) store i)) in absurd (omega arith)
-    go fits used _ (Way.Takes i role keep f k low) d = let z : _≡_ {A = ℕ} 0 1 = cc in absurd (omega arith)
+    go fits used _ (Way.Feeds Due.Skip i bytes p k low aim some) d = let z : _≡_ {A = ℕ} 0 1 = cc in absurd (omega arith)
+    go fits used _ (Way.Feeds Due.Params i bytes p k low aim some) d = let z : _≡_ {A = ℕ} 0 1 = cc in absurd (omega arith)
+    go fits used _ (Way.Feeds Due.Stdin i bytes p k low aim some) d = let z : _≡_ {A = ℕ} 0 1 = cc in absurd (omega arith)
+    go fits used _ (Way.Feeds Due.Data i bytes p k low aim some) d = let z : _≡_ {A = ℕ} 0 1 = cc in absurd (omega arith)
+    go fits used _ (Way.Takes i role keep f k low idle) d = let z : _≡_ {A = ℕ} 0 1 = cc in absurd (omega arith)

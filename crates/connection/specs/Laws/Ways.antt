@@ -1,17 +1,17 @@
 -- How a step can end, case by case: one list of ways for all that is proved of every step.
 use mathlib.Core.Path.{_≡_, refl}
-use Prim.Native.Nat.{ℕ, _+_, _≤_, _<_}
+use Prim.Native.Nat.{ℕ, _+_, _-_, _≤_, _<_, min}
 use mathlib.Core.Bool.{Bool, true, false}
 use mathlib.Core.List.{List, []}
 use native.Mathlib.Omega.{arith}
 use lib.ListN.{length, take}
-use lib.Dec.{ltb, eqb}
+use lib.Dec.{ltb, leb, eqb}
 use borrow.Author.Tests.{ltb-true, eqb-true}
 use Rattle.wire.specs.Test.{if_then_else_, byTest, _=?_}
 use Rattle.record.specs.Names.{VERSION, BEGIN-REQUEST, ABORT-REQUEST, GET-VALUES, RESPONDER, AUTHORIZER, FILTER, STDIN, DATA}
 use Rattle.record.specs.declared.header.Header.{Header}
 use Rattle.record.specs.declared.body.BeginBody.{BeginBody}
-use Rattle.reader.specs.Position.{advanced}
+use Rattle.reader.specs.Position.{inHeader, advanced}
 use Rattle.reader.specs.declared.Position.{Position}
 use Rattle.reader.specs.declared.Phase.{Phase}
 use Rattle.lists.specs.List.{wellFormed}
@@ -29,7 +29,7 @@ use Rattle.connection.specs.Numbers.{roleNumber}
 use Rattle.connection.specs.Request.{Held, Ruled, ruled, listOf, isSpent, faulted, aborted, turned, paramsFault, paramsEnded, onParams, onStdin, onData, inTurn, isInput, turnType, onInput, onLive, onHeader, opened}
 use Rattle.connection.specs.Slots.{takeSlot, freeSlotOf, find, onSlot}
 use Rattle.connection.specs.Laws.ShapeLaws.{Aimed, shaped}
-use Rattle.connection.specs.Step.{State, Left, openWith, reads, closes, queryOf, queried, onManagement, onInactive, onActive, judged, opens, begun, ofBegin, ofQuery, ofRequest, onTarget, onPhase, Stepped, stays, leaves, advances, stepRefusal, stepped}
+use Rattle.connection.specs.Step.{State, Left, dueTo, openWith, reads, closes, queryOf, queried, onManagement, onInactive, onActive, judged, opens, begun, ofBegin, ofQuery, ofRequest, onTarget, onPhase, Stepped, stays, leaves, advances, stepRefusal, stepped}
 use Rattle.connection.specs.Laws.Progress.{Fits, admitted-fits}
 
 -- ---- what a header does to its request
@@ -86,19 +86,26 @@ isFinal (Event.Query conns reqs mpxs) = false
 isFinal (Event.Unknown kind) = false
 isFinal (Event.Closed n) = true
 
--- the event that PARAMS has ended
-abbrev pub isReady : Event → Bool
-isReady Event.None = false
-isReady (Event.Open id role keep) = false
-isReady (Event.Ready id n) = true
-isReady (Event.Data id stream n) = false
-isReady (Event.End id stream) = false
-isReady (Event.Abort id) = false
-isReady (Event.Refuse id status) = false
-isReady (Event.Fault id n) = false
-isReady (Event.Query conns reqs mpxs) = false
-isReady (Event.Unknown kind) = false
-isReady (Event.Closed n) = false
+-- An event of no active request: nothing, what management records tell, and a refusal of an id that is not active.
+abbrev pub Nameless : Table → Event → Type 0
+Nameless t Event.None = Unit {0}
+Nameless t (Event.Open id role keep) = ⊥
+Nameless t (Event.Ready id n) = ⊥
+Nameless t (Event.Data id stream n) = ⊥
+Nameless t (Event.End id stream) = ⊥
+Nameless t (Event.Abort id) = ⊥
+Nameless t (Event.Refuse id status) = find t id ≡ Slot.Nowhere
+Nameless t (Event.Fault id n) = ⊥
+Nameless t (Event.Query conns reqs mpxs) = Unit {0}
+Nameless t (Event.Unknown kind) = Unit {0}
+Nameless t (Event.Closed n) = ⊥
+
+-- It ends and spends nothing.
+pub nameless-not-final : (t : Table) (e : Event) → Nameless t e → isFinal e ≡ false
+nameless-not-final t Event.None q = refl
+nameless-not-final t (Event.Refuse id status) q = refl
+nameless-not-final t (Event.Query conns reqs mpxs) q = refl
+nameless-not-final t (Event.Unknown kind) q = refl
 
 -- the numbers of the closes
 abbrev pub isCause : ℕ → Bool
@@ -110,11 +117,13 @@ gathering st g = record { conn = st .conn; gathered = g }
 
 -- A step that is about slot k, or about none: it reads on, closes the connection, rules by a header about the request of slot k, feeds it, or takes slot k.
 pub data Way (st : State) (store : List ℕ) (k : Slot) : Left → Type 0 where
-  Reads : (g : List ℕ) (f : Frame) (e : Event) → isFinal e ≡ false → isReady e ≡ false → Way st store k (reads (gathering st g) store f e)
+  Reads : (g : List ℕ) (f : Frame) (e : Event) → Nameless (st .conn .table) e → Way st store k (reads (gathering st g) store f e)
   Closes : (g : List ℕ) (n : ℕ) → isCause n ≡ true → Way st store k (closes (gathering st g) store n)
   Rules : (h : Header) (i : ℕ) → k ≡ Slot.At i → find (st .conn .table) (h .id) ≡ Slot.At i → Way st store k (onActive st store h i)
-  Feeds : (due : Due) (i : ℕ) (bytes : List ℕ) (p : Position) → k ≡ Slot.At i → i < SLOTS → Way st store k (ofRequest st store due i bytes p)
+  Feeds : (due : Due) (i : ℕ) (bytes : List ℕ) (p : Position) → k ≡ Slot.At i → i < SLOTS → st .conn .frame .target ≡ dueTo due i → 0 < st .conn .frame .position .content
+      → Way st store k (ofRequest st store due i bytes p)
   Takes : (id : ℕ) (role : Role) (keep : Bool) (f : Frame) → k ≡ Slot.At (freeSlotOf (st .conn .table)) → freeSlotOf (st .conn .table) < SLOTS
+      → find (st .conn .table) id ≡ Slot.Nowhere
       → Way st store k
       (record {
         conn = openWith (takeSlot (st .conn .table) (freeSlotOf (st .conn .table)) (opened id role keep)) f;
@@ -132,7 +141,7 @@ fork false f g = g refl
 module _ (st : State) (store : List ℕ) where
   way-queried : (k : Slot) (g list : List ℕ) (f : Frame) → Way st store k (queried (gathering st g) store list f)
   unfolding queried queryOf
-  way-queried k g list f = fork (wellFormed list) (λ t. Way.Reads g f _ refl refl) (λ t. Way.Closes g 14 refl)
+  way-queried k g list f = fork (wellFormed list) (λ t. Way.Reads g f _ tt) (λ t. Way.Closes g 14 refl)
 
   -- ---- a header
   way-management : (k : Slot) (h : Header) → Way st store k (onManagement st store h)
@@ -141,15 +150,15 @@ module _ (st : State) (store : List ℕ) where
       fork (eqb (h .kind) GET-VALUES)
       (λ t.
       fork (ltb QUERY (h .content)) (λ q. Way.Closes (st .gathered) 13 refl)
-      (λ q. fork (eqb (h .content) 0) (λ z. way-queried k (st .gathered) [] _) (λ z. Way.Reads (st .gathered) _ Event.None refl refl)))
-      (λ t. Way.Reads (st .gathered) _ (Event.Unknown (h .kind)) refl refl)
+      (λ q. fork (eqb (h .content) 0) (λ z. way-queried k (st .gathered) [] _) (λ z. Way.Reads (st .gathered) _ Event.None tt)))
+      (λ t. Way.Reads (st .gathered) _ (Event.Unknown (h .kind)) tt)
 
   way-inactive : (k : Slot) (h : Header) → Way st store k (onInactive st store h)
   unfolding onInactive
   way-inactive k h =
       fork (eqb (h .kind) BEGIN-REQUEST)
-      (λ t. fork (eqb (h .content) 8) (λ q. Way.Reads (st .gathered) _ Event.None refl refl) (λ q. Way.Closes (st .gathered) 12 refl))
-      (λ t. Way.Reads (st .gathered) _ Event.None refl refl)
+      (λ t. fork (eqb (h .content) 8) (λ q. Way.Reads (st .gathered) _ Event.None tt) (λ q. Way.Closes (st .gathered) 12 refl))
+      (λ t. Way.Reads (st .gathered) _ Event.None tt)
 
   way-judged : (h : Header) → Way st store (find (st .conn .table) (h .id)) (judged st store h)
   unfolding judged
@@ -163,28 +172,28 @@ module _ (st : State) (store : List ℕ) where
       go Slot.Nowhere e = way-inactive Slot.Nowhere h
 
   -- ---- content
-  way-opens : (id : ℕ) (b : BeginBody) (role : Role) (f : Frame) → Way st store (Slot.At (freeSlotOf (st .conn .table))) (opens st store id b role f)
+  way-opens : (id : ℕ) (b : BeginBody) (role : Role) (f : Frame) → find (st .conn .table) id ≡ Slot.Nowhere → Way st store (Slot.At (freeSlotOf (st .conn .table))) (opens st store id b role f)
   unfolding opens
-  way-opens id b role f =
+  way-opens id b role f idle =
       fork (ltb (freeSlotOf (st .conn .table)) SLOTS)
-      (λ t. Way.Takes id role (b .keep) f refl (ltb-true (freeSlotOf (st .conn .table)) SLOTS t))
-      (λ t. Way.Reads (st .gathered) f _ refl refl)
+      (λ t. Way.Takes id role (b .keep) f refl (ltb-true (freeSlotOf (st .conn .table)) SLOTS t) idle)
+      (λ t. Way.Reads (st .gathered) f _ idle)
 
-  way-begun : (id : ℕ) (b : BeginBody) (f : Frame) → Way st store (Slot.At (freeSlotOf (st .conn .table))) (begun st store id b f)
+  way-begun : (id : ℕ) (b : BeginBody) (f : Frame) → find (st .conn .table) id ≡ Slot.Nowhere → Way st store (Slot.At (freeSlotOf (st .conn .table))) (begun st store id b f)
   unfolding begun
-  way-begun id b f =
-      fork (eqb (b .role) RESPONDER) (λ t. way-opens id b Role.Responder f)
+  way-begun id b f idle =
+      fork (eqb (b .role) RESPONDER) (λ t. way-opens id b Role.Responder f idle)
       (λ t.
-      fork (eqb (b .role) AUTHORIZER) (λ q. way-opens id b Role.Authorizer f)
-      (λ q. fork (eqb (b .role) FILTER) (λ r. way-opens id b Role.Filter f) (λ r. Way.Reads (st .gathered) f _ refl refl)))
+      fork (eqb (b .role) AUTHORIZER) (λ q. way-opens id b Role.Authorizer f idle)
+      (λ q. fork (eqb (b .role) FILTER) (λ r. way-opens id b Role.Filter f idle) (λ r. Way.Reads (st .gathered) f _ idle)))
 
-  way-begin : (id : ℕ) (bytes : List ℕ) (p : Position) → Way st store (Slot.At (freeSlotOf (st .conn .table))) (ofBegin st store id bytes p)
+  way-begin : (id : ℕ) (bytes : List ℕ) (p : Position) → find (st .conn .table) id ≡ Slot.Nowhere → Way st store (Slot.At (freeSlotOf (st .conn .table))) (ofBegin st store id bytes p)
   unfolding ofBegin
-  way-begin id bytes p = fork (eqb (p .content) 0) (λ t. way-begun id _ _) (λ t. Way.Reads (st .gathered) _ Event.None refl refl)
+  way-begin id bytes p idle = fork (eqb (p .content) 0) (λ t. way-begun id _ _ idle) (λ t. Way.Reads (st .gathered) _ Event.None tt)
 
   way-query : (k : Slot) (bytes : List ℕ) (p : Position) → Way st store k (ofQuery st store bytes p)
   unfolding ofQuery
-  way-query k bytes p = fork (eqb (p .content) 0) (λ t. way-queried k _ _ _) (λ t. Way.Reads _ _ Event.None refl refl)
+  way-query k bytes p = fork (eqb (p .content) 0) (λ t. way-queried k _ _ _) (λ t. Way.Reads _ _ Event.None tt)
 
 -- ---- a step
 -- the slot that content is for: a BEGIN body's is the one that an opening takes
@@ -207,21 +216,34 @@ slotIn (Phase.Whole h) c = find (c .table) (h .id)
 abbrev pub concerned : State → List ℕ → Slot
 concerned st piece = slotIn (advanced (st .conn .frame .position) piece .phase) (st .conn)
 
-way-target : (target : Target) (st : State) (store bytes : List ℕ) (p : Position) (n left : ℕ) → Aimed target (st .conn .table) n left
-    → Way st store (slotFor target (st .conn .table)) (onTarget target st store bytes p)
-way-target Target.Skip st store bytes p n left a = Way.Reads (st .gathered) _ Event.None refl refl
-way-target (Target.Begin id) st store bytes p n left a = way-begin st store id bytes p
-way-target Target.Query st store bytes p n left a = way-query st store Slot.Nowhere bytes p
-way-target (Target.Params i) st store bytes p n left a = Way.Feeds Due.Params i bytes p refl (a .slot .low)
-way-target (Target.Stdin i) st store bytes p n left a = Way.Feeds Due.Stdin i bytes p refl (a .low)
-way-target (Target.Data i) st store bytes p n left a = Way.Feeds Due.Data i bytes p refl (a .low)
+-- Content is read only where some is left.
+content-left : (p : Position) (piece : List ℕ) → advanced p piece .phase ≡ Phase.Content → 0 < p .content
+unfolding advanced inHeader
+content-left p piece =
+    byTest (ltb 0 (p .content)) (λ t e. ltb-true 0 (p .content) t)
+    (λ t.
+    byTest (ltb 0 (p .padding)) (λ q. simp (t, q) (λ e. let z : _≡_ {A = ℕ} 0 1 = cc in absurd (omega arith)))
+    (λ q.
+    byTest (leb 8 (p .held)) (λ w. simp (t, q, w) (λ e. let z : _≡_ {A = ℕ} 0 1 = cc in absurd (omega arith)))
+    (λ w.
+    byTest (ltb (p .held + min (8 - p .held) (length piece)) 8) (λ v. simp (t, q, w, v) (λ e. let z : _≡_ {A = ℕ} 0 1 = cc in absurd (omega arith)))
+    (λ v. simp (t, q, w, v) (λ e. let z : _≡_ {A = ℕ} 0 1 = cc in absurd (omega arith))))))
 
-way-phase : (phase : Phase) (st : State) (store bytes : List ℕ) (p : Position) (n left : ℕ) → Aimed (st .conn .frame .target) (st .conn .table) n left
-    → Way st store (slotIn phase (st .conn)) (onPhase phase st store bytes p)
-way-phase Phase.Content st store bytes p n left a = way-target (st .conn .frame .target) st store bytes p n left a
-way-phase Phase.Padding st store bytes p n left a = Way.Reads (st .gathered) _ Event.None refl refl
-way-phase Phase.Part st store bytes p n left a = Way.Reads (st .gathered) _ Event.None refl refl
-way-phase (Phase.Whole h) st store bytes p n left a = way-judged st store h
+way-target : (target : Target) (st : State) (store bytes : List ℕ) (p : Position) (n left : ℕ) → st .conn .frame .target ≡ target → 0 < st .conn .frame .position .content
+    → Aimed target (st .conn .table) n left → Way st store (slotFor target (st .conn .table)) (onTarget target st store bytes p)
+way-target Target.Skip st store bytes p n left e some a = Way.Reads (st .gathered) _ Event.None tt
+way-target (Target.Begin id) st store bytes p n left e some a = way-begin st store id bytes p (a .inactive)
+way-target Target.Query st store bytes p n left e some a = way-query st store Slot.Nowhere bytes p
+way-target (Target.Params i) st store bytes p n left e some a = Way.Feeds Due.Params i bytes p refl (a .slot .low) e some
+way-target (Target.Stdin i) st store bytes p n left e some a = Way.Feeds Due.Stdin i bytes p refl (a .low) e some
+way-target (Target.Data i) st store bytes p n left e some a = Way.Feeds Due.Data i bytes p refl (a .low) e some
+
+way-phase : (phase : Phase) (st : State) (store bytes : List ℕ) (p : Position) (n left : ℕ) → (phase ≡ Phase.Content → 0 < st .conn .frame .position .content)
+    → Aimed (st .conn .frame .target) (st .conn .table) n left → Way st store (slotIn phase (st .conn)) (onPhase phase st store bytes p)
+way-phase Phase.Content st store bytes p n left some a = way-target (st .conn .frame .target) st store bytes p n left refl (some refl) a
+way-phase Phase.Padding st store bytes p n left some a = Way.Reads (st .gathered) _ Event.None tt
+way-phase Phase.Part st store bytes p n left some a = Way.Reads (st .gathered) _ Event.None tt
+way-phase (Phase.Whole h) st store bytes p n left some a = way-judged st store h
 
 -- A step changes nothing, by whatever refusal or none; or it is not refused and ends in one of the ways.
 pub by-way : (P : Stepped → Type 0) (st : State) (store piece : List ℕ) → ((n : ℕ) → P (stays n st store))
@@ -233,5 +255,5 @@ by-way P st store piece stay go =
     (λ z.
     let fits = admitted-fits (st .conn) store (eqb-true (stepRefusal (st .conn) store) 0 t) in
     let a = advanced (st .conn .frame .position) piece in
-    simp (t, z) (go fits (a .used) _ (way-phase (a .phase) st store (take (a .used) piece) (a .position) _ _ (shaped (st .conn) (fits .shape) .target)))))
+    simp (t, z) (go fits (a .used) _ (way-phase (a .phase) st store (take (a .used) piece) (a .position) _ _ (content-left (st .conn .frame .position) piece) (shaped (st .conn) (fits .shape) .target)))))
     (λ t. simp t (stay (stepRefusal (st .conn) store)))

@@ -19,6 +19,7 @@ use Rattle.connection.specs.declared.request.Turn.{Turn}
 use Rattle.connection.specs.declared.request.Life.{Life}
 use Rattle.connection.specs.declared.request.Due.{Due}
 use Rattle.connection.specs.declared.request.Role.{Role}
+use Rattle.connection.specs.declared.request.Mark.{Mark}
 use Rattle.connection.specs.declared.request.Request.{Request}
 use Rattle.connection.specs.declared.answer.Output.{Output}
 use Rattle.connection.specs.Sizes.{SLOTS, AREA, QUERY}
@@ -43,12 +44,12 @@ use Rattle.connection.specs.Runs.Hygiene.{timeline-ok}
 abbrev pub ListOk : Held → Type 0
 ListOk h = inParams (h .request .mark .turn) ≡ false → isFaulted (h .request .mark .life) ≡ false → wellFormed (listOf h) ≡ true
 
--- PARAMS content comes while PARAMS have not ended
-abbrev InTurn : Due → ℕ → Held → Type 0
+-- content comes for a request that is not spent; PARAMS content while PARAMS have not ended
+abbrev pub InTurn : Due → ℕ → Held → Type 0
 InTurn Due.Skip n h = Unit {0}
-InTurn Due.Params n h = inParams (h .request .mark .turn) ≡ true
-InTurn Due.Stdin n h = Unit {0}
-InTurn Due.Data n h = Unit {0}
+InTurn Due.Params n h = (inParams (h .request .mark .turn) ≡ true) × (isSpent (h .request .mark .life) ≡ false)
+InTurn Due.Stdin n h = isSpent (h .request .mark .life) ≡ false
+InTurn Due.Data n h = isSpent (h .request .mark .life) ≡ false
 
 true-false : {A : Type 0} → true ≡ false → A
 true-false e = let z : _≡_ {A = ℕ} 0 1 = cc in absurd (omega arith)
@@ -80,23 +81,23 @@ module _ (n : ℕ) (h : Held) where
   unfolding paramsEnded
   by-ended = byTest (eqb (paramsFault (listOf h)) 0) (λ e. simp e (by-turned _ _ (well-formed (listOf h) e))) (λ e. simp e (by-faulted _))
 
-  by-params : inParams (h .request .mark .turn) ≡ true → Decides n (onParams n h)
+  by-params : inParams (h .request .mark .turn) ≡ true → isSpent (h .request .mark .life) ≡ false → Decides n (onParams n h)
   unfolding onParams
-  by-params p =
+  by-params p live =
       byTest (ltb AREA (h .request .length + n))
       (λ e. simp e (by-faulted 24))
-      (λ e. byTest (eqb n 0) (λ z. simp (e, z) by-ended) (λ z. simp (e, z) (record { list = λ t f. true-false (sym p ∙ t); due = p })))
+      (λ e. byTest (eqb n 0) (λ z. simp (e, z) by-ended) (λ z. simp (e, z) (record { list = λ t f. true-false (sym p ∙ t); due = (p, live) })))
 
   module _ (ok : ListOk h) (live : isSpent (h .request .mark .life) ≡ false) where
     by-turn : (t : Turn) → h .request .mark .turn ≡ t → Decides n (inTurn t n h)
     unfolding onStdin onData
-    by-turn Turn.Params e = by-params (ap inParams e)
+    by-turn Turn.Params e = by-params (ap inParams e) live
     by-turn Turn.Stdin e =
         let w = ok (ap inParams e) (not-faulted (h .request .mark .life) live) in
-        byTest (eqb n 0) (λ z. simp z (by-turned _ _ w)) (λ z. simp z (record { list = ok; due = tt }))
+        byTest (eqb n 0) (λ z. simp z (by-turned _ _ w)) (λ z. simp z (record { list = ok; due = live }))
     by-turn Turn.Data e =
         let w = ok (ap inParams e) (not-faulted (h .request .mark .life) live) in
-        byTest (eqb n 0) (λ z. simp z (by-turned _ _ w)) (λ z. simp z (record { list = ok; due = tt }))
+        byTest (eqb n 0) (λ z. simp z (by-turned _ _ w)) (λ z. simp z (record { list = ok; due = live }))
     by-turn Turn.Done e = by-faulted 22
 
     by-abort : Decides n (aborted h)
@@ -133,9 +134,9 @@ header-list kind n h l ok =
     decided-list n (r .held) (noteOf (r .event) 0) (r .due) (d .list) (d .due)
 
 -- ---- content, a BEGIN body, calls
-grown-turn : (h : Held) (x : List ℕ) → grown h x .request .mark .turn ≡ h .request .mark .turn
+grown-mark : (h : Held) (x : List ℕ) → grown h x .request .mark ≡ h .request .mark
 unfolding grown
-grown-turn h x = byTest (leb (h .request .length + length x) AREA) (λ e. simp e) (λ e. simp e)
+grown-mark h x = byTest (leb (h .request .length + length x) AREA) (λ e. simp e) (λ e. simp e)
 
 -- So does a content byte.
 pub byte-list : (due : Due) (b n : ℕ) (h : Held) → b < 256 → ListOk h → InTurn due (suc n) h
@@ -143,10 +144,11 @@ pub byte-list : (due : Due) (b n : ℕ) (h : Held) → b < 256 → ListOk h → 
 unfolding receiveByte
 byte-list Due.Skip b n h w f r = (f, tt)
 byte-list Due.Params b n h w f r =
-    let e : inParams (grown h (b ∷ []) .request .mark .turn) ≡ true = ap inParams (grown-turn h (b ∷ [])) ∙ r in
-    ((λ t g. true-false (sym e ∙ t)), e)
-byte-list Due.Stdin b n h w f r = (f, tt)
-byte-list Due.Data b n h w f r = (f, tt)
+    let m = grown-mark h (b ∷ []) in
+    let e : inParams (grown h (b ∷ []) .request .mark .turn) ≡ true = ap (λ (k : Mark). inParams (k .turn)) m ∙ r .0 in
+    ((λ t g. true-false (sym e ∙ t)), (e, ap (λ (k : Mark). isSpent (k .life)) m ∙ r .1))
+byte-list Due.Stdin b n h w f r = (f, r)
+byte-list Due.Data b n h w f r = (f, r)
 
 begin-as-list : (id : ℕ) (body : List ℕ) (role : Role) → BeginOutcomeOk {Leftover = List ℕ} ListOk (λ x. Unit {0}) (beginAs id (beginBodyOf body) role)
 unfolding opened
@@ -184,9 +186,9 @@ written-list h w ok s =
   where
     due-same : (due : Due) (n : ℕ) → InTurn due n h → InTurn due n (record { request = w .request; area = h .area })
     due-same Due.Skip n r = tt
-    due-same Due.Params n r = ap inParams (s .turn) ∙ r
-    due-same Due.Stdin n r = tt
-    due-same Due.Data n r = tt
+    due-same Due.Params n r = (ap inParams (s .turn) ∙ r .0, ap isSpent (s .life) ∙ r .1)
+    due-same Due.Stdin n r = ap isSpent (s .life) ∙ r
+    due-same Due.Data n r = ap isSpent (s .life) ∙ r
 
 finished-list : (keep : Bool) (h : Held) (w : Of.Wrote) → ListOk h → CallOutcomeOk ListOk InTurn h (finishedAs keep h w)
 unfolding finishedAs
@@ -240,12 +242,15 @@ slot-list m i e w u =
     let r = rw (u .is-taken) at s in
     r .1
 
--- After any run from a start that leaves the connection open, for each active request.
-pub lists-well-formed : (r : WholeRun) → ending r .state .conn .«open» ≡ true → (i : ℕ) → InUse (ending r .state .conn .table) i
-    → ListOk (heldAt (ending r .state .conn .table) (ending r .store) i)
-lists-well-formed r e i u =
+-- A run from a start keeps these laws.
+pub run-list : (r : WholeRun) → WellShaped receiver list-laws (loadedOf (ending r))
+run-list r =
     let A = beginning r in
     let k = run-linked (r .operations) A (start-steady (r .gathered) (r .store) (r .gathered-size) (r .store-size)) (r .pieces) in
     let fresh-ok = subst (λ s. WellShaped receiver list-laws s) (sym (start-loaded (r .gathered) (r .store) (r .store-size))) (shape-fresh receiver list-laws) in
-    let ends-ok = subst (λ s. WellShaped receiver list-laws s) (sym (k .state)) (shape-after receiver list-laws (loadedOf A) (timeline-ok (r .operations) A (r .pieces)) fresh-ok) in
-    slot-list (ending r) i e ends-ok u
+    subst (λ s. WellShaped receiver list-laws s) (sym (k .state)) (shape-after receiver list-laws (loadedOf A) (timeline-ok (r .operations) A (r .pieces)) fresh-ok)
+
+-- After any run from a start that leaves the connection open, for each active request.
+pub lists-well-formed : (r : WholeRun) → ending r .state .conn .«open» ≡ true → (i : ℕ) → InUse (ending r .state .conn .table) i
+    → ListOk (heldAt (ending r .state .conn .table) (ending r .store) i)
+lists-well-formed r e i u = slot-list (ending r) i e (run-list r) u
