@@ -13,4 +13,5 @@ pub mod reply;
 pub mod scripts;
 pub mod shape;
 pub mod state;
+pub mod tally;
 pub mod wire;
