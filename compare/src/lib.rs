@@ -5,6 +5,7 @@ pub mod answer;
 pub mod calls;
 pub mod console;
 pub mod digest;
+pub mod drive;
 pub mod output;
 pub mod pairs;
 pub mod random;

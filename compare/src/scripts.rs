@@ -69,9 +69,9 @@ pub fn generate(seed: u64, lines: usize) -> Script {
         match draft.random.below(100) {
             0..=24 => draft.traffic(false),
             25..=44 => draft.traffic(true),
-            45..=58 => draft.any_calls(),
-            59..=74 => draft.row_nine(),
-            75..=92 => draft.poked_state(),
+            45..=60 => draft.any_calls(),
+            61..=75 => draft.row_nine(),
+            76..=89 => draft.poked_state(),
             _ => draft.odd_lines(),
         }
     }
@@ -122,10 +122,27 @@ impl Draft {
         let active = self.active_ids();
         match self.random.below(10) {
             0 => self.random.pick(&[0, 1, 65_535]),
-            1 | 2 => self.any_id(),
+            1 => self.any_id(),
             _ if active.is_empty() => self.any_id(),
-            _ => self.random.pick(&active),
+            2 | 3 => self.random.pick(&active),
+            _ => self.ready_id(&active),
         }
+    }
+
+    /// Of some tries, the first whose parameters have ended: more calls mean something to it.
+    fn ready_id(&mut self, active: &[u16]) -> u16 {
+        let mut id = 0;
+        for _ in 0..4 {
+            id = self.random.pick(active);
+            let connection = &self.console.connection;
+            if connection
+                .find(id)
+                .is_some_and(|slot| connection.slots[slot].params_ended())
+            {
+                break;
+            }
+        }
+        id
     }
 
     /// Feeds bytes in pieces, what a step did not use first in the next; calls in between. Answers whether the
@@ -182,6 +199,6 @@ impl Draft {
             Cut::Any,
         ]);
         self.chatter = self.random.pick(&[1, 2, 2, 3, 6]);
-        self.crowd = self.random.one_in(8);
+        self.crowd = self.random.one_in(6);
     }
 }

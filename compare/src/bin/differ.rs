@@ -1,29 +1,26 @@
 //! Random scripts for a console, its answers compared with the twin's, line by line.
 //!
-//!     differ [--console PATH] [--seed N] [--lines N] [--tally] [--count] [--script SEED]
+//!     differ [--console PATH] [--seed N] [--lines N] [--tally] [--script SEED]
 //!
-//! `--count` counts the lines that differ and the scripts that have any, and goes on; otherwise the first difference
-//! ends the run. `--script` prints the script of a seed. Exit status 1 on a difference.
+//! The first difference ends the run, with exit status 1. `--script` prints the script of a seed.
 
+use compare::drive::{answers, differences, seed_of, text, SCRIPT};
 use compare::scripts::{generate, Script};
 use compare::tally::Tally;
 use std::fs;
-use std::io::{self, Read, Write};
-use std::process::{Command, ExitCode, Stdio};
-use std::thread;
+use std::io::{self, Write};
+use std::path::PathBuf;
+use std::process::ExitCode;
 use std::time::Instant;
 
-/// Lines of a script: the console is started anew for each.
-const SCRIPT: usize = 4_000;
 /// Lines shown before a difference.
 const SHOWN: usize = 15;
 
 struct Options {
-    console: String,
+    console: PathBuf,
     seed: u64,
     lines: usize,
     tally: bool,
-    count: bool,
 }
 
 fn main() -> ExitCode {
@@ -32,7 +29,6 @@ fn main() -> ExitCode {
         seed: 1,
         lines: 200_000,
         tally: false,
-        count: false,
     };
     let mut words = std::env::args().skip(1);
     while let Some(word) = words.next() {
@@ -42,9 +38,8 @@ fn main() -> ExitCode {
             "--seed" => options.seed = number(),
             "--lines" => options.lines = number() as usize,
             "--script" => return print_script(number()),
-            "--console" => options.console = argument(),
+            "--console" => options.console = argument().into(),
             "--tally" => options.tally = true,
-            "--count" => options.count = true,
             _ => usage(),
         }
     }
@@ -52,14 +47,14 @@ fn main() -> ExitCode {
         Ok(true) => ExitCode::SUCCESS,
         Ok(false) => ExitCode::FAILURE,
         Err(error) => {
-            eprintln!("differ: {}: {error}", options.console);
+            eprintln!("differ: {}: {error}", options.console.display());
             ExitCode::from(2)
         }
     }
 }
 
 fn usage() -> ! {
-    eprintln!("differ [--console PATH] [--seed N] [--lines N] [--tally] [--count] [--script SEED]");
+    eprintln!("differ [--console PATH] [--seed N] [--lines N] [--tally] [--script SEED]");
     std::process::exit(2)
 }
 
@@ -74,10 +69,9 @@ fn print_script(seed: u64) -> ExitCode {
 fn run(options: &Options) -> io::Result<bool> {
     let begun = Instant::now();
     let mut tally = Tally::default();
-    let (mut scripts, mut lines, mut states) = (0, 0, 0);
-    let (mut different, mut hit) = (0, 0);
-    while lines < options.lines {
-        let seed = options.seed.wrapping_mul(1_000_003).wrapping_add(scripts);
+    let (mut scripts, mut lines, mut states, mut same) = (0, 0, 0, true);
+    while same && lines < options.lines {
+        let seed = seed_of(options.seed, scripts);
         let script = generate(seed, SCRIPT.min(options.lines));
         let answers = answers(&options.console, &script)?;
         for (line, answer) in script.lines.iter().zip(&script.answers) {
@@ -86,12 +80,9 @@ fn run(options: &Options) -> io::Result<bool> {
         scripts += 1;
         lines += script.lines.len();
         states += script.states;
-        let differences = differences(&script, &answers);
-        different += differences.len();
-        hit += u64::from(!differences.is_empty());
-        if let (Some(&first), false) = (differences.first(), options.count) {
+        if let Some(&first) = differences(&script, &answers).first() {
             show(&script, &answers, first, seed)?;
-            break;
+            same = false;
         }
     }
     if options.tally {
@@ -100,56 +91,14 @@ fn run(options: &Options) -> io::Result<bool> {
             println!("never came: {kind}");
         }
     }
+    let found = if same {
+        "no difference"
+    } else {
+        "a difference"
+    };
     let time = begun.elapsed().as_secs_f64();
-    println!(
-        "{scripts} scripts, {lines} lines, {states} states poked, {different} differences in {hit} scripts, \
-         {time:.1} s"
-    );
-    Ok(different == 0)
-}
-
-fn text(lines: &[Vec<u8>]) -> Vec<u8> {
-    lines
-        .iter()
-        .flat_map(|line| [&line[..], b"\n"].concat())
-        .collect()
-}
-
-/// What a console prints for a script, by lines.
-fn answers(console: &str, script: &Script) -> io::Result<Vec<Vec<u8>>> {
-    let mut child = Command::new(console)
-        .stdin(Stdio::piped())
-        .stdout(Stdio::piped())
-        .spawn()?;
-    let mut input = child.stdin.take().expect("it is piped");
-    let mut output = child.stdout.take().expect("it is piped");
-    let bytes = text(&script.lines);
-    // A console that ends early breaks the pipe; the lines that lack show it.
-    let writer = thread::spawn(move || {
-        let _ = input.write_all(&bytes);
-    });
-    let mut printed = Vec::new();
-    output.read_to_end(&mut printed)?;
-    writer.join().expect("the writer does not panic");
-    let status = child.wait()?;
-    if !status.success() {
-        println!("{console} ended with {status}");
-    }
-    let mut answers: Vec<Vec<u8>> = printed.split(|&b| b == b'\n').map(<[u8]>::to_vec).collect();
-    // Behind the last newline there is nothing.
-    if answers.last().is_some_and(Vec::is_empty) {
-        answers.pop();
-    }
-    Ok(answers)
-}
-
-/// The lines that were answered otherwise, or not, or that were answered and not asked.
-fn differences(script: &Script, answers: &[Vec<u8>]) -> Vec<usize> {
-    (0..script.answers.len().max(answers.len()))
-        .filter(|&i| {
-            script.answers.get(i).map(String::as_bytes) != answers.get(i).map(Vec::as_slice)
-        })
-        .collect()
+    println!("{scripts} scripts, {lines} lines, {states} states poked: {found} ({time:.1} s)");
+    Ok(same)
 }
 
 fn show(script: &Script, answers: &[Vec<u8>], at: usize, seed: u64) -> io::Result<()> {

@@ -3,7 +3,7 @@
 use super::records::begin_body;
 use super::Draft;
 use crate::console::words::hex;
-use crate::state::{AREA, SLOTS};
+use crate::state::{Connection, Life, Request, Turn, AREA, SLOTS};
 
 impl Draft {
     /// An open connection with some requests, all of it in shape and between two records.
@@ -61,6 +61,61 @@ impl Draft {
         }
     }
 
+    /// Pokes what differs from an earlier state, and so goes back to it.
+    pub(super) fn restore(&mut self, was: &Connection) {
+        let is = self.console.connection.clone();
+        if is.open != was.open {
+            self.line(format!("poke open {}", u8::from(was.open)));
+        }
+        if is.occupied != was.occupied {
+            self.line(format!("poke occupied {}", was.occupied));
+        }
+        for (slot, (is, was)) in is.slots.iter().zip(&was.slots).enumerate() {
+            if is != was {
+                self.restore_request(slot, is, was);
+            }
+        }
+        if (is.held, is.header) != (was.held, was.header) {
+            self.line(format!("poke header {}", hex(&was.header)));
+            self.line(format!("poke held {}", was.held));
+        }
+        if is.padding != was.padding {
+            self.line(format!("poke padding {}", was.padding));
+        }
+        // Bodies are not gone back to: what is left of the record is skipped.
+        if (is.target, is.content) != (was.target, was.content) {
+            self.line("poke target skip");
+            self.line(format!("poke content {}", was.content.min(20)));
+        }
+    }
+
+    fn restore_request(&mut self, slot: usize, is: &Request, was: &Request) {
+        let mut poke = |field: &str, is: String, was: String| {
+            if is != was {
+                self.line(format!("poke {field} {slot} {was}"));
+            }
+        };
+        let number = |flag: bool| u8::from(flag).to_string();
+        let role = |request: &Request| (request.role as u8).to_string();
+        poke("id", is.id.to_string(), was.id.to_string());
+        poke("length", is.length.to_string(), was.length.to_string());
+        poke("role", role(is), role(was));
+        poke("keep", number(is.keep), number(was.keep));
+        poke(
+            "turn",
+            turn_word(is.turn).into(),
+            turn_word(was.turn).into(),
+        );
+        poke(
+            "spent",
+            life_word(is.life).into(),
+            life_word(was.life).into(),
+        );
+        poke("out_ended", number(is.out_ended), number(was.out_ended));
+        poke("err_used", number(is.err_used), number(was.err_used));
+        poke("err_ended", number(is.err_ended), number(was.err_ended));
+    }
+
     pub(super) fn poked_state(&mut self) {
         self.choose_cut();
         if self.random.one_in(3) && self.open() {
@@ -68,7 +123,8 @@ impl Draft {
         } else {
             self.poked_table();
         }
-        for _ in 0..self.random.within(1, 3) {
+        let was = self.console.connection.clone();
+        for _ in 0..self.random.within(2, 8) {
             self.script.states += 1;
             for _ in 0..self.random.within(1, 3) {
                 self.poke_any();
@@ -83,6 +139,9 @@ impl Draft {
             let bytes = self.piece_for_state(n);
             self.feed(&bytes);
             self.line("active");
+            if self.random.one_in(2) || self.last() == "refused 9" {
+                self.restore(&was);
+            }
         }
         if self.random.one_in(2) {
             self.start();
@@ -214,5 +273,22 @@ impl Draft {
         let content = self.random.pick(&[0, 1, 3, 7, 8, 9, 2_048]);
         self.line(format!("poke target {kind} {slot}"));
         self.line(format!("poke content {content}"));
+    }
+}
+
+fn turn_word(turn: Turn) -> &'static str {
+    match turn {
+        Turn::Params => "params",
+        Turn::Stdin => "stdin",
+        Turn::Data => "data",
+        Turn::Done => "done",
+    }
+}
+
+fn life_word(life: Life) -> &'static str {
+    match life {
+        Life::Live => "live",
+        Life::Faulted => "faulted",
+        Life::Aborted => "aborted",
     }
 }

@@ -123,11 +123,15 @@ pub fn damaged_list(random: &mut Random) -> Vec<u8> {
             list.pop();
         }
         1 => list.push(random.byte()),
-        // The four-byte form of a small number.
+        // The four-byte form of a small number, right but for that.
         2 => {
-            list.extend([0x80, 0, 0, random.byte() & 0x7f, 0]);
-            let n = random.within(0, 127);
-            list.extend(random.bytes(n));
+            let n = random.byte() & 0x7f;
+            list.extend(if random.one_in(2) {
+                [0x80, 0, 0, n, 0]
+            } else {
+                [0, 0x80, 0, 0, n]
+            });
+            list.extend(random.bytes(n.into()));
         }
         // Two lengths whose sum passes 32 bits, or a cut length.
         3 => list.extend([0xff, 0xff, 0xff, 0xff, 0xff, 0xff, 0xff, 0xff, 1, 2]),

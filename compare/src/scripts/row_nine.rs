@@ -8,7 +8,8 @@ impl Draft {
     pub(super) fn row_nine(&mut self) {
         self.choose_cut();
         self.poked_table();
-        for _ in 0..self.random.within(1, 4) {
+        let was = self.console.connection.clone();
+        for _ in 0..self.random.within(4, 16) {
             let condition = self.random.below(13);
             let broken = self.random.one_in(2);
             self.script.states += 1;
@@ -28,9 +29,7 @@ impl Draft {
             let n = self.random.within(1, 20);
             let bytes = self.random.bytes(n);
             self.feed(&bytes);
-            if broken || self.random.one_in(2) {
-                self.poked_table();
-            }
+            self.restore(&was);
         }
     }
 

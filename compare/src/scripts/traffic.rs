@@ -58,6 +58,7 @@ impl Draft {
     fn sending_id(&mut self) -> u16 {
         let active = self.active_ids();
         let fresh = match active.len() {
+            16 if self.crowd => 1,
             _ if self.crowd => 2,
             0..=2 => 2,
             3..=5 => 8,
@@ -90,7 +91,12 @@ impl Draft {
             Turn::Params => self.next_params(id),
             Turn::Stdin => self.next_input(id, kind::STDIN),
             Turn::Data => self.next_input(id, kind::DATA),
-            Turn::Done if self.random.one_in(12) => self.any_record(id),
+            Turn::Done if self.random.one_in(8) => self.any_record(id),
+            Turn::Done if self.random.one_in(6) => {
+                // An end that comes twice, or that this role has not.
+                let kind = self.random.pick(&[kind::STDIN, kind::DATA]);
+                record(&mut self.random, kind, id, &[])
+            }
             Turn::Done => Vec::new(),
         }
     }
