@@ -75,9 +75,14 @@ impl Draft {
     fn next_record(&mut self, id: u16) -> Vec<u8> {
         let connection = &self.console.connection;
         let Some(slot) = connection.find(id) else {
+            let full = connection.lowest_free().is_none();
             let list = any_list(&mut self.random);
             self.lists.insert(id, list);
-            let body = begin_body(&mut self.random);
+            let mut body = begin_body(&mut self.random);
+            // The role is looked at before the room.
+            if full && self.random.one_in(3) {
+                body[1] = self.random.byte();
+            }
             return record(&mut self.random, kind::BEGIN, id, &body);
         };
         let request = connection.slots[slot];
