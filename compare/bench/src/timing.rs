@@ -10,8 +10,10 @@ use std::io::{self, Read};
 use std::path::Path;
 use std::time::{Duration, Instant};
 
-/// Piece sizes, and how much content goes through each. Reading 64 MiB byte by byte would take the whole time.
-const SIZES: [(usize, usize); 3] = [(65_536, 64 << 20), (100, 64 << 20), (1, 8 << 20)];
+/// Piece sizes, how much content goes through each, and how many rounds that makes of one: 64 MiB in large pieces take
+/// a millisecond or two, and byte by byte a minute with the reads.
+const SIZES: [(usize, usize, usize); 3] =
+    [(65_536, 64 << 20, 25), (100, 64 << 20, 4), (1, 8 << 20, 1)];
 
 struct Row {
     piece: usize,
@@ -27,8 +29,8 @@ struct Row {
 
 pub fn table(rounds: usize, file: &Path) -> io::Result<()> {
     let mut rows = Vec::new();
-    for (piece, total) in SIZES {
-        rows.push(measure(piece, total, rounds, file)?);
+    for (piece, total, times) in SIZES {
+        rows.push(measure(piece, total, rounds * times, file)?);
     }
     print_alone(&rows);
     print_with_reading(&rows);
