@@ -48,19 +48,24 @@ struct Draft {
     crowd: bool,
     /// What is still to be sent of the parameters of a request.
     lists: BTreeMap<u16, Vec<u8>>,
+    /// No calls but steps; and the bytes that were fed.
+    silent: bool,
+    sent: Vec<u8>,
+}
+
+/// What a web server sends on one connection, whole or damaged, to its close or for a while.
+pub fn stream(seed: u64) -> Vec<u8> {
+    let mut draft = Draft::new(seed);
+    draft.silent = true;
+    draft.start();
+    let damaged = draft.random.one_in(2);
+    draft.traffic(damaged);
+    draft.sent
 }
 
 /// A script of about so many lines.
 pub fn generate(seed: u64, lines: usize) -> Script {
-    let mut draft = Draft {
-        random: Random::new(seed),
-        console: Console::default(),
-        script: Script::default(),
-        cut: Cut::Any,
-        chatter: 4,
-        crowd: false,
-        lists: BTreeMap::new(),
-    };
+    let mut draft = Draft::new(seed);
     // What the console begins with is tried too.
     if draft.random.one_in(2) {
         draft.every_call();
@@ -79,6 +84,20 @@ pub fn generate(seed: u64, lines: usize) -> Script {
 }
 
 impl Draft {
+    fn new(seed: u64) -> Draft {
+        Draft {
+            random: Random::new(seed),
+            console: Console::default(),
+            script: Script::default(),
+            cut: Cut::Any,
+            chatter: 4,
+            crowd: false,
+            lists: BTreeMap::new(),
+            silent: false,
+            sent: Vec::new(),
+        }
+    }
+
     fn line(&mut self, text: impl Into<Vec<u8>>) -> &str {
         let line = text.into();
         let answer = self.console.answer(&line);
@@ -148,6 +167,7 @@ impl Draft {
     /// Feeds bytes in pieces, what a step did not use first in the next; calls in between. Answers whether the
     /// connection took them all.
     fn feed(&mut self, mut bytes: &[u8]) -> bool {
+        self.sent.extend(bytes);
         while !bytes.is_empty() {
             let n = self.piece_length(bytes.len());
             self.line(format!("step {}", hex(&bytes[..n])));
@@ -160,7 +180,7 @@ impl Draft {
                 Some(used) if self.open() => bytes = &bytes[used..],
                 _ => return false,
             }
-            if self.random.one_in(self.chatter) {
+            if !self.silent && self.random.one_in(self.chatter) {
                 self.any_call();
             }
         }

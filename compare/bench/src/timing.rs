@@ -10,10 +10,11 @@ use std::io::{self, Read};
 use std::path::Path;
 use std::time::{Duration, Instant};
 
-/// Piece sizes, how much content goes through each, and how many rounds that makes of one: 64 MiB in large pieces take
-/// a millisecond or two, and byte by byte a minute with the reads.
-const SIZES: [(usize, usize, usize); 3] =
-    [(65_536, 64 << 20, 25), (100, 64 << 20, 4), (1, 8 << 20, 1)];
+/// Piece sizes, and how much content goes through each: byte by byte, 64 MiB would take a minute with the reads.
+const SIZES: [(usize, usize); 3] = [(65_536, 64 << 20), (100, 64 << 20), (1, 4 << 20)];
+
+/// A round takes at least so long: a receiver that is done sooner goes several times, and the best counts.
+const ROUND: Duration = Duration::from_millis(40);
 
 struct Row {
     piece: usize,
@@ -29,8 +30,8 @@ struct Row {
 
 pub fn table(rounds: usize, file: &Path) -> io::Result<()> {
     let mut rows = Vec::new();
-    for (piece, total, times) in SIZES {
-        rows.push(measure(piece, total, rounds * times, file)?);
+    for (piece, total) in SIZES {
+        rows.push(measure(piece, total, rounds, file)?);
     }
     print_alone(&rows);
     print_with_reading(&rows);
@@ -52,24 +53,41 @@ fn measure(piece: usize, total: usize, rounds: usize, file: &Path) -> io::Result
     let mut sums = Vec::new();
     for _ in 0..rounds {
         for (receiver, best) in RECEIVERS.iter().zip(&mut row.alone) {
-            let begun = Instant::now();
-            let sum = (receiver.digest)(black_box(&mut store), black_box(&bytes), piece);
-            *best = begun.elapsed().min(*best);
-            sums.push(sum);
+            repeat(best, || {
+                let begun = Instant::now();
+                let sum = (receiver.digest)(black_box(&mut store), black_box(&bytes), piece);
+                sums.push(sum);
+                Ok(begun.elapsed())
+            })?;
         }
-        row.reading = read_all(file, piece)?.min(row.reading);
-        let (time, sum) = read_and_feed::<true>(file, piece, &mut store)?;
-        row.together[0] = time.min(row.together[0]);
-        sums.push(sum);
-        let (time, sum) = read_and_feed::<false>(file, piece, &mut store)?;
-        row.together[1] = time.min(row.together[1]);
-        sums.push(sum);
+        repeat(&mut row.reading, || read_all(file, piece))?;
+        repeat(&mut row.together[0], || {
+            let (time, sum) = read_and_feed::<true>(file, piece, &mut store)?;
+            sums.push(sum);
+            Ok(time)
+        })?;
+        repeat(&mut row.together[1], || {
+            let (time, sum) = read_and_feed::<false>(file, piece, &mut store)?;
+            sums.push(sum);
+            Ok(time)
+        })?;
     }
     assert!(
         sums.iter().all(|&sum| sum == sums[0] && sum != 0),
-        "the receivers tell different things: {sums:?}"
+        "the receivers tell different things"
     );
     Ok(row)
+}
+
+/// One round: the best time of as many runs as fit.
+fn repeat(best: &mut Duration, mut run: impl FnMut() -> io::Result<Duration>) -> io::Result<()> {
+    let begun = Instant::now();
+    loop {
+        *best = run()?.min(*best);
+        if begun.elapsed() >= ROUND {
+            return Ok(());
+        }
+    }
 }
 
 /// Reads the file in pieces of one size. The buffer is made once and not cleared between reads.

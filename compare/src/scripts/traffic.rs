@@ -9,7 +9,7 @@ impl Draft {
     /// A stretch of a connection.
     pub(super) fn traffic(&mut self, damaged: bool) {
         self.choose_cut();
-        if !self.open() || self.random.one_in(5) {
+        if !self.open() || !self.silent && self.random.one_in(5) {
             self.start();
         }
         for _ in 0..self.random.within(10, 70) {
@@ -32,10 +32,10 @@ impl Draft {
                 let content = query(&mut self.random);
                 bytes.extend(record(&mut self.random, kind::GET_VALUES, 0, &content));
             }
-            if !self.feed(&bytes) && !self.restart() {
+            if !self.feed(&bytes) && (self.silent || !self.restart()) {
                 return;
             }
-            if self.random.one_in(8) {
+            if !self.silent && self.random.one_in(8) {
                 self.finish_some();
             }
         }
