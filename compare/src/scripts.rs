@@ -113,6 +113,9 @@ impl Draft {
     fn start(&mut self) {
         self.lists.clear();
         self.line("start");
+        if self.random.one_in(4) {
+            self.line("owed 64");
+        }
     }
 
     fn open(&self) -> bool {

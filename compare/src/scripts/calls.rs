@@ -129,9 +129,9 @@ impl Draft {
     }
 
     fn say(&mut self, id: u16) {
-        let n = match self.random.below(150) {
+        let n = match self.random.below(70) {
             0 => self.random.pick(&[8_183, 8_184, 8_185, 16_368, 16_369]),
-            1..=40 => self.random.pick(&[0, 1, 7, 8, 9]),
+            1..=20 => self.random.pick(&[0, 1, 7, 8, 9]),
             _ => self.random.within(1, 40),
         };
         let data = hex(&self.random.bytes(n));

@@ -147,7 +147,7 @@ impl Draft {
                     let line = self.random.pick(&POKES);
                     self.line(format!("poke {line}"));
                 }
-                50..=58 => self.damaged_line(),
+                50..=57 => self.damaged_line(),
                 _ => self.greatest_line(),
             }
         }
