@@ -1,0 +1,9 @@
+//! The proved receiver as a static library, which `rt staticlib export` writes.
+
+fn main() {
+    let folder = std::env::var("CARGO_MANIFEST_DIR").expect("cargo sets it");
+    let library = format!("{folder}/../../target/staticlib");
+    println!("cargo:rustc-link-search=native={library}");
+    println!("cargo:rustc-link-lib=static=export");
+    println!("cargo:rerun-if-changed={library}/libexport.a");
+}

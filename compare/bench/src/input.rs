@@ -1,0 +1,52 @@
+//! The connection that both receivers read.
+
+use compare::wire::{kind, Header};
+
+/// Content bytes of a STDIN record.
+pub const RECORD: usize = 8_192;
+
+fn record(bytes: &mut Vec<u8>, kind: u8, id: u16, content: &[u8]) {
+    let header = Header {
+        version: 1,
+        kind,
+        id,
+        content: content.len() as u16,
+        padding: 0,
+    };
+    bytes.extend(header.to_bytes());
+    bytes.extend(content);
+}
+
+/// Eight requests are opened and get their parameters; then STDIN content goes to them in turn, and ends.
+pub fn input(total: usize) -> Vec<u8> {
+    let mut bytes = Vec::with_capacity(total + total / RECORD * 8 + 1_000);
+    for id in 1..=8 {
+        record(&mut bytes, kind::BEGIN, id, &[0, 1, 1, 0, 0, 0, 0, 0]);
+        record(&mut bytes, kind::PARAMS, id, b"\x0b\x02SERVER_PORT80");
+        record(&mut bytes, kind::PARAMS, id, &[]);
+    }
+    let content: Vec<u8> = (0..RECORD).map(|i| (i * 7) as u8).collect();
+    for k in 0..total / RECORD {
+        record(&mut bytes, kind::STDIN, (k % 8) as u16 + 1, &content);
+    }
+    for id in 1..=8 {
+        record(&mut bytes, kind::STDIN, id, &[]);
+    }
+    bytes
+}
+
+/// How many steps the pieces take: they are cut at the edges of headers and contents.
+pub fn steps(bytes: &[u8], piece: usize) -> usize {
+    let (mut at, mut steps) = (0, 0);
+    while at < bytes.len() {
+        let content = usize::from(bytes[at + 4]) * 256 + usize::from(bytes[at + 5]);
+        for part in [8, content] {
+            let end = at + part;
+            while at < end {
+                at = end.min((at / piece + 1) * piece);
+                steps += 1;
+            }
+        }
+    }
+    steps
+}

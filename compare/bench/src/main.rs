@@ -1,0 +1,70 @@
+//! Both receivers on the same bytes.
+//!
+//!     bench time ROUNDS FILE             times; FILE is written, and read again in pieces
+//!     bench count SYMBOL PIECE TOTAL     one receiver once, for callgrind; prints the number of steps
+//!     bench agree STREAMS                random connections: what is told, and the store that is left
+
+mod input;
+mod receivers;
+mod timing;
+
+use compare::scripts::stream;
+use compare::state::STORE;
+use receivers::RECEIVERS;
+use std::path::Path;
+use std::process::ExitCode;
+
+fn main() -> ExitCode {
+    let words: Vec<String> = std::env::args().skip(1).collect();
+    let words: Vec<&str> = words.iter().map(String::as_str).collect();
+    let done = match words[..] {
+        ["time", rounds, file] => match rounds.parse() {
+            Ok(rounds) => timing::table(rounds, Path::new(file)).is_ok(),
+            Err(_) => false,
+        },
+        ["count", symbol, piece, total] => match (piece.parse(), total.parse()) {
+            (Ok(piece), Ok(total)) => count(symbol, piece, total),
+            _ => false,
+        },
+        ["agree", streams] => streams.parse().is_ok_and(agree),
+        _ => false,
+    };
+    if done {
+        ExitCode::SUCCESS
+    } else {
+        eprintln!("bench time ROUNDS FILE | bench count SYMBOL PIECE TOTAL | bench agree STREAMS");
+        ExitCode::FAILURE
+    }
+}
+
+fn count(symbol: &str, piece: usize, total: usize) -> bool {
+    let Some(receiver) = RECEIVERS.iter().find(|r| r.symbol == symbol) else {
+        return false;
+    };
+    let bytes = input::input(total);
+    let sum = (receiver.digest)(&mut vec![0; STORE], &bytes, piece);
+    println!("{} {sum}", input::steps(&bytes, piece));
+    true
+}
+
+/// Feeds random connections to all receivers, in pieces of several sizes. No calls come in between.
+fn agree(streams: u64) -> bool {
+    let mut fed = 0;
+    for seed in 0..streams {
+        let bytes = stream(seed);
+        for piece in [1, 7, 8, 9, 100, 65_536] {
+            let [proved, plain, unchecked] = RECEIVERS.map(|receiver| {
+                let mut store = vec![0xcc; STORE];
+                let sum = (receiver.digest)(&mut store, &bytes, piece);
+                (sum, store)
+            });
+            if proved != plain || plain != unchecked {
+                println!("stream {seed} in pieces of {piece}: the receivers differ");
+                return false;
+            }
+            fed += bytes.len();
+        }
+    }
+    println!("{streams} connections in pieces of six sizes, {fed} bytes: all told the same and left the same store");
+    true
+}

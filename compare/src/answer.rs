@@ -1,0 +1,148 @@
+//! What the calls answer. The discriminants are the numbers that the rules give to each case.
+
+/// When a call is refused.
+#[derive(Clone, Copy, Debug, PartialEq, Eq)]
+#[repr(u8)]
+pub enum Refusal {
+    Closed = 1,
+    StoreSize = 2,
+    NotActive = 3,
+    NotReady = 4,
+    StreamEnded = 5,
+    NoRoom = 6,
+    NoPair = 7,
+    TooLong = 8,
+    OutOfShape = 9,
+}
+
+/// Why a connection closes in a step.
+#[derive(Clone, Copy, Debug, PartialEq, Eq)]
+#[repr(u8)]
+pub enum Close {
+    Version = 11,
+    BeginLength = 12,
+    QueryLength = 13,
+    QueryMalformed = 14,
+}
+
+/// What a request did wrong.
+#[derive(Clone, Copy, Debug, PartialEq, Eq)]
+#[repr(u8)]
+pub enum Fault {
+    BeginAgain = 21,
+    OutOfTurn = 22,
+    WrongType = 23,
+    TooLong = 24,
+    Malformed = 25,
+}
+
+/// Why an opening is refused: the protocol statuses of END_REQUEST that are sent for it.
+#[derive(Clone, Copy, Debug, PartialEq, Eq)]
+#[repr(u8)]
+pub enum Status {
+    Overloaded = 2,
+    UnknownRole = 3,
+}
+
+#[derive(Clone, Copy, Debug, PartialEq, Eq)]
+#[repr(u8)]
+pub enum Role {
+    Responder = 1,
+    Authorizer = 2,
+    Filter = 3,
+}
+
+impl Role {
+    pub fn of(number: u16) -> Option<Role> {
+        match number {
+            1 => Some(Role::Responder),
+            2 => Some(Role::Authorizer),
+            3 => Some(Role::Filter),
+            _ => None,
+        }
+    }
+}
+
+/// An input stream whose content is shown; the discriminant is the type of its records.
+#[derive(Clone, Copy, Debug, PartialEq, Eq)]
+#[repr(u8)]
+pub enum Stream {
+    Stdin = 5,
+    Data = 8,
+}
+
+/// An output stream; the discriminant is the type of its records.
+#[derive(Clone, Copy, Debug, PartialEq, Eq)]
+#[repr(u8)]
+pub enum Output {
+    Stdout = 6,
+    Stderr = 7,
+}
+
+/// Which values a query named.
+#[derive(Clone, Copy, Debug, Default, PartialEq, Eq)]
+pub struct Named {
+    pub max_conns: bool,
+    pub max_reqs: bool,
+    pub mpxs_conns: bool,
+}
+
+/// What a step tells. The bytes of `Data` are the first `count` of the piece that the step was lent.
+#[derive(Clone, Copy, Debug, PartialEq, Eq)]
+pub enum Event {
+    Open {
+        id: u16,
+        role: Role,
+        keep: bool,
+    },
+    Ready {
+        id: u16,
+        length: u16,
+    },
+    Data {
+        id: u16,
+        stream: Stream,
+        count: usize,
+    },
+    End {
+        id: u16,
+        stream: Stream,
+    },
+    Abort {
+        id: u16,
+    },
+    Refuse {
+        id: u16,
+        status: Status,
+    },
+    Fault {
+        id: u16,
+        fault: Fault,
+    },
+    Query(Named),
+    Unknown {
+        kind: u8,
+    },
+    Closed(Close),
+}
+
+/// A step that was not refused: the bytes it used, and what it tells.
+#[derive(Clone, Copy, Debug, PartialEq, Eq)]
+pub struct Step {
+    pub used: usize,
+    pub event: Option<Event>,
+}
+
+/// Whether value's bytes are those of the store or the fallback.
+#[derive(Clone, Copy, Debug, PartialEq, Eq)]
+pub enum Source {
+    Store,
+    Fallback,
+}
+
+/// A finish: the bytes it wrote, and whether the connection closed by it.
+#[derive(Clone, Copy, Debug, PartialEq, Eq)]
+pub struct Finished {
+    pub wrote: usize,
+    pub closed: bool,
+}

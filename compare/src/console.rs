@@ -1,0 +1,215 @@
+//! The twin of the console: every call by a line of text, and its answer as a line. `docs/CONSOLE.md` says which.
+
+pub mod poke;
+pub mod text;
+pub mod words;
+
+use crate::answer::{Event, Output, Refusal, Source};
+use crate::pairs::{write_pair, Pair};
+use crate::reply::reply;
+use crate::state::{area, Connection, AREA, STORE};
+use std::fmt::Write;
+use words::{bytes, hex, id, number, room};
+
+/// The longest line that is read, its newline not counted.
+pub const LONGEST_LINE: usize = 70_000;
+/// What a lent buffer is filled with before the call.
+const FILL: u8 = 0xee;
+
+/// The whole store is kept here whatever part of it is lent.
+#[derive(Clone)]
+pub struct Console {
+    pub connection: Connection,
+    pub store: Vec<u8>,
+    pub lent: usize,
+    /// The event of the last step that was not refused.
+    pub event: Option<Event>,
+}
+
+impl Default for Console {
+    fn default() -> Self {
+        Console {
+            connection: Connection::closed(),
+            store: vec![0; STORE],
+            lent: STORE,
+            event: None,
+        }
+    }
+}
+
+impl Console {
+    /// The answer to a line, both without their newline.
+    pub fn answer(&mut self, line: &[u8]) -> String {
+        if line.len() > LONGEST_LINE {
+            return "long".into();
+        }
+        std::str::from_utf8(line)
+            .ok()
+            .and_then(|text| self.command(&text.split(' ').collect::<Vec<_>>()))
+            .unwrap_or_else(|| "what".into())
+    }
+
+    /// None for words that are no command. Words are taken apart before anything is done.
+    fn command(&mut self, words: &[&str]) -> Option<String> {
+        Some(match *words {
+            ["start"] => self.start(),
+            ["lend", n] => {
+                self.lent = number(n, STORE as u64)? as usize;
+                "ok".into()
+            }
+            ["step", piece] => self.step(&bytes(piece)?),
+            ["value", r, name, fallback] => self.value(id(r)?, &bytes(name)?, &bytes(fallback)?),
+            ["pair", r, k] => self.pair(id(r)?, number(k, u64::MAX)?),
+            ["walk", r] => self.walk(id(r)?),
+            ["say", r, stream, data, size] => {
+                let (r, output, data) = (id(r)?, output(stream)?, bytes(data)?);
+                let mut buffer = vec![FILL; room(size)?];
+                let wrote = self.connection.say(r, output, &data, &mut buffer);
+                wrote_text(wrote, &buffer, "")
+            }
+            ["end", r, stream, size] => {
+                let (r, output) = (id(r)?, output(stream)?);
+                let mut buffer = vec![FILL; room(size)?];
+                let wrote = self.connection.end(r, output, &mut buffer);
+                wrote_text(wrote, &buffer, "")
+            }
+            ["owed", size] => {
+                let mut buffer = vec![FILL; room(size)?];
+                let wrote = reply(self.event.as_ref(), &mut buffer);
+                wrote_text(wrote, &buffer, "")
+            }
+            ["put", name, value, size] => {
+                let (name, value) = (bytes(name)?, bytes(value)?);
+                let mut buffer = vec![FILL; room(size)?];
+                let wrote = write_pair(&mut buffer, &name, &value);
+                wrote_text(wrote, &buffer, "")
+            }
+            ["finish", r, status, size] => {
+                let status = number(status, u32::MAX.into())? as u32;
+                self.finish(id(r)?, status, room(size)?)
+            }
+            ["active"] => match self.connection.active() {
+                Ok(n) => format!("active {n}"),
+                Err(refusal) => refused(refusal),
+            },
+            ["area", r] => self.area(id(r)?),
+            ["store"] => format!("store {}", self.store.iter().filter(|&&b| b != 0).count()),
+            ["poke", ref field @ ..] => {
+                poke::poke(&mut self.connection, &mut self.store, field)?;
+                "ok".into()
+            }
+            _ => return None,
+        })
+    }
+
+    fn start(&mut self) -> String {
+        self.event = None;
+        match self.connection.start(&mut self.store[..self.lent]) {
+            Ok(()) => "open".into(),
+            Err(refusal) => refused(refusal),
+        }
+    }
+
+    fn step(&mut self, piece: &[u8]) -> String {
+        match self.connection.step(&mut self.store[..self.lent], piece) {
+            Err(refusal) => refused(refusal),
+            Ok(step) => {
+                self.event = step.event;
+                match &step.event {
+                    None => format!("used {}", step.used),
+                    Some(event) => format!("used {} {}", step.used, text::event_text(event, piece)),
+                }
+            }
+        }
+    }
+
+    fn value(&self, id: u16, name: &[u8], fallback: &[u8]) -> String {
+        let store = &self.store[..self.lent];
+        let value = hex(self.connection.value(store, id, name, fallback));
+        match self.connection.value_source(store, id, name) {
+            Ok(Source::Store) => format!("store {value}"),
+            Ok(Source::Fallback) => format!("fallback {value}"),
+            Err(refusal) => format!("{} {value}", refused(refusal)),
+        }
+    }
+
+    fn pair(&self, id: u16, k: u64) -> String {
+        match self.connection.pair_at(&self.store[..self.lent], id, k) {
+            Ok(pair) => format!("pair {}", numbers(pair).map(|n| n.to_string()).join(" ")),
+            Err(refusal) => refused(refusal),
+        }
+    }
+
+    fn walk(&self, id: u16) -> String {
+        let mut walk = match self.connection.walk(&self.store[..self.lent], id) {
+            Ok(walk) => walk,
+            Err(refusal) => return refused(refusal),
+        };
+        let mut text = format!("walk {}", walk.list().len());
+        for pair in walk.by_ref() {
+            let pair = numbers(pair).map(|n| n.to_string()).join(",");
+            write!(text, " {pair}").expect("a string takes all");
+        }
+        write!(text, " stop {}", walk.place()).expect("a string takes all");
+        text
+    }
+
+    fn finish(&mut self, id: u16, status: u32, room: usize) -> String {
+        let mut buffer = vec![FILL; room];
+        let store = &mut self.store[..self.lent];
+        match self.connection.finish(store, id, status, &mut buffer) {
+            Ok(finished) => {
+                let end = if finished.closed { " closed" } else { " open" };
+                wrote_text(Ok(finished.wrote), &buffer, end)
+            }
+            Err(refusal) => wrote_text(Err(refusal), &buffer, ""),
+        }
+    }
+
+    fn area(&self, id: u16) -> String {
+        match self.connection.find(id) {
+            None => "none".into(),
+            Some(slot) => {
+                let length = usize::from(self.connection.slots[slot].length).min(AREA);
+                format!("area {}", hex(&self.store[area(slot)][..length]))
+            }
+        }
+    }
+}
+
+fn output(word: &str) -> Option<Output> {
+    match word {
+        "stdout" => Some(Output::Stdout),
+        "stderr" => Some(Output::Stderr),
+        _ => None,
+    }
+}
+
+fn refused(refusal: Refusal) -> String {
+    format!("refused {}", refusal as u8)
+}
+
+fn numbers(pair: Pair) -> [usize; 4] {
+    [
+        pair.name_at,
+        pair.name_length,
+        pair.value_at,
+        pair.value_length,
+    ]
+}
+
+/// What a writer answered, and whether it left the bytes behind alone.
+fn wrote_text(wrote: Result<usize, Refusal>, buffer: &[u8], end: &str) -> String {
+    let (text, rest) = match wrote {
+        Ok(n) => (
+            format!("wrote {n} {}{end}", hex(&buffer[..n])),
+            &buffer[n..],
+        ),
+        Err(refusal) => (refused(refusal), buffer),
+    };
+    if rest.iter().any(|&byte| byte != FILL) {
+        text + " touched"
+    } else {
+        text
+    }
+}

@@ -1,0 +1,85 @@
+//! Fields of the state, and bytes of the store, set to anything that their types can hold.
+
+use super::words::{bytes, flag, id, number};
+use crate::answer::Role;
+use crate::state::{Connection, Life, Request, Target, Turn, SLOTS, STORE};
+
+/// Sets what the words behind `poke` name; none where they are no field or no value of it.
+pub fn poke(connection: &mut Connection, store: &mut [u8], words: &[&str]) -> Option<()> {
+    match *words {
+        ["open", word] => connection.open = flag(word)?,
+        ["occupied", word] => connection.occupied = id(word)?,
+        ["held", word] => connection.held = number(word, u64::MAX)?,
+        ["header", word] => connection.header = padded(word)?,
+        ["target", ref words @ ..] => connection.target = target(words)?,
+        ["content", word] => connection.content = number(word, u64::MAX)?,
+        ["padding", word] => connection.padding = number(word, u64::MAX)?,
+        ["gathered", word] => connection.gathered = number(word, u64::MAX)?,
+        ["body", word] => {
+            connection.query = padded(word)?;
+            connection.body.copy_from_slice(&connection.query[..8]);
+        }
+        ["byte", place, value] => {
+            let place = number(place, STORE as u64 - 1)? as usize;
+            store[place] = number(value, 255)? as u8;
+        }
+        [field, slot, value] => {
+            let slot = number(slot, SLOTS as u64 - 1)? as usize;
+            poke_request(&mut connection.slots[slot], field, value)?;
+        }
+        _ => return None,
+    }
+    Some(())
+}
+
+fn poke_request(request: &mut Request, field: &str, value: &str) -> Option<()> {
+    match field {
+        "id" => request.id = id(value)?,
+        "length" => request.length = id(value)?,
+        "role" => request.role = Role::of(id(value)?)?,
+        "keep" => request.keep = flag(value)?,
+        "turn" => {
+            request.turn = match value {
+                "params" => Turn::Params,
+                "stdin" => Turn::Stdin,
+                "data" => Turn::Data,
+                "done" => Turn::Done,
+                _ => return None,
+            }
+        }
+        "spent" => {
+            request.life = match value {
+                "live" => Life::Live,
+                "faulted" => Life::Faulted,
+                "aborted" => Life::Aborted,
+                _ => return None,
+            }
+        }
+        "out_ended" => request.out_ended = flag(value)?,
+        "err_used" => request.err_used = flag(value)?,
+        "err_ended" => request.err_ended = flag(value)?,
+        _ => return None,
+    }
+    Some(())
+}
+
+fn target(words: &[&str]) -> Option<Target> {
+    let slot = |word: &str| number(word, 255).map(|n| n as u8);
+    Some(match *words {
+        ["skip"] => Target::Skip,
+        ["begin", word] => Target::Begin(id(word)?),
+        ["query"] => Target::Query,
+        ["params", word] => Target::Params(slot(word)?),
+        ["stdin", word] => Target::Stdin(slot(word)?),
+        ["data", word] => Target::Data(slot(word)?),
+        _ => return None,
+    })
+}
+
+/// At most N bytes, and zeros after them.
+fn padded<const N: usize>(word: &str) -> Option<[u8; N]> {
+    let given = bytes(word)?;
+    let mut all = [0; N];
+    all.get_mut(..given.len())?.copy_from_slice(&given);
+    Some(all)
+}

@@ -1,0 +1,40 @@
+//! The line of an event, as the replay prints it; data with all its bytes at once.
+
+use super::words::hex;
+use crate::answer::{Event, Role, Stream};
+
+pub fn event_text(event: &Event, piece: &[u8]) -> String {
+    match *event {
+        Event::Open { id, role, keep } => {
+            let role = match role {
+                Role::Responder => "responder",
+                Role::Authorizer => "authorizer",
+                Role::Filter => "filter",
+            };
+            format!("open {id} {role} {}", if keep { "keep" } else { "drop" })
+        }
+        Event::Ready { id, length } => format!("ready {id} {length}"),
+        Event::Data { id, stream, count } => {
+            format!("data {id} {} {}", stream_text(stream), hex(&piece[..count]))
+        }
+        Event::End { id, stream } => format!("end {id} {}", stream_text(stream)),
+        Event::Abort { id } => format!("abort {id}"),
+        Event::Refuse { id, status } => format!("refuse {id} {}", status as u8),
+        Event::Fault { id, fault } => format!("fault {id} {}", fault as u8),
+        Event::Query(named) => format!(
+            "query {}{}{}",
+            u8::from(named.max_conns),
+            u8::from(named.max_reqs),
+            u8::from(named.mpxs_conns)
+        ),
+        Event::Unknown { kind } => format!("unknown {kind}"),
+        Event::Closed(cause) => format!("closed {}", cause as u8),
+    }
+}
+
+pub fn stream_text(stream: Stream) -> &'static str {
+    match stream {
+        Stream::Stdin => "stdin",
+        Stream::Data => "data",
+    }
+}

@@ -1,0 +1,55 @@
+//! What a line is made of: numbers, and bytes in hex.
+
+/// A decimal number of one to twenty digits, up to `most`.
+pub fn number(word: &str, most: u64) -> Option<u64> {
+    if word.is_empty() || word.len() > 20 || !word.bytes().all(|b| b.is_ascii_digit()) {
+        return None;
+    }
+    // Twenty digits can pass 64 bits.
+    word.parse::<u64>().ok().filter(|&n| n <= most)
+}
+
+pub fn id(word: &str) -> Option<u16> {
+    number(word, u16::MAX.into()).map(|n| n as u16)
+}
+
+/// The room of a writer's buffer.
+pub fn room(word: &str) -> Option<usize> {
+    number(word, 65_536).map(|n| n as usize)
+}
+
+pub fn flag(word: &str) -> Option<bool> {
+    number(word, 1).map(|n| n == 1)
+}
+
+/// Lower-case hex, two digits a byte; `-` is no bytes.
+pub fn bytes(word: &str) -> Option<Vec<u8>> {
+    if word == "-" {
+        return Some(Vec::new());
+    }
+    if word.is_empty() || word.len() % 2 != 0 {
+        return None;
+    }
+    let digit = |c: u8| match c {
+        b'0'..=b'9' => Some(c - b'0'),
+        b'a'..=b'f' => Some(c - b'a' + 10),
+        _ => None,
+    };
+    word.as_bytes()
+        .chunks(2)
+        .map(|two| Some(digit(two[0])? * 16 + digit(two[1])?))
+        .collect()
+}
+
+pub fn hex(bytes: &[u8]) -> String {
+    if bytes.is_empty() {
+        return "-".into();
+    }
+    const DIGITS: &[u8; 16] = b"0123456789abcdef";
+    let mut text = String::with_capacity(bytes.len() * 2);
+    for byte in bytes {
+        text.push(DIGITS[usize::from(byte >> 4)].into());
+        text.push(DIGITS[usize::from(byte & 15)].into());
+    }
+    text
+}

@@ -1,0 +1,81 @@
+//! A whole input fed to a fresh connection in pieces of one size, and all that its steps tell mixed into one number, by
+//! which two receivers can be compared and a step's cost be measured.
+
+use crate::answer::{Event, Refusal, Step};
+use crate::state::Connection;
+
+/// The digest has 56 bits.
+const MODULUS: u64 = 1 << 56;
+
+/// A kind, an id, a small number and a length in one number.
+fn packed(kind: u8, id: u16, what: u8, n: u16) -> u64 {
+    u64::from(kind) + (u64::from(id) << 8) + (u64::from(what) << 24) + (u64::from(n) << 32)
+}
+
+fn weight(told: &Result<Step, Refusal>) -> u64 {
+    let event = match told {
+        Err(refusal) => return packed(11, 0, *refusal as u8, 0),
+        Ok(step) => match &step.event {
+            None => return packed(0, 0, 0, 0),
+            Some(event) => event,
+        },
+    };
+    match *event {
+        Event::Open { id, role, keep } => packed(1, id, role as u8, keep.into()),
+        Event::Ready { id, length } => packed(2, id, 0, length),
+        Event::Data { id, stream, count } => packed(3, id, stream as u8, count as u16),
+        Event::End { id, stream } => packed(4, id, stream as u8, 0),
+        Event::Abort { id } => packed(5, id, 0, 0),
+        Event::Refuse { id, status } => packed(6, id, status as u8, 0),
+        Event::Fault { id, fault } => packed(7, id, fault as u8, 0),
+        Event::Query(named) => packed(
+            8,
+            named.max_conns.into(),
+            named.max_reqs.into(),
+            named.mpxs_conns.into(),
+        ),
+        Event::Unknown { kind } => packed(9, 0, kind, 0),
+        Event::Closed(cause) => packed(10, 0, cause as u8, 0),
+    }
+}
+
+/// What was told so far, and what is told now.
+pub fn mixed(sum: u64, told: &Result<Step, Refusal>) -> u64 {
+    (sum * 33 + weight(told)) % MODULUS
+}
+
+/// Feeds a piece step by step, to its end or to a step that uses nothing; answers the digest and whether to go on.
+pub fn feed<const SHAPE: bool>(
+    connection: &mut Connection,
+    store: &mut [u8],
+    mut piece: &[u8],
+    mut sum: u64,
+) -> (u64, bool) {
+    while !piece.is_empty() {
+        let told = connection.step_with::<SHAPE>(store, piece);
+        let used = told.as_ref().map_or(0, |step| step.used);
+        if used == 0 {
+            return (sum, false);
+        }
+        sum = mixed(sum, &told);
+        piece = &piece[used..];
+    }
+    (sum, true)
+}
+
+/// The digest of an input that a fresh connection is fed in pieces of `piece` bytes, row 9 tested or left out.
+pub fn digest<const SHAPE: bool>(store: &mut [u8], input: &[u8], piece: usize) -> u64 {
+    let mut connection = Connection::closed();
+    if connection.start(store).is_err() || piece == 0 {
+        return 0;
+    }
+    let mut sum = 0;
+    for part in input.chunks(piece) {
+        let (next, onward) = feed::<SHAPE>(&mut connection, store, part, sum);
+        sum = next;
+        if !onward {
+            break;
+        }
+    }
+    sum
+}

@@ -1,0 +1,188 @@
+//! Calls anywhere, with any arguments; rooms at the edge of what is needed.
+
+use super::records::{any_name, append_pair};
+use super::Draft;
+use crate::answer::Event;
+use crate::console::words::hex;
+use crate::output::stream_length;
+use crate::pairs::{pair_length, Pairs};
+use crate::state::{area, AREA, STORE};
+
+impl Draft {
+    pub(super) fn any_calls(&mut self) {
+        let short = self.random.one_in(6);
+        if short {
+            let n = self.random.pick(&[0, 1, AREA, STORE - 1, 512]);
+            self.line(format!("lend {n}"));
+        }
+        for _ in 0..self.random.within(3, 20) {
+            self.any_call();
+        }
+        if short {
+            self.every_call();
+            // A start that is refused answers a closed connection.
+            if self.random.one_in(2) {
+                self.start();
+                self.every_call();
+            }
+            self.line(format!("lend {STORE}"));
+        }
+    }
+
+    pub(super) fn any_call(&mut self) {
+        let id = self.some_id();
+        match self.random.below(100) {
+            0..=19 => self.value(id),
+            20..=33 => self.pair(id),
+            34..=43 => {
+                self.line(format!("walk {id}"));
+            }
+            44..=60 => self.say(id),
+            61..=64 => self.end(id),
+            65..=74 => self.owed(),
+            75..=79 => self.put(),
+            80..=82 => self.finish(id),
+            83..=89 => {
+                self.line("active");
+            }
+            90..=95 => {
+                self.line(format!("area {id}"));
+            }
+            96 => {
+                self.line("step -");
+            }
+            _ => {
+                self.line("store");
+            }
+        }
+    }
+
+    /// One of each kind, whatever the state is.
+    pub(super) fn every_call(&mut self) {
+        let id = self.some_id();
+        self.line("active");
+        self.line("step -");
+        self.value(id);
+        self.pair(id);
+        self.line(format!("walk {id}"));
+        self.say(id);
+        self.end(id);
+        self.finish(id);
+        self.owed();
+        if self.random.one_in(4) {
+            self.put();
+            self.line(format!("area {id}"));
+            self.line("store");
+        }
+        let n = self.random.within(1, 10);
+        let piece = hex(&self.random.bytes(n));
+        self.line(format!("step {piece}"));
+    }
+
+    /// Just enough, one less, none, or plenty.
+    fn room(&mut self, needed: usize) -> usize {
+        match self.random.below(10) {
+            0..=2 => needed,
+            3 => needed.saturating_sub(1),
+            4 => 0,
+            5 => needed + 1,
+            6 => needed + 40,
+            7 => 64,
+            _ => needed + self.random.index(300),
+        }
+        .min(65_536)
+    }
+
+    /// Mostly a name that the request has.
+    fn known_name(&mut self, id: u16) -> Vec<u8> {
+        let connection = &self.console.connection;
+        if let Some(slot) = connection.find(id) {
+            let length = usize::from(connection.slots[slot].length).min(AREA);
+            let list = &self.console.store[area(slot)][..length];
+            let names: Vec<_> = Pairs::new(list).map(|p| p.name(list).to_vec()).collect();
+            if !names.is_empty() && !self.random.one_in(4) {
+                return self.random.pick(&names);
+            }
+        }
+        any_name(&mut self.random)
+    }
+
+    fn value(&mut self, id: u16) {
+        let name = hex(&self.known_name(id));
+        let n = self.random.index(4);
+        let fallback = hex(&self.random.bytes(n));
+        self.line(format!("value {id} {name} {fallback}"));
+    }
+
+    fn pair(&mut self, id: u16) {
+        let k = match self.random.below(12) {
+            0 => u64::MAX,
+            1 => 1 << 32,
+            2 => 1 << 63,
+            _ => self.random.below(7),
+        };
+        self.line(format!("pair {id} {k}"));
+    }
+
+    fn stream(&mut self) -> &'static str {
+        self.random.pick(&["stdout", "stderr"])
+    }
+
+    fn say(&mut self, id: u16) {
+        let n = match self.random.below(70) {
+            0 => self.random.pick(&[8_183, 8_184, 8_185, 16_368, 16_369]),
+            1..=20 => self.random.pick(&[0, 1, 7, 8, 9]),
+            _ => self.random.within(1, 40),
+        };
+        let data = hex(&self.random.bytes(n));
+        let stream = self.stream();
+        let room = self.room(stream_length(n));
+        self.line(format!("say {id} {stream} {data} {room}"));
+    }
+
+    fn end(&mut self, id: u16) {
+        let stream = self.stream();
+        let room = self.room(8);
+        self.line(format!("end {id} {stream} {room}"));
+    }
+
+    fn owed(&mut self) {
+        let needed = match self.console.event {
+            Some(Event::Refuse { .. } | Event::Unknown { .. }) => 16,
+            Some(Event::Query(_)) => self.random.pick(&[8, 32, 48, 64]),
+            _ => 0,
+        };
+        let room = self.room(needed);
+        self.line(format!("owed {room}"));
+    }
+
+    fn put(&mut self) {
+        let mut value = any_name(&mut self.random);
+        if self.random.one_in(20) {
+            let n = self.random.within(200, 3_000);
+            value = self.random.bytes(n);
+        }
+        let name = any_name(&mut self.random);
+        let room = self.room(pair_length(&name, &value));
+        self.line(format!("put {} {} {room}", hex(&name), hex(&value)));
+    }
+
+    fn finish(&mut self, id: u16) {
+        let status = self.random.next() as u32 >> self.random.below(32);
+        let needed = self.random.pick(&[16, 24, 32]);
+        let room = self.room(needed);
+        self.line(format!("finish {id} {status} {room}"));
+    }
+
+    /// A list for an area that is written by pokes.
+    pub(super) fn small_list(&mut self) -> Vec<u8> {
+        let mut list = Vec::new();
+        for _ in 0..self.random.within(1, 3) {
+            let name = self.random.pick(&["A", "AB", "", "READING"]);
+            let n = self.random.index(5);
+            let value = self.random.bytes(n);
+            append_pair(&mut list, name.as_bytes(), &value);
+        }
+        list
+    }
+}

@@ -1,0 +1,208 @@
+//! Lines that are no commands, numbers at their limits, lines at the greatest length.
+
+use super::Draft;
+use crate::console::LONGEST_LINE;
+
+/// Whole lines: what is almost a command, and commands at the limits of their numbers.
+const LINES: [&str; 80] = [
+    "",
+    " ",
+    "-",
+    "start ",
+    " start",
+    "start start",
+    "Start",
+    "starting",
+    "star",
+    "\tstart",
+    "start\r",
+    "step",
+    "step ",
+    "step 0",
+    "step 0G",
+    "step 0A",
+    "step 010",
+    "step --",
+    "step - -",
+    "step  -",
+    "step 0x01",
+    "lend",
+    "lend 32768",
+    "lend 32769",
+    "lend -1",
+    "lend +1",
+    "lend 00000000000000032768",
+    "lend 000000000000000032768",
+    "lend 18446744073709551616",
+    "value 1 -",
+    "value 1 - - -",
+    "value 65536 - -",
+    "value 00000000000000065535 - -",
+    "value - - -",
+    "value 1 41 4",
+    "value 1 ab AB",
+    "pair 1",
+    "pair 1 18446744073709551615",
+    "pair 1 18446744073709551616",
+    "pair 1 99999999999999999999",
+    "pair 1 00000000000000000000",
+    "pair 1 000000000000000000000",
+    "pair 65536 0",
+    "pair 1 -",
+    "walk",
+    "walk 65535",
+    "walk 65536",
+    "walk 1 ",
+    "say 1 stdin 41 100",
+    "say 1 stdout 41",
+    "say 1 stdout 41 65536",
+    "say 1 stdout 41 65537",
+    "say 1 STDOUT 41 100",
+    "say 1 stdout  100",
+    "end 1 stdout",
+    "end 1 stderr 65537",
+    "end 1 stdout 8 8",
+    "owed",
+    "owed 65536",
+    "owed 65537",
+    "owed -",
+    "put - - 65536",
+    "put - - 65537",
+    "put - -",
+    "put a - 10",
+    "finish 1 4294967296 32",
+    "finish 1 18446744073709551615 32",
+    "finish 1 0",
+    "finish 1 0 65537",
+    "active 1",
+    "active ",
+    "area",
+    "area 65536",
+    "area -",
+    "store 0",
+    "poke",
+    "poke ",
+    "# a remark",
+    "what",
+    "long",
+];
+
+/// What stands behind `poke`, refused for one reason each.
+const POKES: [&str; 44] = [
+    "open",
+    "open 2",
+    "open 0 0",
+    "open yes",
+    "occupied 65536",
+    "id 16 1",
+    "id 0 65536",
+    "id 0",
+    "length 16 0",
+    "length 0 65536",
+    "role 0 0",
+    "role 0 4",
+    "role 16 1",
+    "keep 0 2",
+    "turn 0 abort",
+    "turn 0 Params",
+    "turn 16 done",
+    "spent 0 dead",
+    "spent 0 0",
+    "out_ended 0 2",
+    "err_used 16 0",
+    "err_ended 0",
+    "out-ended 0 1",
+    "held -",
+    "held 18446744073709551616",
+    "header",
+    "header 010500010000000000",
+    "header 01050",
+    "target",
+    "target begin",
+    "target begin 65536",
+    "target query 0",
+    "target skip 0",
+    "target params",
+    "target params 256",
+    "target stdout 0",
+    "content 18446744073709551616",
+    "padding 99999999999999999999",
+    "gathered x",
+    "byte 32768 0",
+    "byte 0 256",
+    "byte 0",
+    "field 0 0",
+    "id  0 1",
+];
+
+impl Draft {
+    pub(super) fn odd_lines(&mut self) {
+        for _ in 0..self.random.within(3, 12) {
+            match self.random.below(60) {
+                0..=34 => {
+                    let line = self.random.pick(&LINES);
+                    self.line(line);
+                }
+                35..=49 => {
+                    let line = self.random.pick(&POKES);
+                    self.line(format!("poke {line}"));
+                }
+                50..=57 => self.damaged_line(),
+                _ => self.greatest_line(),
+            }
+        }
+        self.line("lend 32768");
+        if self.random.one_in(40) {
+            let body = "00".repeat(513);
+            self.line(format!("poke body {body}"));
+        }
+    }
+
+    /// An earlier line of this script with one byte changed, taken out or put in.
+    fn damaged_line(&mut self) {
+        let mut line = loop {
+            let lines = &self.script.lines;
+            if lines.is_empty() {
+                return;
+            }
+            let i = self.random.index(lines.len());
+            if self.script.lines[i].len() < 2_000 {
+                break self.script.lines[i].clone();
+            }
+        };
+        // A poke that a change of one byte turns into another may break the rule on bodies.
+        if line.starts_with(b"poke ") || line.is_empty() {
+            return;
+        }
+        let at = self.random.index(line.len());
+        let byte = match self.random.below(6) {
+            0 => b' ',
+            1 => 0,
+            2 => 0xff,
+            3 => b'-',
+            4 => b'9',
+            _ => b'a' + self.random.byte() % 26,
+        };
+        match self.random.below(3) {
+            0 => line[at] = byte,
+            1 => {
+                line.remove(at);
+            }
+            _ => line.insert(at, byte),
+        }
+        self.line(line);
+    }
+
+    /// A line of the greatest length, one that passes it by a character, and one that passes it by much.
+    fn greatest_line(&mut self) {
+        let length = LONGEST_LINE + self.random.pick(&[0, 0, 1, 1, 2, 70_000]);
+        let (before, after) = match self.random.below(4) {
+            0 => ("value 1 ", " -"),
+            1 => ("put - ", " 65536"),
+            2 => ("step ", ""),
+            _ => ("say 10 stdout ", " 65536"),
+        };
+        let middle = length - before.len() - after.len();
+        self.line(format!("{before}{}{after}", "0".repeat(middle)));
+    }
+}

@@ -1,0 +1,237 @@
+//! What a web server sends: requests side by side, their records cut anywhere; and the same with damage.
+
+use super::records::{any_list, begin_body, damaged_list, query, record};
+use super::Draft;
+use crate::state::{Life, Turn, AREA};
+use crate::wire::kind;
+
+impl Draft {
+    /// A stretch of a connection.
+    pub(super) fn traffic(&mut self, damaged: bool) {
+        self.choose_cut();
+        if !self.open() || !self.silent && self.random.one_in(5) {
+            self.start();
+        }
+        for _ in 0..self.random.within(10, 70) {
+            let mut bytes = Vec::new();
+            let mut ids = Vec::new();
+            // Several records at once, of different requests: each fits the state as it is now.
+            for _ in 0..self.random.within(1, 4) {
+                let id = self.sending_id();
+                if !ids.contains(&id) {
+                    ids.push(id);
+                    let next = if damaged && self.random.one_in(6) {
+                        self.damaged_record(id)
+                    } else {
+                        self.next_record(id)
+                    };
+                    bytes.extend(next);
+                }
+            }
+            if self.random.one_in(12) {
+                let content = query(&mut self.random);
+                bytes.extend(record(&mut self.random, kind::GET_VALUES, 0, &content));
+            }
+            if !self.feed(&bytes) && (self.silent || !self.restart()) {
+                return;
+            }
+            if !self.silent && self.random.one_in(8) {
+                self.finish_some();
+            }
+        }
+    }
+
+    /// The connection is closed, or the step was refused: some calls meet that state, then all begins anew. Answers
+    /// whether it did.
+    fn restart(&mut self) -> bool {
+        for _ in 0..self.random.below(4) {
+            self.any_call();
+        }
+        if self.random.one_in(4) {
+            self.every_call();
+        }
+        self.start();
+        self.open()
+    }
+
+    /// An active request, or one to be opened.
+    fn sending_id(&mut self) -> u16 {
+        let active = self.active_ids();
+        let fresh = match active.len() {
+            16 if self.crowd => 1,
+            _ if self.crowd => 2,
+            0..=2 => 2,
+            3..=5 => 8,
+            _ => 24,
+        };
+        if active.is_empty() || self.random.one_in(fresh) {
+            self.any_id()
+        } else {
+            self.random.pick(&active)
+        }
+    }
+
+    /// A record that this id may send now.
+    fn next_record(&mut self, id: u16) -> Vec<u8> {
+        let connection = &self.console.connection;
+        let Some(slot) = connection.find(id) else {
+            let full = connection.lowest_free().is_none();
+            let list = any_list(&mut self.random);
+            self.lists.insert(id, list);
+            let mut body = begin_body(&mut self.random);
+            // The role is looked at before the room.
+            if full && self.random.one_in(3) {
+                body[1] = self.random.byte();
+            }
+            return record(&mut self.random, kind::BEGIN, id, &body);
+        };
+        let request = connection.slots[slot];
+        if request.life != Life::Live {
+            return self.any_record(id);
+        }
+        if self.random.one_in(40) {
+            return record(&mut self.random, kind::ABORT, id, &[]);
+        }
+        match request.turn {
+            Turn::Params => self.next_params(id),
+            Turn::Stdin => self.next_input(id, kind::STDIN),
+            Turn::Data => self.next_input(id, kind::DATA),
+            Turn::Done if self.random.one_in(8) => self.any_record(id),
+            Turn::Done if self.random.one_in(6) => {
+                // An end that comes twice, or that this role has not.
+                let kind = self.random.pick(&[kind::STDIN, kind::DATA]);
+                record(&mut self.random, kind, id, &[])
+            }
+            Turn::Done => Vec::new(),
+        }
+    }
+
+    /// The next part of the list, cut anywhere; behind it the empty record.
+    fn next_params(&mut self, id: u16) -> Vec<u8> {
+        let rest = self.lists.remove(&id).unwrap_or_default();
+        let n = match self.random.below(3) {
+            0 => self.random.within(rest.len() / 3, rest.len()),
+            _ => rest.len(),
+        };
+        let n = if rest.is_empty() { 0 } else { n.max(1) };
+        let bytes = record(&mut self.random, kind::PARAMS, id, &rest[..n]);
+        self.lists.insert(id, rest[n..].to_vec());
+        bytes
+    }
+
+    fn next_input(&mut self, id: u16, kind: u8) -> Vec<u8> {
+        let n = match self.random.below(30) {
+            0..=9 => 0,
+            10 => self.random.within(100, 700),
+            _ => self.random.within(1, 24),
+        };
+        let content = self.random.bytes(n);
+        record(&mut self.random, kind, id, &content)
+    }
+
+    /// Any type, any content.
+    fn any_record(&mut self, id: u16) -> Vec<u8> {
+        let kind = match self.random.below(4) {
+            0 => self.random.byte(),
+            _ => self.random.within(1, 11) as u8,
+        };
+        let n = self.random.pick(&[0, 0, 1, 8, 8, 20]);
+        let content = self.random.bytes(n);
+        record(&mut self.random, kind, id, &content)
+    }
+
+    /// A record that should not come, or not like this.
+    fn damaged_record(&mut self, id: u16) -> Vec<u8> {
+        match self.random.below(14) {
+            0 => {
+                let mut bytes = self.next_record(id);
+                if !bytes.is_empty() && self.random.one_in(2) {
+                    bytes[0] = self.random.pick(&[0, 2, 129, 255]);
+                }
+                bytes
+            }
+            1 => {
+                // Wrong length of a BEGIN: a close, a fault or nothing, as the id stands.
+                let n = self.random.pick(&[0, 7, 9, 8, 16, 264]);
+                let content = self.random.bytes(n);
+                record(&mut self.random, kind::BEGIN, id, &content)
+            }
+            2 => {
+                let content = begin_body(&mut self.random);
+                record(&mut self.random, kind::BEGIN, id, &content)
+            }
+            3 => {
+                let kind = self.random.pick(&[kind::PARAMS, kind::STDIN, kind::DATA]);
+                let n = self.random.pick(&[0, 0, 3, 2_048, 2_049]);
+                let content = self.random.bytes(n);
+                record(&mut self.random, kind, id, &content)
+            }
+            4 => {
+                let kind = self
+                    .random
+                    .pick(&[0, 3, 6, 7, 9, 10, 11, 12, 42, 127, 128, 255]);
+                let n = self.random.pick(&[0, 5, 16]);
+                let content = self.random.bytes(n);
+                record(&mut self.random, kind, id, &content)
+            }
+            5 => self.brimming_params(id),
+            6 | 7 => {
+                // A list that ends malformed.
+                let list = damaged_list(&mut self.random);
+                let mut bytes = record(&mut self.random, kind::PARAMS, id, &list);
+                bytes.extend(record(&mut self.random, kind::PARAMS, id, &[]));
+                bytes
+            }
+            8 => self.any_record(0),
+            9 => {
+                let content = query(&mut self.random);
+                record(&mut self.random, kind::GET_VALUES, 0, &content)
+            }
+            10 => {
+                let mut content = query(&mut self.random);
+                content.extend(damaged_list(&mut self.random));
+                record(&mut self.random, kind::GET_VALUES, 0, &content)
+            }
+            11 => {
+                // The same record twice: a second end, a second abort.
+                let kind = self
+                    .random
+                    .pick(&[kind::ABORT, kind::STDIN, kind::DATA, kind::PARAMS]);
+                let mut bytes = record(&mut self.random, kind, id, &[]);
+                bytes.extend(record(&mut self.random, kind, id, &[]));
+                bytes
+            }
+            12 => {
+                let n = self.random.within(1, 40);
+                self.random.bytes(n)
+            }
+            _ => self.any_record(id),
+        }
+    }
+
+    /// PARAMS that fill the area to its last byte, or pass it by one.
+    fn brimming_params(&mut self, id: u16) -> Vec<u8> {
+        let connection = &self.console.connection;
+        let length = connection
+            .find(id)
+            .map_or(0, |slot| usize::from(connection.slots[slot].length));
+        let room = AREA.saturating_sub(length);
+        let n = room + self.random.index(2);
+        let content = self.random.bytes(n);
+        self.lists.insert(id, Vec::new());
+        record(&mut self.random, kind::PARAMS, id, &content)
+    }
+
+    fn finish_some(&mut self) {
+        let active = self.active_ids();
+        if active.is_empty() {
+            return;
+        }
+        let id = self.random.pick(&active);
+        if self.random.one_in(2) {
+            self.line(format!("area {id}"));
+        }
+        let status = self.random.pick(&[0, 1, 938, 4_294_967_295u32]);
+        self.line(format!("finish {id} {status} 64"));
+    }
+}

@@ -1,0 +1,107 @@
+//! Captures replayed: a line for each event and each data byte, whatever the pieces are.
+
+use compare::answer::Event;
+use compare::console::text::{event_text, stream_text};
+use compare::state::{Connection, STORE};
+use std::fmt::Write;
+use std::fs;
+use std::path::{Path, PathBuf};
+
+fn replay(capture: &[u8], size: usize) -> String {
+    let mut store = vec![0; STORE];
+    let mut connection = Connection::closed();
+    connection.start(&mut store).unwrap();
+    let mut out = String::new();
+    for mut piece in capture.chunks(size) {
+        while !piece.is_empty() && connection.open {
+            let step = connection.step(&mut store, piece).unwrap();
+            match step.event {
+                None => {}
+                Some(Event::Data { id, stream, count }) => {
+                    for byte in &piece[..count] {
+                        writeln!(out, "byte {id} {} {byte:02x}", stream_text(stream)).unwrap();
+                    }
+                }
+                Some(event) => writeln!(out, "{}", event_text(&event, piece)).unwrap(),
+            }
+            piece = &piece[step.used..];
+        }
+    }
+    let within = connection.held > 0 || connection.content > 0 || connection.padding > 0;
+    let stop = match connection.open {
+        false => "closed",
+        true if within => "cut",
+        true => "open",
+    };
+    writeln!(out, "stop {stop}").unwrap();
+    out
+}
+
+fn repository() -> PathBuf {
+    Path::new(env!("CARGO_MANIFEST_DIR")).join("..")
+}
+
+#[test]
+fn worked_case() {
+    let mut capture = vec![1, 1, 0, 1, 0, 8, 0, 0, 0, 1, 1, 0, 0, 0, 0, 0];
+    capture.extend([1, 4, 0, 1, 0, 15, 1, 0]);
+    capture.extend(b"\x0b\x02SERVER_PORT80\0");
+    capture.extend([1, 4, 0, 1, 0, 0, 0, 0]);
+    capture.extend(b"\x01\x05\x00\x01\x00\x01\x00\x00-\x01\x05\x00\x01\x00\x02\x00\x0018");
+    capture.extend([1, 5, 0, 1, 0, 0, 0, 0]);
+    let wanted = "open 1 responder keep\nready 1 15\nbyte 1 stdin 2d\nbyte 1 stdin 31\n\
+                  byte 1 stdin 38\nend 1 stdin\nstop open\n";
+    for size in 1..capture.len() + 1 {
+        assert_eq!(replay(&capture, size), wanted);
+    }
+    assert_eq!(
+        replay(&capture[..capture.len() - 1], 9).lines().last(),
+        Some("stop cut")
+    );
+    assert_eq!(replay(&[], 1), "stop open\n");
+}
+
+#[test]
+fn three_requests_side_by_side() {
+    let capture = fs::read(repository().join("samples/multiplexed.bin")).unwrap();
+    let lines = replay(&capture, capture.len());
+    for size in [1, 7, 8, 100] {
+        assert_eq!(replay(&capture, size), lines);
+    }
+    let bytes = |id: &str| -> Vec<u8> {
+        lines
+            .lines()
+            .filter_map(|line| line.strip_prefix(&format!("byte {id} stdin ")))
+            .map(|hex| u8::from_str_radix(hex, 16).unwrap())
+            .collect()
+    };
+    assert_eq!(bytes("7"), b"first of sevensecond of seven");
+    assert_eq!(bytes("8"), b"first of eight");
+    let others: Vec<_> = lines
+        .lines()
+        .filter(|line| !line.starts_with("byte"))
+        .collect();
+    let wanted = [
+        "open 7 responder keep",
+        "open 8 responder keep",
+        "open 300 responder keep",
+        "ready 8 119",
+        "ready 7 119",
+        "abort 300",
+        "end 8 stdin",
+        "end 7 stdin",
+        "stop open",
+    ];
+    assert_eq!(others, wanted);
+}
+
+/// What the proved replay is held to.
+#[test]
+fn capture_of_the_replay_program() {
+    let folder = repository().join("crates/replay");
+    let capture = fs::read(folder.join("stdin")).unwrap();
+    let wanted = fs::read_to_string(folder.join("stdout")).unwrap();
+    for size in [1, 8, 65_536] {
+        assert_eq!(replay(&capture, size), wanted);
+    }
+}
