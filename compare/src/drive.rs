@@ -32,7 +32,11 @@ pub fn answers(console: &Path, script: &Script) -> io::Result<Vec<Vec<u8>>> {
         .spawn()?;
     let mut input = child.stdin.take().expect("it is piped");
     let mut output = child.stdout.take().expect("it is piped");
-    let bytes = text(&script.lines);
+    let mut bytes = text(&script.lines);
+    // The last line may lack its newline, and in every other script it does.
+    if script.lines.len() % 2 == 1 && script.lines.last().is_some_and(|line| !line.is_empty()) {
+        bytes.pop();
+    }
     // A console that ends early breaks the pipe; the lines that lack show it.
     let writer = thread::spawn(move || {
         let _ = input.write_all(&bytes);

@@ -1,10 +1,12 @@
 //! Mistakes planted into copies of the twin, one at a time, and the random scripts run against each: are they seen?
+//! And changes that the rules allow, which must not be.
 //!
 //!     planted [--lines N] [--seed N] COMPARE OUT [NAME..]
 //!
-//! COMPARE is the folder with src/ and planted/, OUT is where the copies are built. A file of planted/ has a line that
-//! begins with `#`, and then parts of three: `file:`, `old:` (which stands once in that file) and `new:`, each up to the
-//! next of these words at the start of a line. Exit status 1 where a mistake is not seen.
+//! COMPARE is the folder with src/, planted/ and allowed/, OUT is where the copies are built. A file of the latter two
+//! has a line that begins with `#`, and then parts of three: `file:`, `old:` (which stands once in that file) and
+//! `new:`, each up to the next of these words at the start of a line. Exit status 1 where a mistake is not seen, or an
+//! allowed change is.
 
 use compare::drive::{answers, differences, seed_of, SCRIPT};
 use compare::scripts::{generate, Script};
@@ -42,20 +44,20 @@ fn main() -> ExitCode {
     }
 }
 
-/// Answers whether every mistake was seen.
+/// Answers whether every mistake was seen, and no allowed change.
 fn run(lines: usize, seed: u64, folder: &Path, out: &Path, names: &[String]) -> Any<bool> {
-    let mut edits: Vec<PathBuf> = fs::read_dir(folder.join("planted"))?
-        .map(|entry| entry.map(|e| e.path()))
-        .collect::<Result<_, _>>()?;
-    edits.retain(|path| {
-        names.is_empty() || names.iter().any(|n| path.file_stem() == Some(n.as_ref()))
-    });
-    edits.sort();
+    let mut edits = edits(&folder.join("planted"), names)?;
+    let mistakes = edits.len();
+    edits.extend(self::edits(&folder.join("allowed"), names)?);
     let scripts = scripts(lines, seed);
     let all: usize = scripts.iter().map(|script| script.lines.len()).sum();
-    let (next, unseen) = (AtomicUsize::new(0), Mutex::new(Vec::new()));
+    let (next, wrong) = (AtomicUsize::new(0), Mutex::new(Vec::new()));
     let work = || -> Any<()> {
-        while let Some(edit) = edits.get(next.fetch_add(1, Ordering::Relaxed)) {
+        loop {
+            let i = next.fetch_add(1, Ordering::Relaxed);
+            let Some(edit) = edits.get(i) else {
+                return Ok(());
+            };
             let name = edit.file_stem().unwrap_or_default().to_string_lossy();
             let twin = build(edit, &folder.join("src"), &out.join(&*name))
                 .map_err(|error| format!("{name}: {error}"))?;
@@ -65,32 +67,41 @@ fn run(lines: usize, seed: u64, folder: &Path, out: &Path, names: &[String]) -> 
                 seen += n;
                 hit += usize::from(n > 0);
             }
-            println!("{seen:>8} lines in {hit:>3} scripts  {name}");
-            if seen == 0 {
-                unseen
-                    .lock()
-                    .expect("nobody panics")
-                    .push(name.into_owned());
+            let allowed = if i < mistakes { "" } else { " (allowed)" };
+            println!("{seen:>8} lines in {hit:>3} scripts  {name}{allowed}");
+            if (seen > 0) != (i < mistakes) {
+                wrong.lock().expect("nobody panics").push(name.into_owned());
             }
         }
-        Ok(())
     };
     println!(
-        "{} scripts, {all} lines; lines that are answered otherwise with a mistake:",
+        "{} scripts, {all} lines; lines that are answered otherwise with a change:",
         scripts.len()
     );
     thread::scope(|scope| {
         let other = scope.spawn(work);
         work().and(other.join().expect("it does not panic"))
     })?;
-    let unseen = unseen.into_inner()?;
-    println!(
-        "{} mistakes planted, {} not seen {}",
-        edits.len(),
-        unseen.len(),
-        unseen.join(" ")
-    );
-    Ok(unseen.is_empty())
+    let wrong = wrong.into_inner()?;
+    let allowed = edits.len() - mistakes;
+    println!("{mistakes} mistakes and {allowed} allowed changes");
+    if !wrong.is_empty() {
+        println!("not seen, or seen and allowed: {}", wrong.join(" "));
+    }
+    Ok(wrong.is_empty())
+}
+
+/// The files of a folder, all or those of these names, in order.
+fn edits(folder: &Path, names: &[String]) -> Any<Vec<PathBuf>> {
+    let mut edits = Vec::new();
+    for entry in fs::read_dir(folder)? {
+        let path = entry?.path();
+        if names.is_empty() || names.iter().any(|n| path.file_stem() == Some(n.as_ref())) {
+            edits.push(path);
+        }
+    }
+    edits.sort();
+    Ok(edits)
 }
 
 fn scripts(lines: usize, seed: u64) -> Vec<Script> {

@@ -168,7 +168,7 @@ impl Draft {
     }
 
     fn finish(&mut self, id: u16) {
-        let status = self.random.next() as u32 >> self.random.below(32);
+        let status = self.random.draw() as u32 >> self.random.below(32);
         let needed = self.random.pick(&[16, 24, 32]);
         let room = self.room(needed);
         self.line(format!("finish {id} {status} {room}"));

@@ -9,10 +9,10 @@ impl Draft {
     /// An open connection with some requests, all of it in shape and between two records.
     pub(super) fn poked_table(&mut self) {
         self.start();
-        let mask = self.random.next() as u16 | 1 << self.random.below(16);
+        let mask = self.random.draw() as u16 | 1 << self.random.below(16);
         let mask = match self.random.below(8) {
             0 => 0xffff,
-            1..=5 => mask & self.random.next() as u16 | 1 << self.random.below(16),
+            1..=5 => mask & self.random.draw() as u16 | 1 << self.random.below(16),
             _ => mask,
         };
         self.line(format!("poke occupied {mask}"));
@@ -170,7 +170,7 @@ impl Draft {
                 self.line(format!("poke open {open}"));
             }
             1 => {
-                let word = self.random.next() as u16;
+                let word = self.random.draw() as u16;
                 self.line(format!("poke occupied {word}"));
             }
             2 => {
