@@ -10,6 +10,7 @@ pub mod output;
 pub mod pairs;
 pub mod random;
 pub mod receiver;
+pub mod replay;
 pub mod reply;
 pub mod scripts;
 pub mod shape;

@@ -1,41 +1,8 @@
 //! Captures replayed: a line for each event and each data byte, whatever the pieces are.
 
-use compare::answer::Event;
-use compare::console::text::{event_text, stream_text};
-use compare::state::{Connection, STORE};
-use std::fmt::Write;
+use compare::replay::replay;
 use std::fs;
 use std::path::{Path, PathBuf};
-
-fn replay(capture: &[u8], size: usize) -> String {
-    let mut store = vec![0; STORE];
-    let mut connection = Connection::closed();
-    connection.start(&mut store).unwrap();
-    let mut out = String::new();
-    for mut piece in capture.chunks(size) {
-        while !piece.is_empty() && connection.open {
-            let step = connection.step(&mut store, piece).unwrap();
-            match step.event {
-                None => {}
-                Some(Event::Data { id, stream, count }) => {
-                    for byte in &piece[..count] {
-                        writeln!(out, "byte {id} {} {byte:02x}", stream_text(stream)).unwrap();
-                    }
-                }
-                Some(event) => writeln!(out, "{}", event_text(&event, piece)).unwrap(),
-            }
-            piece = &piece[step.used..];
-        }
-    }
-    let within = connection.held > 0 || connection.content > 0 || connection.padding > 0;
-    let stop = match connection.open {
-        false => "closed",
-        true if within => "cut",
-        true => "open",
-    };
-    writeln!(out, "stop {stop}").unwrap();
-    out
-}
 
 fn repository() -> PathBuf {
     Path::new(env!("CARGO_MANIFEST_DIR")).join("..")
