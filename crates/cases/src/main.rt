@@ -1,0 +1,197 @@
+// Runs the cases of a script that comes on standard input, and prints a line for each. A case says what the web
+// server sends and what the station calls, and what must come of it; it is run with pieces of 1, 7 and 8 bytes and
+// with whole ones.
+mod bench;
+mod calls;
+mod expect;
+mod image;
+mod input;
+mod notation;
+mod state;
+mod steps;
+mod text;
+
+use bench::Bench;
+use calls::call;
+use expect::Check;
+use expect::over;
+use expect::print_case;
+use input::put_input;
+use libc::STDIN_FILENO;
+use notation::put_times;
+use pairs::name::same;
+use starting::start;
+use steps::feed;
+use text::byte_at;
+use text::find;
+use text::part;
+use text::plus;
+
+// Whether a case begins with the line at a place.
+fn begins_case(script: &[u8], at: usize) -> bool {
+    same(part(script, at, plus(at, 5)), b"case ")
+}
+
+// The first line from a place on with which a case begins, or the end.
+fn next_case(script: &[u8], at: usize) -> usize {
+    let mut i = at;
+    while i < script.len() {
+        if begins_case(script, i) {
+            return i;
+        }
+        let next = plus(find(script, i, b'\n'), 1);
+        if next <= i {
+            return script.len();
+        }
+        i = next;
+    }
+    script.len()
+}
+
+// Lines that are not done: what is expected, remarks, empty ones.
+fn is_quiet(first: u8) -> bool {
+    first == b'>' || first == b'#' || first == 0
+}
+
+// A line: what is sent waits; before a call it is fed.
+fn run_line(
+    b: Bench,
+    script: &[u8],
+    line: &[u8],
+    store: &mut [u8],
+    gathered: &mut [u8; 512],
+    input: &mut [u8],
+) -> Bench {
+    if is_quiet(byte_at(line, 0)) {
+        return b;
+    }
+    let pending = put_input(input, b.pending, line);
+    if pending != b.pending {
+        let mut more = b;
+        more.pending = pending;
+        return more;
+    }
+    let fed = feed_store(b, script, store, gathered, input);
+    call(fed, script, line, store, gathered, input)
+}
+
+// What waits is fed, with the whole store.
+fn feed_store(
+    b: Bench,
+    script: &[u8],
+    store: &mut [u8],
+    gathered: &mut [u8; 512],
+    input: &[u8],
+) -> Bench {
+    let z: usize = 0;
+    let n: usize = 32768;
+    if n <= store.len() {
+        return feed(b, script, &mut store[z..n], gathered, input);
+    }
+    b
+}
+
+// The lines of a case, from behind its first to its end.
+fn run_lines(
+    b: Bench,
+    script: &[u8],
+    store: &mut [u8],
+    gathered: &mut [u8; 512],
+    input: &mut [u8],
+) -> Bench {
+    let mut bench = b;
+    let k = b.check;
+    let end = k.end;
+    let mut i = plus(find(script, k.case, b'\n'), 1);
+    while i < end {
+        let e = find(script, i, b'\n');
+        bench = run_line(bench, script, part(script, i, e), store, gathered, input);
+        let next = plus(e, 1);
+        if next <= i {
+            return bench;
+        }
+        i = next;
+    }
+    feed_store(bench, script, store, gathered, input)
+}
+
+// A case, once: a connection is started on a store that was not empty. Answers whether it is as expected.
+fn run_once(
+    script: &[u8],
+    case: usize,
+    end: usize,
+    size: usize,
+    store: &mut [u8],
+    gathered: &mut [u8; 512],
+    input: &mut [u8],
+) -> bool {
+    put_times(store, 0, 238, 33000);
+    let z: usize = 0;
+    let n: usize = 32768;
+    if n <= store.len() {} else {
+        return false;
+    }
+    let s = start(&mut store[z..n], gathered);
+    let c = s.conn;
+    let b = Bench {
+        conn: c,
+        check: Check {
+            case: case,
+            end: end,
+            want: case,
+            failed: false,
+        },
+        size: size,
+        pending: 0,
+        store: 32768,
+        room: 20000,
+    };
+    let ran = run_lines(b, script, store, gathered, input);
+    let k = over(script, ran.check);
+    if k.failed {
+        return false;
+    }
+    true
+}
+
+// A case at each size of pieces.
+fn run_case(
+    script: &[u8],
+    case: usize,
+    end: usize,
+    store: &mut [u8],
+    gathered: &mut [u8; 512],
+    input: &mut [u8],
+) {
+    let sizes: [usize; 4] = [1, 7, 8, 1000000];
+    let mut i: usize = 0;
+    while i < 4 {
+        let size = sizes[i];
+        if run_once(script, case, end, size, store, gathered, input) {} else {
+            return;
+        }
+        i += 1;
+    }
+    print_case(script, case, b"ok ");
+}
+
+fn run_all(script: &[u8], store: &mut [u8], gathered: &mut [u8; 512], input: &mut [u8]) {
+    let mut at = next_case(script, 0);
+    while at < script.len() {
+        let end = next_case(script, plus(at, 1));
+        run_case(script, at, end, store, gathered, input);
+        if end <= at {
+            return;
+        }
+        at = end;
+    }
+}
+
+fn main() {
+    let mut script = [0u8; 131072];
+    let n = io::read_full(STDIN_FILENO, &mut script);
+    let mut store = [0u8; 33000];
+    let mut gathered = [0u8; 512];
+    let mut input = [0u8; 140000];
+    run_all(part(&script, 0, n), &mut store, &mut gathered, &mut input);
+}

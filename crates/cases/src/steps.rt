@@ -1,0 +1,206 @@
+// Steps: what waits is fed in pieces, and what the steps tell is held to the case.
+use crate::bench::Bench;
+use crate::bench::with_check;
+use crate::bench::with_conn;
+use crate::expect::Check;
+use crate::expect::came;
+use crate::expect::came_number;
+use crate::expect::came_records;
+use crate::expect::came_refused;
+use crate::image::same_state;
+use crate::text::byte_at;
+use crate::text::minus;
+use crate::text::part;
+use crate::text::plus;
+use connection::answer::Told;
+use connection::answer::Wrote;
+use connection::event::Event;
+use connection::event::Stream;
+use connection::state::Conn;
+use lines::write_byte_line;
+use lines::write_line;
+use pairs::name::same;
+use receive::step::step;
+use reply::reply;
+use wire::copy_into;
+use wire::least;
+
+// The longest buffer that a call is lent.
+pub const ROOM: usize = 20000;
+
+// What the buffers are filled with, to see what is written.
+pub const FILL: u8 = 238;
+
+// Whether the bytes from a place on are as they were filled.
+fn untouched(out: &[u8], at: usize) -> bool {
+    let mut i = at;
+    while i < out.len() {
+        if out[i] == FILL {} else {
+            return false;
+        }
+        i += 1;
+    }
+    true
+}
+
+// What a call wrote, a line for each record, and that it wrote no more.
+pub fn came_written(script: &[u8], k: Check, out: &[u8], n: usize) -> Check {
+    if untouched(out, n) {} else {
+        return came(script, k, b"bytes behind what was written");
+    }
+    came_records(script, k, part(out, 0, n))
+}
+
+pub fn came_wrote(script: &[u8], k: Check, out: &[u8], wrote: Wrote) -> Check {
+    match wrote {
+        Wrote::Bytes(n) => came_written(script, k, out, n),
+        Wrote::Refused(why) => {
+            let written = came_written(script, k, out, 0);
+            came_refused(script, written, why)
+        }
+    }
+}
+
+// The reply that an event owes.
+fn came_reply(script: &[u8], k: Check, room: usize, e: Event) -> Check {
+    let z: usize = 0;
+    let mut out = [FILL; ROOM];
+    let n = least(room, ROOM);
+    let wrote = reply(e, &mut out[z..n]);
+    came_wrote(script, k, &out, wrote)
+}
+
+// A line for each byte of data.
+fn came_data(script: &[u8], k: Check, id: u16, stream: Stream, bytes: &[u8]) -> Check {
+    let mut check = k;
+    let mut i: usize = 0;
+    while i < bytes.len() {
+        let mut line = [0u8; 64];
+        let n = write_byte_line(&mut line, 0, id, stream, bytes[i]);
+        check = came(script, check, part(&line, 0, minus(n, 1)));
+        i += 1;
+    }
+    check
+}
+
+// The line of an event that is not data.
+fn came_line(script: &[u8], k: Check, e: Event) -> Check {
+    let mut line = [0u8; 64];
+    let n = write_line(&mut line, 0, e);
+    came(script, k, part(&line, 0, minus(n, 1)))
+}
+
+// The lines of an event, and the reply that it owes. Data are the first bytes of the piece.
+fn came_event(script: &[u8], k: Check, room: usize, e: Event, piece: &[u8]) -> Check {
+    if let Event::Nothing = e {
+        return k;
+    }
+    if let Event::Data(id, stream, n) = e {
+        let shown = came_data(script, k, id, stream, part(piece, 0, n));
+        return came_reply(script, shown, room, e);
+    }
+    let shown = came_line(script, k, e);
+    came_reply(script, shown, room, e)
+}
+
+// What a step told.
+fn came_told(script: &[u8], k: Check, room: usize, told: Told, piece: &[u8]) -> Check {
+    match told {
+        Told::Event(e) => came_event(script, k, room, e, piece),
+        Told::Refused(why) => came_refused(script, k, why),
+    }
+}
+
+// Steps through a piece, to its end or to a step that uses nothing.
+fn feed_piece(
+    b: Bench,
+    script: &[u8],
+    store: &mut [u8],
+    gathered: &mut [u8; 512],
+    piece: &[u8],
+) -> Bench {
+    let mut conn = b.conn;
+    let mut check = b.check;
+    let room = b.room;
+    let mut from: usize = 0;
+    while from < piece.len() {
+        let left = part(piece, from, piece.len());
+        let s = step(conn, store, gathered, left);
+        let told = s.told;
+        conn = s.conn;
+        check = came_told(script, check, room, told, left);
+        let used = s.used;
+        let next = plus(from, used);
+        if next <= from {
+            return with_conn(b, conn, check);
+        }
+        if conn.open {} else {
+            return with_conn(b, conn, check);
+        }
+        from = next;
+    }
+    with_conn(b, conn, check)
+}
+
+// Feeds what waits, in pieces; once the connection is closed the rest is dropped.
+pub fn feed(
+    b: Bench,
+    script: &[u8],
+    store: &mut [u8],
+    gathered: &mut [u8; 512],
+    input: &[u8],
+) -> Bench {
+    let mut bench = b;
+    let mut from: usize = 0;
+    let end = b.pending;
+    bench.pending = 0;
+    while from < end {
+        let next = least(plus(from, b.size), end);
+        bench = feed_piece(bench, script, store, gathered, part(input, from, next));
+        let c = bench.conn;
+        if c.open {} else {
+            return bench;
+        }
+        if next <= from {
+            return bench;
+        }
+        from = next;
+    }
+    bench
+}
+
+// That a refused call changed neither the state nor the store.
+pub fn unchanged(script: &[u8], k: Check, before: Conn, after: Conn) -> Check {
+    if same_state(before, after) {} else {
+        return came(script, k, b"a changed state");
+    }
+    k
+}
+
+// step BYTES: one step, the bytes that it used, and, where it is refused, that nothing changed.
+pub fn one_step(
+    b: Bench,
+    script: &[u8],
+    store: &mut [u8],
+    gathered: &mut [u8; 512],
+    piece: &[u8],
+) -> Bench {
+    let before = b.conn;
+    let k = b.check;
+    let n = store.len();
+    let mut kept = [0u8; 40000];
+    copy_into(&mut kept, 0, store);
+    let s = step(before, store, gathered, piece);
+    let told = s.told;
+    let after = s.conn;
+    let shown = came_told(script, k, b.room, told, piece);
+    let counted = came_number(script, shown, b"used ", s.used);
+    if let Told::Refused(_) = told {
+        let checked = unchanged(script, counted, before, after);
+        if same(part(&kept, 0, n), store) {} else {
+            return with_conn(b, after, came(script, checked, b"a changed store"));
+        }
+        return with_conn(b, after, checked);
+    }
+    with_conn(b, after, counted)
+}
