@@ -11,11 +11,13 @@ use crate::expect::came_refused;
 use crate::notation::put_bytes;
 use crate::state::set;
 use crate::steps::FILL;
+use crate::steps::KEPT;
 use crate::steps::ROOM;
 use crate::steps::came_written;
 use crate::steps::came_wrote;
 use crate::steps::one_step;
 use crate::steps::unchanged;
+use crate::steps::unchanged_store;
 use crate::text::as_u32;
 use crate::text::id_at;
 use crate::text::number_at;
@@ -31,6 +33,7 @@ use connection::answer::Wrote;
 use connection::sizes::AREA;
 use connection::state::Conn;
 use finish::Finish;
+use finish::Finished;
 use finish::end_request;
 use output::end_output;
 use output::write_output;
@@ -57,7 +60,7 @@ fn output_of(w: &[u8]) -> Output {
 }
 
 // What a call of output answered.
-fn answered(b: Bench, script: &[u8], out: &[u8], w: Written) -> Bench {
+fn answered(b: Bench, script: &[u8], out: &[u8; ROOM], w: Written) -> Bench {
     let before = b.conn;
     let k = b.check;
     let after = w.conn;
@@ -71,16 +74,20 @@ fn answered(b: Bench, script: &[u8], out: &[u8], w: Written) -> Bench {
 }
 
 // say ID STREAM BYTES
-fn say(b: Bench, script: &[u8], line: &[u8], input: &mut [u8]) -> Bench {
+fn say_bytes(b: Bench, script: &[u8], line: &[u8], bytes: &[u8]) -> Bench {
     let z: usize = 0;
-    let n = put_bytes(input, 0, rest(line, 3));
     let mut out = [FILL; ROOM];
     let room = least(b.room, ROOM);
     let c = b.conn;
     let id = id_at(line, 1);
     let stream = output_of(word(line, 2));
-    let w = write_output(c, id, stream, part(input, 0, n), &mut out[z..room]);
+    let w = write_output(c, id, stream, bytes, &mut out[z..room]);
     answered(b, script, &out, w)
+}
+
+fn say(b: Bench, script: &[u8], line: &[u8], input: &mut [u8]) -> Bench {
+    let n = put_bytes(input, 0, rest(line, 3));
+    say_bytes(b, script, line, part(input, 0, n))
 }
 
 // end ID STREAM
@@ -95,8 +102,11 @@ fn end_stream(b: Bench, script: &[u8], line: &[u8]) -> Bench {
     answered(b, script, &out, w)
 }
 
-// pair_writer's own answer.
-fn came_pair_wrote(script: &[u8], k: Check, out: &[u8], wrote: pair_writer::Wrote) -> Check {
+// The room for a pair.
+const LONG: usize = 140000;
+
+// The answer of a pair's writer.
+fn came_pair_wrote(script: &[u8], k: Check, out: &[u8; LONG], wrote: pair_writer::Wrote) -> Check {
     match wrote {
         pair_writer::Wrote::Bytes(n) => {
             let checked = came_written(script, k, part(out, n, out.len()), 0);
@@ -114,18 +124,22 @@ fn came_pair_wrote(script: &[u8], k: Check, out: &[u8], wrote: pair_writer::Wrot
 }
 
 // write NAME VALUE: a pair.
-fn write(b: Bench, script: &[u8], line: &[u8], input: &mut [u8]) -> Bench {
+fn write_bytes(b: Bench, script: &[u8], name: &[u8], value: &[u8]) -> Bench {
     let z: usize = 0;
-    let n = put_bytes(input, 0, word(line, 1));
-    let e = put_bytes(input, n, rest(line, 2));
-    let mut out = [FILL; 140000];
-    let room = least(b.room, 140000);
-    let wrote = write_pair(&mut out[z..room], part(input, 0, n), part(input, n, e));
+    let mut out = [FILL; LONG];
+    let room = least(b.room, LONG);
+    let wrote = write_pair(&mut out[z..room], name, value);
     let k = b.check;
     with_check(b, came_pair_wrote(script, k, &out, wrote))
 }
 
-fn came_finish(script: &[u8], k: Check, out: &[u8], finish: Finish) -> Check {
+fn write(b: Bench, script: &[u8], line: &[u8], input: &mut [u8]) -> Bench {
+    let n = put_bytes(input, 0, word(line, 1));
+    let e = put_bytes(input, n, rest(line, 2));
+    write_bytes(b, script, part(input, 0, n), part(input, n, e))
+}
+
+fn came_finish(script: &[u8], k: Check, out: &[u8; ROOM], finish: Finish) -> Check {
     match finish {
         Finish::Open(n) => came_written(script, k, out, n),
         Finish::Closed(n) => {
@@ -139,34 +153,39 @@ fn came_finish(script: &[u8], k: Check, out: &[u8], finish: Finish) -> Check {
     }
 }
 
+// What finish answered, and, where it is refused, that nothing changed.
+fn finished(
+    b: Bench,
+    script: &[u8],
+    out: &[u8; ROOM],
+    kept: &[u8; KEPT],
+    store: &[u8],
+    f: Finished,
+) -> Bench {
+    let before = b.conn;
+    let k = b.check;
+    let after = f.conn;
+    let finish = f.finish;
+    let shown = came_finish(script, k, out, finish);
+    if let Finish::Refused(_) = finish {
+        let checked = unchanged(script, shown, before, after);
+        return with_conn(b, after, unchanged_store(script, checked, kept, store));
+    }
+    with_conn(b, after, shown)
+}
+
 // finish ID STATUS
 fn finish_request(b: Bench, script: &[u8], line: &[u8], store: &mut [u8]) -> Bench {
     let z: usize = 0;
-    let mut out = [FILL; ROOM];
-    let room = least(b.room, ROOM);
-    let mut kept = [0u8; 40000];
-    let n = store.len();
-    copy_into(&mut kept, 0, store);
+    let id = id_at(line, 1);
+    let status = as_u32(number_at(line, 2));
     let c = b.conn;
-    let k = b.check;
-    let f = end_request(
-        c,
-        store,
-        id_at(line, 1),
-        as_u32(number_at(line, 2)),
-        &mut out[z..room],
-    );
-    let after = f.conn;
-    let finish = f.finish;
-    let shown = came_finish(script, k, &out, finish);
-    if let Finish::Refused(_) = finish {
-        let checked = unchanged(script, shown, c, after);
-        if same(part(&kept, 0, n), store) {} else {
-            return with_conn(b, after, came(script, checked, b"a changed store"));
-        }
-        return with_conn(b, after, checked);
-    }
-    with_conn(b, after, shown)
+    let room = least(b.room, ROOM);
+    let mut kept = [0u8; KEPT];
+    copy_into(&mut kept, 0, store);
+    let mut out = [FILL; ROOM];
+    let f = end_request(c, store, id, status, &mut out[z..room]);
+    finished(b, script, &out, &kept, store, f)
 }
 
 // ---- questions

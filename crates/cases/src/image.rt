@@ -11,10 +11,14 @@ use connection::state::Target;
 use numbers::role_number;
 use pairs::name::same;
 
+fn put_digits(out: &mut [u8], at: usize, digits: &[u8; 16]) -> usize {
+    put_all(out, at, digits)
+}
+
 fn put_number(out: &mut [u8], at: usize, n: usize) -> usize {
     let mut digits = [0u8; 16];
     io::hex(n as u64, 16, &mut digits);
-    put_all(out, at, &digits)
+    put_digits(out, at, &digits)
 }
 
 fn turn_number(turn: Turn) -> u8 {

@@ -36,10 +36,14 @@ pub fn put_all(out: &mut [u8], at: usize, bytes: &[u8]) -> usize {
     place
 }
 
+fn put_digits(out: &mut [u8], at: usize, digits: &[u8; 20], n: usize) -> usize {
+    put_all(out, at, part(digits, 0, n))
+}
+
 pub fn put_decimal(out: &mut [u8], at: usize, n: usize) -> usize {
     let mut digits = [0u8; 20];
     let k = io::decimal(n as u64, &mut digits);
-    put_all(out, at, part(&digits, 0, k))
+    put_digits(out, at, &digits, k)
 }
 
 // ---- from text to bytes

@@ -1,6 +1,5 @@
 // Steps: what waits is fed in pieces, and what the steps tell is held to the case.
 use crate::bench::Bench;
-use crate::bench::with_check;
 use crate::bench::with_conn;
 use crate::expect::Check;
 use crate::expect::came;
@@ -8,10 +7,10 @@ use crate::expect::came_number;
 use crate::expect::came_records;
 use crate::expect::came_refused;
 use crate::image::same_state;
-use crate::text::byte_at;
 use crate::text::minus;
 use crate::text::part;
 use crate::text::plus;
+use connection::answer::Stepped;
 use connection::answer::Told;
 use connection::answer::Wrote;
 use connection::event::Event;
@@ -51,7 +50,7 @@ pub fn came_written(script: &[u8], k: Check, out: &[u8], n: usize) -> Check {
     came_records(script, k, part(out, 0, n))
 }
 
-pub fn came_wrote(script: &[u8], k: Check, out: &[u8], wrote: Wrote) -> Check {
+pub fn came_wrote(script: &[u8], k: Check, out: &[u8; ROOM], wrote: Wrote) -> Check {
     match wrote {
         Wrote::Bytes(n) => came_written(script, k, out, n),
         Wrote::Refused(why) => {
@@ -111,6 +110,36 @@ fn came_told(script: &[u8], k: Check, room: usize, told: Told, piece: &[u8]) -> 
     }
 }
 
+// A bench behind a step, and the bytes that the step used; none once the connection is closed.
+struct Turn {
+    bench: Bench,
+    used: usize,
+}
+
+fn told_turn(b: Bench, script: &[u8], s: Stepped, piece: &[u8]) -> Turn {
+    let k = b.check;
+    let told = s.told;
+    let conn = s.conn;
+    let shown = came_told(script, k, b.room, told, piece);
+    let after = with_conn(b, conn, shown);
+    if conn.open {} else {
+        return Turn {
+            bench: after,
+            used: 0,
+        };
+    }
+    Turn {
+        bench: after,
+        used: s.used,
+    }
+}
+
+fn turn(b: Bench, script: &[u8], store: &mut [u8], gathered: &mut [u8; 512], piece: &[u8]) -> Turn {
+    let c = b.conn;
+    let s = step(c, store, gathered, piece);
+    told_turn(b, script, s, piece)
+}
+
 // Steps through a piece, to its end or to a step that uses nothing.
 fn feed_piece(
     b: Bench,
@@ -119,27 +148,24 @@ fn feed_piece(
     gathered: &mut [u8; 512],
     piece: &[u8],
 ) -> Bench {
-    let mut conn = b.conn;
-    let mut check = b.check;
-    let room = b.room;
+    let mut bench = b;
     let mut from: usize = 0;
     while from < piece.len() {
-        let left = part(piece, from, piece.len());
-        let s = step(conn, store, gathered, left);
-        let told = s.told;
-        conn = s.conn;
-        check = came_told(script, check, room, told, left);
-        let used = s.used;
-        let next = plus(from, used);
+        let t = turn(
+            bench,
+            script,
+            store,
+            gathered,
+            part(piece, from, piece.len()),
+        );
+        bench = t.bench;
+        let next = plus(from, t.used);
         if next <= from {
-            return with_conn(b, conn, check);
-        }
-        if conn.open {} else {
-            return with_conn(b, conn, check);
+            return bench;
         }
         from = next;
     }
-    with_conn(b, conn, check)
+    bench
 }
 
 // Feeds what waits, in pieces; once the connection is closed the rest is dropped.
@@ -169,6 +195,9 @@ pub fn feed(
     bench
 }
 
+// What is kept of a store, to see that it stays.
+pub const KEPT: usize = 40000;
+
 // That a refused call changed neither the state nor the store.
 pub fn unchanged(script: &[u8], k: Check, before: Conn, after: Conn) -> Check {
     if same_state(before, after) {} else {
@@ -177,7 +206,36 @@ pub fn unchanged(script: &[u8], k: Check, before: Conn, after: Conn) -> Check {
     k
 }
 
-// step BYTES: one step, the bytes that it used, and, where it is refused, that nothing changed.
+pub fn unchanged_store(script: &[u8], k: Check, kept: &[u8; KEPT], store: &[u8]) -> Check {
+    if same(part(kept, 0, store.len()), store) {} else {
+        return came(script, k, b"a changed store");
+    }
+    k
+}
+
+// What a single step told and used, and, where it is refused, that nothing changed.
+fn told_step(
+    b: Bench,
+    script: &[u8],
+    kept: &[u8; KEPT],
+    store: &[u8],
+    s: Stepped,
+    piece: &[u8],
+) -> Bench {
+    let before = b.conn;
+    let k = b.check;
+    let told = s.told;
+    let after = s.conn;
+    let shown = came_told(script, k, b.room, told, piece);
+    let counted = came_number(script, shown, b"used ", s.used);
+    if let Told::Refused(_) = told {
+        let checked = unchanged(script, counted, before, after);
+        return with_conn(b, after, unchanged_store(script, checked, kept, store));
+    }
+    with_conn(b, after, counted)
+}
+
+// step BYTES: one step.
 pub fn one_step(
     b: Bench,
     script: &[u8],
@@ -186,21 +244,8 @@ pub fn one_step(
     piece: &[u8],
 ) -> Bench {
     let before = b.conn;
-    let k = b.check;
-    let n = store.len();
-    let mut kept = [0u8; 40000];
+    let mut kept = [0u8; KEPT];
     copy_into(&mut kept, 0, store);
     let s = step(before, store, gathered, piece);
-    let told = s.told;
-    let after = s.conn;
-    let shown = came_told(script, k, b.room, told, piece);
-    let counted = came_number(script, shown, b"used ", s.used);
-    if let Told::Refused(_) = told {
-        let checked = unchanged(script, counted, before, after);
-        if same(part(&kept, 0, n), store) {} else {
-            return with_conn(b, after, came(script, checked, b"a changed store"));
-        }
-        return with_conn(b, after, checked);
-    }
-    with_conn(b, after, counted)
+    told_step(b, script, &kept, store, s, piece)
 }
