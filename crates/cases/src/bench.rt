@@ -5,8 +5,6 @@ use connection::state::Conn;
 pub struct Bench {
     pub conn: Conn,
     pub check: Check,
-    // the size of pieces
-    pub size: usize,
     // bytes that wait to be fed
     pub pending: usize,
     // the bytes of the store and of the buffer that calls are lent

@@ -8,6 +8,7 @@ use crate::expect::came_bytes;
 use crate::expect::came_number;
 use crate::expect::came_pair;
 use crate::expect::came_refused;
+use crate::notation::put;
 use crate::notation::put_bytes;
 use crate::state::set;
 use crate::steps::FILL;
@@ -18,6 +19,7 @@ use crate::steps::came_wrote;
 use crate::steps::one_step;
 use crate::steps::unchanged;
 use crate::steps::unchanged_store;
+use crate::text::as_u8;
 use crate::text::as_u32;
 use crate::text::id_at;
 use crate::text::number_at;
@@ -39,6 +41,8 @@ use output::end_output;
 use output::write_output;
 use pair_writer::write_pair;
 use pairs::name::same;
+use pairs::pair::Read;
+use pairs::pair::read_pair;
 use parameters::Numbered;
 use parameters::Source;
 use parameters::pair_at;
@@ -47,6 +51,7 @@ use parameters::value_source;
 use starting::start;
 use walk::list_of;
 use walk::list_refusal;
+use walk::past;
 use wire::copy_into;
 use wire::least;
 
@@ -219,7 +224,25 @@ fn ask_pair(b: Bench, script: &[u8], line: &[u8], store: &[u8]) -> Check {
     }
 }
 
-// walk ID: the request's list.
+// The pairs of a list from its start on, each at the place behind the one before, and where they end.
+fn came_pairs(script: &[u8], k: Check, list: &[u8]) -> Check {
+    let mut check = k;
+    let mut at: usize = 0;
+    while at < list.len() {
+        let read = read_pair(list, at);
+        if let Read::Pair(p, _) = read {
+            check = came_pair(script, check, p);
+        }
+        let next = past(list, at);
+        if next <= at {
+            return came_number(script, check, b"malformed ", at);
+        }
+        at = next;
+    }
+    check
+}
+
+// walk ID: how long the request's list is, and its pairs.
 fn ask_walk(b: Bench, script: &[u8], line: &[u8], store: &[u8]) -> Check {
     let c = b.conn;
     let k = b.check;
@@ -227,10 +250,11 @@ fn ask_walk(b: Bench, script: &[u8], line: &[u8], store: &[u8]) -> Check {
     let refusal = list_refusal(c, store, id);
     let list = list_of(c, store, id);
     if refusal == 0 {
-        return came_bytes(script, k, b"walk ", list);
+        let told = came_number(script, k, b"walk ", list.len());
+        return came_pairs(script, told, list);
     }
-    let told = came_number(script, k, b"refused ", refusal as usize);
-    came_bytes(script, told, b"walk ", list)
+    let refused = came_number(script, k, b"refused ", refusal as usize);
+    came_number(script, refused, b"walk ", list.len())
 }
 
 // active
@@ -323,6 +347,10 @@ fn call_lent(
     }
     if same(w, b"finish") {
         return finish_request(b, script, line, store);
+    }
+    if same(w, b"poke") {
+        put(store, number_at(line, 1), as_u8(number_at(line, 2)));
+        return b;
     }
     if same(w, b"start") {
         return start_again(b, script, store, gathered);

@@ -17,11 +17,12 @@ use pairs::name::same;
 use pairs::pair::Pair;
 use wire::least;
 
-// A case of the script, from its first line to its end; where the next expected line is looked for; whether
-// something else came.
+// A case of the script, from its first line to its end, and the size of the pieces it is fed in; where the next
+// expected line is looked for; whether something else came.
 pub struct Check {
     pub case: usize,
     pub end: usize,
+    pub size: usize,
     pub want: usize,
     pub failed: bool,
 }
@@ -54,10 +55,17 @@ pub fn print_case(script: &[u8], case: usize, verdict: &[u8]) {
     print(b"\n");
 }
 
+fn print_size(size: usize) {
+    print(b"  in pieces of ");
+    io::print_decimal(STDOUT_FILENO, size as u64);
+    print(b"\n");
+}
+
 // The case has failed: its name once, and what came or what is missing.
 fn fail(script: &[u8], k: Check, what: &[u8], line: &[u8]) -> Check {
     if k.failed {} else {
         print_case(script, k.case, b"FAILED ");
+        print_size(k.size);
     }
     print(what);
     print(line);

@@ -138,10 +138,10 @@ fn run_once(
         check: Check {
             case: case,
             end: end,
+            size: size,
             want: case,
             failed: false,
         },
-        size: size,
         pending: 0,
         store: 32768,
         room: 20000,

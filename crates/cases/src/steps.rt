@@ -134,7 +134,13 @@ fn told_turn(b: Bench, script: &[u8], s: Stepped, piece: &[u8]) -> Turn {
     }
 }
 
-fn turn(b: Bench, script: &[u8], store: &mut [u8], gathered: &mut [u8; 512], piece: &[u8]) -> Turn {
+fn take_turn(
+    b: Bench,
+    script: &[u8],
+    store: &mut [u8],
+    gathered: &mut [u8; 512],
+    piece: &[u8],
+) -> Turn {
     let c = b.conn;
     let s = step(c, store, gathered, piece);
     told_turn(b, script, s, piece)
@@ -151,7 +157,7 @@ fn feed_piece(
     let mut bench = b;
     let mut from: usize = 0;
     while from < piece.len() {
-        let t = turn(
+        let t = take_turn(
             bench,
             script,
             store,
@@ -179,9 +185,10 @@ pub fn feed(
     let mut bench = b;
     let mut from: usize = 0;
     let end = b.pending;
+    let k = b.check;
     bench.pending = 0;
     while from < end {
-        let next = least(plus(from, b.size), end);
+        let next = least(plus(from, k.size), end);
         bench = feed_piece(bench, script, store, gathered, part(input, from, next));
         let c = bench.conn;
         if c.open {} else {
@@ -195,8 +202,10 @@ pub fn feed(
     bench
 }
 
-// What is kept of a store, to see that it stays.
+// What is kept of a store and behind it of the gathered bytes, to see that they stay.
 pub const KEPT: usize = 40000;
+
+const GATHERED: usize = 39000;
 
 // That a refused call changed neither the state nor the store.
 pub fn unchanged(script: &[u8], k: Check, before: Conn, after: Conn) -> Check {
@@ -213,26 +222,47 @@ pub fn unchanged_store(script: &[u8], k: Check, kept: &[u8; KEPT], store: &[u8])
     k
 }
 
-// What a single step told and used, and, where it is refused, that nothing changed.
-fn told_step(
-    b: Bench,
-    script: &[u8],
-    kept: &[u8; KEPT],
-    store: &[u8],
-    s: Stepped,
-    piece: &[u8],
-) -> Bench {
-    let before = b.conn;
+fn unchanged_gathered(script: &[u8], k: Check, kept: &[u8; KEPT], gathered: &[u8; 512]) -> Check {
+    if same(part(kept, GATHERED, GATHERED + 512), gathered) {} else {
+        return came(script, k, b"changed gathered bytes");
+    }
+    k
+}
+
+// What a single step told and used.
+fn told_step(b: Bench, script: &[u8], s: Stepped, piece: &[u8]) -> Check {
     let k = b.check;
     let told = s.told;
-    let after = s.conn;
     let shown = came_told(script, k, b.room, told, piece);
     let counted = came_number(script, shown, b"used ", s.used);
     if let Told::Refused(_) = told {
-        let checked = unchanged(script, counted, before, after);
-        return with_conn(b, after, unchanged_store(script, checked, kept, store));
+        return unchanged(script, counted, b.conn, s.conn);
     }
-    with_conn(b, after, counted)
+    counted
+}
+
+fn is_refused(s: Stepped) -> bool {
+    let told = s.told;
+    match told {
+        Told::Event(_) => false,
+        Told::Refused(_) => true,
+    }
+}
+
+// What is kept of the lent bytes before a step, held to them behind it, where the step is refused.
+fn checked_step(
+    k: Check,
+    script: &[u8],
+    kept: &[u8; KEPT],
+    store: &[u8],
+    gathered: &[u8; 512],
+    refused: bool,
+) -> Check {
+    if refused {
+        let checked = unchanged_store(script, k, kept, store);
+        return unchanged_gathered(script, checked, kept, gathered);
+    }
+    k
 }
 
 // step BYTES: one step.
@@ -246,6 +276,10 @@ pub fn one_step(
     let before = b.conn;
     let mut kept = [0u8; KEPT];
     copy_into(&mut kept, 0, store);
+    copy_into(&mut kept, GATHERED, gathered);
     let s = step(before, store, gathered, piece);
-    told_step(b, script, &kept, store, s, piece)
+    let after = s.conn;
+    let told = told_step(b, script, s, piece);
+    let checked = checked_step(told, script, &kept, store, gathered, is_refused(s));
+    with_conn(b, after, checked)
 }
