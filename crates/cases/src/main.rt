@@ -13,6 +13,8 @@ mod text;
 
 use bench::Bench;
 use calls::call;
+use connection::sizes::STORE;
+use connection::state::Conn;
 use expect::Check;
 use expect::over;
 use expect::print_case;
@@ -20,7 +22,10 @@ use input::put_input;
 use libc::STDIN_FILENO;
 use notation::put_times;
 use pairs::name::same;
+use starting::closed;
 use starting::start;
+use steps::FILL;
+use steps::ROOM;
 use steps::feed;
 use text::byte_at;
 use text::find;
@@ -53,7 +58,35 @@ fn is_quiet(first: u8) -> bool {
     first == b'>' || first == b'#' || first == 0
 }
 
-// A line: what is sent waits; before a call it is fed.
+// What waits is fed, with the whole store.
+fn feed_store(
+    b: Bench,
+    script: &[u8],
+    store: &mut [u8],
+    gathered: &mut [u8; 512],
+    input: &[u8],
+) -> Bench {
+    let z: usize = 0;
+    if STORE <= store.len() {
+        return feed(b, script, &mut store[z..STORE], gathered, input);
+    }
+    b
+}
+
+// A call; before it what waits is fed.
+fn run_call(
+    b: Bench,
+    script: &[u8],
+    line: &[u8],
+    store: &mut [u8],
+    gathered: &mut [u8; 512],
+    input: &mut [u8],
+) -> Bench {
+    let fed = feed_store(b, script, store, gathered, input);
+    call(fed, script, line, store, gathered, input)
+}
+
+// A line: what is sent waits, and anything else is a call.
 fn run_line(
     b: Bench,
     script: &[u8],
@@ -71,24 +104,7 @@ fn run_line(
         more.pending = pending;
         return more;
     }
-    let fed = feed_store(b, script, store, gathered, input);
-    call(fed, script, line, store, gathered, input)
-}
-
-// What waits is fed, with the whole store.
-fn feed_store(
-    b: Bench,
-    script: &[u8],
-    store: &mut [u8],
-    gathered: &mut [u8; 512],
-    input: &[u8],
-) -> Bench {
-    let z: usize = 0;
-    let n: usize = 32768;
-    if n <= store.len() {
-        return feed(b, script, &mut store[z..n], gathered, input);
-    }
-    b
+    run_call(b, script, line, store, gathered, input)
 }
 
 // The lines of a case, from behind its first to its end.
@@ -115,43 +131,62 @@ fn run_lines(
     feed_store(bench, script, store, gathered, input)
 }
 
-// A case, once: a connection is started on a store that was not empty. Answers whether it is as expected.
-fn run_once(
-    script: &[u8],
-    case: usize,
-    end: usize,
-    size: usize,
-    store: &mut [u8],
-    gathered: &mut [u8; 512],
-    input: &mut [u8],
-) -> bool {
-    put_times(store, 0, 238, 33000);
+// A connection started on the first 32,768 bytes of a store.
+fn start_on(store: &mut [u8], gathered: &mut [u8; 512]) -> Conn {
     let z: usize = 0;
-    let n: usize = 32768;
-    if n <= store.len() {} else {
-        return false;
+    if STORE <= store.len() {
+        let s = start(&mut store[z..STORE], gathered);
+        return s.conn;
     }
-    let s = start(&mut store[z..n], gathered);
-    let c = s.conn;
-    let b = Bench {
-        conn: c,
-        check: Check {
-            case: case,
-            end: end,
-            size: size,
-            want: case,
-            failed: false,
-        },
-        pending: 0,
-        store: 32768,
-        room: 20000,
-    };
-    let ran = run_lines(b, script, store, gathered, input);
-    let k = over(script, ran.check);
+    closed()
+}
+
+// A connection started on a store that was not empty.
+fn fresh(store: &mut [u8], gathered: &mut [u8; 512]) -> Conn {
+    put_times(store, 0, FILL, 33000);
+    start_on(store, gathered)
+}
+
+// Whether a case came to its end as expected.
+fn is_met(script: &[u8], b: Bench) -> bool {
+    let k = over(script, b.check);
     if k.failed {
         return false;
     }
     true
+}
+
+fn bench_of(conn: Conn, check: Check) -> Bench {
+    Bench {
+        conn: conn,
+        check: check,
+        pending: 0,
+        store: STORE,
+        room: ROOM,
+    }
+}
+
+// A case, once. Answers whether it is as expected.
+fn run_once(
+    script: &[u8],
+    k: Check,
+    store: &mut [u8],
+    gathered: &mut [u8; 512],
+    input: &mut [u8],
+) -> bool {
+    let c = fresh(store, gathered);
+    let ran = run_lines(bench_of(c, k), script, store, gathered, input);
+    is_met(script, ran)
+}
+
+fn check_of(case: usize, end: usize, size: usize) -> Check {
+    Check {
+        case: case,
+        end: end,
+        size: size,
+        want: case,
+        failed: false,
+    }
 }
 
 // A case at each size of pieces.
@@ -166,8 +201,8 @@ fn run_case(
     let sizes: [usize; 4] = [1, 7, 8, 1000000];
     let mut i: usize = 0;
     while i < 4 {
-        let size = sizes[i];
-        if run_once(script, case, end, size, store, gathered, input) {} else {
+        let k = check_of(case, end, sizes[i]);
+        if run_once(script, k, store, gathered, input) {} else {
             return;
         }
         i += 1;
