@@ -14,11 +14,14 @@ abbrev μ-loop : tie.MeasureT-loop
 loop-holds : tie.Need-loop-holds Inv-loop μ-loop
 loop-holds c = search needs
 
-mul-size : tie.Need-mul-size Inv-loop μ-loop
-mul-size c = search needs
+mul-check-of : tie.Need-mul-check-of Inv-loop μ-loop
+mul-check-of c = search needs
 
-array-read-size : tie.Need-array-read-size Inv-loop μ-loop
-array-read-size c = search needs
+array-read-check-of : tie.Need-array-read-check-of Inv-loop μ-loop
+array-read-check-of c = search needs
+
+check-of-requires : tie.Need-check-of-requires Inv-loop μ-loop
+check-of-requires c κs = search needs
 
 run-once-requires : tie.Need-run-once-requires Inv-loop μ-loop
 run-once-requires c κs = search needs
@@ -63,8 +66,9 @@ run-case-spec =
     Inv-loop
     μ-loop
     loop-holds
-    mul-size
-    array-read-size
+    mul-check-of
+    array-read-check-of
+    check-of-requires
     run-once-requires
     same-length
     same-length-2
