@@ -2,14 +2,19 @@
 use crate::expect::Check;
 use connection::state::Conn;
 
+// Bytes that wait to be fed, and how many bytes of the store and of the buffer calls are lent.
+pub struct Lent {
+    pub pending: usize,
+    pub store: usize,
+    pub room: usize,
+}
+
 pub struct Bench {
     pub conn: Conn,
     pub check: Check,
-    // bytes that wait to be fed
-    pub pending: usize,
-    // the bytes of the store and of the buffer that calls are lent
-    pub store: usize,
-    pub room: usize,
+    pub lent: Lent,
+    // the bytes that the last step used; 0 once the connection is closed
+    pub used: usize,
 }
 
 pub fn with_check(b: Bench, k: Check) -> Bench {
@@ -18,9 +23,18 @@ pub fn with_check(b: Bench, k: Check) -> Bench {
     n
 }
 
-pub fn with_conn(b: Bench, c: Conn, k: Check) -> Bench {
+pub fn with_lent(b: Bench, lent: Lent) -> Bench {
     let mut n = b;
-    n.conn = c;
-    n.check = k;
+    n.lent = lent;
     n
+}
+
+pub fn with_conn(b: Bench, c: Conn, k: Check, used: usize) -> Bench {
+    let lent = b.lent;
+    Bench {
+        conn: c,
+        check: k,
+        lent: lent,
+        used: used,
+    }
 }

@@ -1,7 +1,9 @@
 // The calls, each with a line of the script.
 use crate::bench::Bench;
+use crate::bench::Lent;
 use crate::bench::with_check;
 use crate::bench::with_conn;
+use crate::bench::with_lent;
 use crate::expect::Check;
 use crate::expect::came;
 use crate::expect::came_bytes;
@@ -64,25 +66,29 @@ fn output_of(w: &[u8]) -> Output {
     Output::Stdout
 }
 
+fn is_refused(wrote: Wrote) -> bool {
+    match wrote {
+        Wrote::Bytes(_) => false,
+        Wrote::Refused(_) => true,
+    }
+}
+
 // What a call of output answered.
 fn answered(b: Bench, script: &[u8], out: &[u8; ROOM], w: Written) -> Bench {
     let before = b.conn;
-    let k = b.check;
     let after = w.conn;
     let wrote = w.wrote;
-    let shown = came_wrote(script, k, out, wrote);
-    if let Wrote::Refused(_) = wrote {
-        let checked = unchanged(script, shown, before, after);
-        return with_conn(b, after, checked);
-    }
-    with_conn(b, after, shown)
+    let shown = came_wrote(script, b.check, out, wrote);
+    let checked = unchanged(script, shown, is_refused(wrote), before, after);
+    with_conn(b, after, checked, 0)
 }
 
 // say ID STREAM BYTES
 fn say_bytes(b: Bench, script: &[u8], line: &[u8], bytes: &[u8]) -> Bench {
     let z: usize = 0;
     let mut out = [FILL; ROOM];
-    let room = least(b.room, ROOM);
+    let lent = b.lent;
+    let room = least(lent.room, ROOM);
     let c = b.conn;
     let id = id_at(line, 1);
     let stream = output_of(word(line, 2));
@@ -99,7 +105,8 @@ fn say(b: Bench, script: &[u8], line: &[u8], input: &mut [u8]) -> Bench {
 fn end_stream(b: Bench, script: &[u8], line: &[u8]) -> Bench {
     let z: usize = 0;
     let mut out = [FILL; ROOM];
-    let room = least(b.room, ROOM);
+    let lent = b.lent;
+    let room = least(lent.room, ROOM);
     let c = b.conn;
     let id = id_at(line, 1);
     let stream = output_of(word(line, 2));
@@ -129,19 +136,18 @@ fn came_pair_wrote(script: &[u8], k: Check, out: &[u8; LONG], wrote: pair_writer
 }
 
 // write NAME VALUE: a pair.
-fn write_bytes(b: Bench, script: &[u8], name: &[u8], value: &[u8]) -> Bench {
+fn write_bytes(k: Check, lent: Lent, script: &[u8], name: &[u8], value: &[u8]) -> Check {
     let z: usize = 0;
     let mut out = [FILL; LONG];
-    let room = least(b.room, LONG);
+    let room = least(lent.room, LONG);
     let wrote = write_pair(&mut out[z..room], name, value);
-    let k = b.check;
-    with_check(b, came_pair_wrote(script, k, &out, wrote))
+    came_pair_wrote(script, k, &out, wrote)
 }
 
-fn write(b: Bench, script: &[u8], line: &[u8], input: &mut [u8]) -> Bench {
+fn write(k: Check, lent: Lent, script: &[u8], line: &[u8], input: &mut [u8]) -> Check {
     let n = put_bytes(input, 0, word(line, 1));
     let e = put_bytes(input, n, rest(line, 2));
-    write_bytes(b, script, part(input, 0, n), part(input, n, e))
+    write_bytes(k, lent, script, part(input, 0, n), part(input, n, e))
 }
 
 fn came_finish(script: &[u8], k: Check, out: &[u8; ROOM], finish: Finish) -> Check {
@@ -158,7 +164,15 @@ fn came_finish(script: &[u8], k: Check, out: &[u8; ROOM], finish: Finish) -> Che
     }
 }
 
-// What finish answered, and, where it is refused, that nothing changed.
+fn is_refused_finish(finish: Finish) -> bool {
+    match finish {
+        Finish::Open(_) => false,
+        Finish::Closed(_) => false,
+        Finish::Refused(_) => true,
+    }
+}
+
+// What finish answered, and what it left.
 fn finished(
     b: Bench,
     script: &[u8],
@@ -168,15 +182,17 @@ fn finished(
     f: Finished,
 ) -> Bench {
     let before = b.conn;
-    let k = b.check;
     let after = f.conn;
     let finish = f.finish;
-    let shown = came_finish(script, k, out, finish);
-    if let Finish::Refused(_) = finish {
-        let checked = unchanged(script, shown, before, after);
-        return with_conn(b, after, unchanged_store(script, checked, kept, store));
-    }
-    with_conn(b, after, shown)
+    let refused = is_refused_finish(finish);
+    let shown = came_finish(script, b.check, out, finish);
+    let checked = unchanged(script, shown, refused, before, after);
+    with_conn(
+        b,
+        after,
+        unchanged_store(script, checked, refused, kept, store),
+        0,
+    )
 }
 
 // finish ID STATUS
@@ -184,21 +200,19 @@ fn finish_request(b: Bench, script: &[u8], line: &[u8], store: &mut [u8]) -> Ben
     let z: usize = 0;
     let id = id_at(line, 1);
     let status = as_u32(number_at(line, 2));
-    let c = b.conn;
-    let room = least(b.room, ROOM);
+    let lent = b.lent;
+    let room = least(lent.room, ROOM);
     let mut kept = [0u8; KEPT];
     copy_into(&mut kept, 0, store);
     let mut out = [FILL; ROOM];
-    let f = end_request(c, store, id, status, &mut out[z..room]);
+    let f = end_request(b.conn, store, id, status, &mut out[z..room]);
     finished(b, script, &out, &kept, store, f)
 }
 
 // ---- questions
 
 // value ID NAME: the value and where it comes from; a refusal gives the fallback too.
-fn ask_value(b: Bench, script: &[u8], line: &[u8], store: &[u8]) -> Check {
-    let c = b.conn;
-    let k = b.check;
+fn ask_value(c: Conn, k: Check, script: &[u8], line: &[u8], store: &[u8]) -> Check {
     let id = id_at(line, 1);
     let name = rest(line, 2);
     let source = value_source(c, store, id, name);
@@ -214,9 +228,7 @@ fn ask_value(b: Bench, script: &[u8], line: &[u8], store: &[u8]) -> Check {
 }
 
 // pair ID NUMBER
-fn ask_pair(b: Bench, script: &[u8], line: &[u8], store: &[u8]) -> Check {
-    let c = b.conn;
-    let k = b.check;
+fn ask_pair(c: Conn, k: Check, script: &[u8], line: &[u8], store: &[u8]) -> Check {
     let numbered = pair_at(c, store, id_at(line, 1), number_at(line, 2));
     match numbered {
         Numbered::Pair(p) => came_pair(script, k, p),
@@ -243,9 +255,7 @@ fn came_pairs(script: &[u8], k: Check, list: &[u8]) -> Check {
 }
 
 // walk ID: how long the request's list is, and its pairs.
-fn ask_walk(b: Bench, script: &[u8], line: &[u8], store: &[u8]) -> Check {
-    let c = b.conn;
-    let k = b.check;
+fn ask_walk(c: Conn, k: Check, script: &[u8], line: &[u8], store: &[u8]) -> Check {
     let id = id_at(line, 1);
     let refusal = list_refusal(c, store, id);
     let list = list_of(c, store, id);
@@ -258,9 +268,7 @@ fn ask_walk(b: Bench, script: &[u8], line: &[u8], store: &[u8]) -> Check {
 }
 
 // active
-fn ask_active(b: Bench, script: &[u8]) -> Check {
-    let c = b.conn;
-    let k = b.check;
+fn ask_active(c: Conn, k: Check, script: &[u8]) -> Check {
     let count = active_count(c);
     match count {
         Count::Active(n) => came_number(script, k, b"active ", n as usize),
@@ -269,69 +277,150 @@ fn ask_active(b: Bench, script: &[u8]) -> Check {
 }
 
 // area SLOT: the bytes of a slot.
-fn show_area(b: Bench, script: &[u8], line: &[u8], store: &[u8]) -> Check {
-    let k = b.check;
+fn show_area(k: Check, script: &[u8], line: &[u8], store: &[u8]) -> Check {
     let i = number_at(line, 1);
     let start = least(i, 16) * AREA;
     came_bytes(script, k, b"area ", part(store, start, start + AREA))
 }
 
-fn ask(b: Bench, script: &[u8], line: &[u8], store: &[u8]) -> Check {
-    let w = word(line, 0);
-    let k = b.check;
-    if same(w, b"value") {
-        return ask_value(b, script, line, store);
-    }
-    if same(w, b"pair") {
-        return ask_pair(b, script, line, store);
-    }
-    if same(w, b"walk") {
-        return ask_walk(b, script, line, store);
-    }
-    if same(w, b"active") {
-        return ask_active(b, script);
-    }
-    if same(w, b"area") {
-        return show_area(b, script, line, store);
-    }
-    came(script, k, b"a word that is not known")
+// ---- lines
+
+// What a line asks for.
+enum Verb {
+    Step,
+    Finish,
+    Start,
+    Say,
+    End,
+    Set,
+    Lend,
+    Value,
+    Pair,
+    Walk,
+    Active,
+    Area,
+    Write,
+    Poke,
+    Unknown,
 }
 
-// ---- what calls are lent, and the state
+fn question_of(w: &[u8]) -> Verb {
+    if same(w, b"value") {
+        return Verb::Value;
+    }
+    if same(w, b"pair") {
+        return Verb::Pair;
+    }
+    if same(w, b"walk") {
+        return Verb::Walk;
+    }
+    if same(w, b"active") {
+        return Verb::Active;
+    }
+    if same(w, b"area") {
+        return Verb::Area;
+    }
+    Verb::Unknown
+}
 
-// store N, room N, set FIELD ..
-fn adjust(b: Bench, script: &[u8], line: &[u8], store: &[u8]) -> Bench {
-    let w = word(line, 0);
-    let mut n = b;
+fn setting_of(w: &[u8]) -> Verb {
+    if same(w, b"set") {
+        return Verb::Set;
+    }
     if same(w, b"store") {
-        n.store = number_at(line, 1);
-        return n;
+        return Verb::Lend;
     }
     if same(w, b"room") {
-        n.room = number_at(line, 1);
-        return n;
+        return Verb::Lend;
     }
-    if same(w, b"set") {
-        let c = set(b.conn, line);
-        n.conn = c;
-        return n;
+    if same(w, b"poke") {
+        return Verb::Poke;
     }
-    with_check(b, ask(b, script, line, store))
+    if same(w, b"write") {
+        return Verb::Write;
+    }
+    question_of(w)
+}
+
+fn verb_of(w: &[u8]) -> Verb {
+    if same(w, b"step") {
+        return Verb::Step;
+    }
+    if same(w, b"finish") {
+        return Verb::Finish;
+    }
+    if same(w, b"start") {
+        return Verb::Start;
+    }
+    if same(w, b"say") {
+        return Verb::Say;
+    }
+    if same(w, b"end") {
+        return Verb::End;
+    }
+    setting_of(w)
+}
+
+// store N, room N: what calls are lent from here on.
+fn lend(lent: Lent, line: &[u8]) -> Lent {
+    let mut l = lent;
+    if same(word(line, 0), b"store") {
+        l.store = number_at(line, 1);
+        return l;
+    }
+    l.room = number_at(line, 1);
+    l
+}
+
+// poke PLACE BYTE: the caller changes a byte of the store.
+fn poke(line: &[u8], store: &mut [u8]) {
+    put(store, number_at(line, 1), as_u8(number_at(line, 2)));
+}
+
+// A question, or a word that is none.
+fn ask(verb: Verb, c: Conn, k: Check, script: &[u8], line: &[u8], store: &[u8]) -> Check {
+    match verb {
+        Verb::Value => ask_value(c, k, script, line, store),
+        Verb::Pair => ask_pair(c, k, script, line, store),
+        Verb::Walk => ask_walk(c, k, script, line, store),
+        Verb::Active => ask_active(c, k, script),
+        Verb::Area => show_area(k, script, line, store),
+        _ => came(script, k, b"a word that is not known"),
+    }
+}
+
+fn came_start(script: &[u8], k: Check, started: Start) -> Check {
+    match started {
+        Start::Open => came(script, k, b"started"),
+        Start::Refused(why) => came_refused(script, k, why),
+    }
 }
 
 // start: anew, with the store as it is lent.
 fn start_again(b: Bench, script: &[u8], store: &mut [u8], gathered: &mut [u8; 512]) -> Bench {
-    let k = b.check;
     let s = start(store, gathered);
     let c = s.conn;
-    let told = s.start;
-    match told {
-        Start::Open => with_conn(b, c, came(script, k, b"started")),
-        Start::Refused(why) => with_conn(b, c, came_refused(script, k, why)),
-    }
+    let started = s.start;
+    with_conn(b, c, came_start(script, b.check, started), 0)
 }
 
-// A line that is a call, or changes what calls are lent. What it is lent of the store is a part.
+fn step_line(
+    b: Bench,
+    script: &[u8],
+    line: &[u8],
+    store: &mut [u8],
+    gathered: &mut [u8; 512],
+    input: &mut [u8],
+) -> Bench {
+    let n = put_bytes(input, 0, rest(line, 1));
+    one_step(b, script, store, gathered, part(input, 0, n))
+}
+
+fn set_state(b: Bench, line: &[u8]) -> Bench {
+    with_conn(b, set(b.conn, line), b.check, 0)
+}
+
+// A call, or a change of what calls are lent.
 fn call_lent(
     b: Bench,
     script: &[u8],
@@ -340,33 +429,25 @@ fn call_lent(
     gathered: &mut [u8; 512],
     input: &mut [u8],
 ) -> Bench {
-    let w = word(line, 0);
-    if same(w, b"step") {
-        let n = put_bytes(input, 0, rest(line, 1));
-        return one_step(b, script, store, gathered, part(input, 0, n));
+    let verb = verb_of(word(line, 0));
+    match verb {
+        Verb::Step => step_line(b, script, line, store, gathered, input),
+        Verb::Finish => finish_request(b, script, line, store),
+        Verb::Start => start_again(b, script, store, gathered),
+        Verb::Say => say(b, script, line, input),
+        Verb::End => end_stream(b, script, line),
+        Verb::Set => set_state(b, line),
+        Verb::Lend => with_lent(b, lend(b.lent, line)),
+        Verb::Write => with_check(b, write(b.check, b.lent, script, line, input)),
+        Verb::Poke => {
+            poke(line, store);
+            b
+        }
+        _ => with_check(b, ask(verb, b.conn, b.check, script, line, store)),
     }
-    if same(w, b"finish") {
-        return finish_request(b, script, line, store);
-    }
-    if same(w, b"poke") {
-        put(store, number_at(line, 1), as_u8(number_at(line, 2)));
-        return b;
-    }
-    if same(w, b"start") {
-        return start_again(b, script, store, gathered);
-    }
-    if same(w, b"say") {
-        return say(b, script, line, input);
-    }
-    if same(w, b"end") {
-        return end_stream(b, script, line);
-    }
-    if same(w, b"write") {
-        return write(b, script, line, input);
-    }
-    adjust(b, script, line, store)
 }
 
+// A line that is not sent, with the store as it is lent: a part.
 pub fn call(
     b: Bench,
     script: &[u8],
@@ -376,6 +457,7 @@ pub fn call(
     input: &mut [u8],
 ) -> Bench {
     let z: usize = 0;
-    let n = least(b.store, store.len());
+    let lent = b.lent;
+    let n = least(lent.store, store.len());
     call_lent(b, script, line, &mut store[z..n], gathered, input)
 }

@@ -12,6 +12,8 @@ mod steps;
 mod text;
 
 use bench::Bench;
+use bench::Lent;
+use bench::with_lent;
 use calls::call;
 use connection::sizes::STORE;
 use connection::state::Conn;
@@ -73,6 +75,13 @@ fn feed_store(
     b
 }
 
+// So many bytes wait.
+fn waiting(lent: Lent, pending: usize) -> Lent {
+    let mut l = lent;
+    l.pending = pending;
+    l
+}
+
 // A call; before it what waits is fed.
 fn run_call(
     b: Bench,
@@ -83,7 +92,8 @@ fn run_call(
     input: &mut [u8],
 ) -> Bench {
     let fed = feed_store(b, script, store, gathered, input);
-    call(fed, script, line, store, gathered, input)
+    let none = with_lent(fed, waiting(fed.lent, 0));
+    call(none, script, line, store, gathered, input)
 }
 
 // A line: what is sent waits, and anything else is a call.
@@ -98,11 +108,10 @@ fn run_line(
     if is_quiet(byte_at(line, 0)) {
         return b;
     }
-    let pending = put_input(input, b.pending, line);
-    if pending != b.pending {
-        let mut more = b;
-        more.pending = pending;
-        return more;
+    let lent = b.lent;
+    let pending = put_input(input, lent.pending, line);
+    if pending != lent.pending {
+        return with_lent(b, waiting(lent, pending));
     }
     run_call(b, script, line, store, gathered, input)
 }
@@ -160,9 +169,12 @@ fn bench_of(conn: Conn, check: Check) -> Bench {
     Bench {
         conn: conn,
         check: check,
-        pending: 0,
-        store: STORE,
-        room: ROOM,
+        lent: Lent {
+            pending: 0,
+            store: STORE,
+            room: ROOM,
+        },
+        used: 0,
     }
 }
 

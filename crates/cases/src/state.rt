@@ -1,10 +1,8 @@
 // States that no run comes to: one field set.
 use crate::text::as_u8;
 use crate::text::as_u16;
-use crate::text::id_at;
 use crate::text::number_at;
 use crate::text::word;
-use connection::request::Life;
 use connection::request::Mark;
 use connection::request::Turn;
 use connection::state::Conn;
@@ -12,63 +10,65 @@ use connection::state::Frame;
 use connection::state::Table;
 use connection::state::Target;
 use pairs::name::same;
+use reader::Position;
 
-// set open N, set occupied N: the open mark, the word of taken slots.
-fn set_open(c: Conn, n: usize) -> Conn {
-    let mut s = c;
-    s.open = n == 1;
-    s
-}
+// The fields that can be set.
+const OPEN: u8 = 1;
 
-fn with_table(c: Conn, t: Table) -> Conn {
-    let mut s = c;
-    s.table = t;
-    s
-}
+const OCCUPIED: u8 = 2;
 
-fn with_frame(c: Conn, f: Frame) -> Conn {
-    let mut s = c;
-    s.frame = f;
-    s
-}
+const ID: u8 = 3;
 
-fn set_occupied(c: Conn, n: usize) -> Conn {
-    let mut t = c.table;
-    t.occupied = as_u16(n);
-    with_table(c, t)
-}
+const LENGTH: u8 = 4;
 
-// set id SLOT N, set length SLOT N.
-fn set_id(c: Conn, i: usize, n: usize) -> Conn {
-    let mut t = c.table;
-    if i < 16 {
-        t.ids[i] = as_u16(n);
+const TURN: u8 = 5;
+
+const HELD: u8 = 6;
+
+const CONTENT: u8 = 7;
+
+const PADDING: u8 = 8;
+
+const TARGET: u8 = 9;
+
+const GATHERED: u8 = 10;
+
+fn frame_field(w: &[u8]) -> u8 {
+    if same(w, b"held") {
+        return HELD;
     }
-    with_table(c, t)
+    if same(w, b"content") {
+        return CONTENT;
+    }
+    if same(w, b"padding") {
+        return PADDING;
+    }
+    if same(w, b"target") {
+        return TARGET;
+    }
+    if same(w, b"gathered") {
+        return GATHERED;
+    }
+    0
 }
 
-fn set_length(c: Conn, i: usize, n: usize) -> Conn {
-    let mut t = c.table;
-    if i < 16 {
-        t.lengths[i] = as_u16(n);
+fn field_of(w: &[u8]) -> u8 {
+    if same(w, b"open") {
+        return OPEN;
     }
-    with_table(c, t)
-}
-
-fn set_mark(c: Conn, i: usize, m: Mark) -> Conn {
-    let mut t = c.table;
-    if i < 16 {
-        t.marks[i] = m;
+    if same(w, b"occupied") {
+        return OCCUPIED;
     }
-    with_table(c, t)
-}
-
-fn mark_of(c: Conn, i: usize) -> Mark {
-    let t = c.table;
-    if i < 16 {
-        return t.marks[i];
+    if same(w, b"id") {
+        return ID;
     }
-    t.marks[0]
+    if same(w, b"length") {
+        return LENGTH;
+    }
+    if same(w, b"turn") {
+        return TURN;
+    }
+    frame_field(w)
 }
 
 fn turn_of(w: &[u8]) -> Turn {
@@ -84,49 +84,65 @@ fn turn_of(w: &[u8]) -> Turn {
     Turn::Done
 }
 
-// set turn SLOT STREAM.
-fn set_turn(c: Conn, i: usize, turn: Turn) -> Conn {
-    let m = mark_of(c, i);
+fn with_turn(m: Mark, turn: Turn) -> Mark {
     let role = m.role;
     let life = m.life;
-    set_mark(
-        c,
-        i,
-        Mark {
-            role: role,
-            turn: turn,
-            life: life,
-            keep: m.keep,
-            out_ended: m.out_ended,
-            err_used: m.err_used,
-            err_ended: m.err_ended,
-        },
-    )
+    Mark {
+        role: role,
+        turn: turn,
+        life: life,
+        keep: m.keep,
+        out_ended: m.out_ended,
+        err_used: m.err_used,
+        err_ended: m.err_ended,
+    }
 }
 
-// set held N, set content N, set padding N: of the record being read.
-fn set_position(c: Conn, w: &[u8], n: usize) -> Conn {
-    let mut f = c.frame;
-    let mut p = f.position;
-    if same(w, b"held") {
-        p.held = n;
+// set occupied N, set id SLOT N, set length SLOT N, set turn SLOT STREAM
+fn set_table(t: Table, field: u8, i: usize, n: usize, turn: Turn) -> Table {
+    let mut s = t;
+    if field == OCCUPIED {
+        s.occupied = as_u16(i);
+        return s;
     }
-    if same(w, b"content") {
-        p.content = n;
+    if 16 <= i {
+        return s;
     }
-    if same(w, b"padding") {
-        p.padding = n;
+    if field == ID {
+        s.ids[i] = as_u16(n);
+        return s;
     }
-    f.position = p;
-    with_frame(c, f)
+    if field == LENGTH {
+        s.lengths[i] = as_u16(n);
+        return s;
+    }
+    if field == TURN {
+        s.marks[i] = with_turn(s.marks[i], turn);
+        return s;
+    }
+    s
 }
 
-fn set_gathered(c: Conn, n: usize) -> Conn {
-    let mut f = c.frame;
-    f.gathered = n;
-    with_frame(c, f)
+// n where the field is the one that is set, else what it was.
+fn pick(field: u8, own: u8, n: usize, was: usize) -> usize {
+    if field == own {
+        return n;
+    }
+    was
 }
 
+// set held N, set content N, set padding N
+fn set_position(p: Position, field: u8, n: usize) -> Position {
+    let header = p.header;
+    Position {
+        content: pick(field, CONTENT, n, p.content),
+        padding: pick(field, PADDING, n, p.padding),
+        held: pick(field, HELD, n, p.held),
+        header: header,
+    }
+}
+
+// set target skip, begin ID, query, params SLOT, stdin SLOT, data SLOT
 fn target_of(w: &[u8], n: usize) -> Target {
     if same(w, b"begin") {
         return Target::Begin(as_u16(n));
@@ -146,52 +162,46 @@ fn target_of(w: &[u8], n: usize) -> Target {
     Target::Skip
 }
 
-// set target KIND [SLOT or ID].
-fn set_target(c: Conn, target: Target) -> Conn {
-    let f = c.frame;
-    let position = f.position;
-    let body = f.body;
-    with_frame(
-        c,
-        Frame {
-            position: position,
-            target: target,
-            gathered: f.gathered,
-            body: body,
-        },
-    )
+fn pick_target(field: u8, target: Target, was: Target) -> Target {
+    if field == TARGET {
+        return target;
+    }
+    was
 }
 
-fn set_in_slot(c: Conn, line: &[u8]) -> Conn {
-    let w = word(line, 1);
-    let i = number_at(line, 2);
-    if same(w, b"id") {
-        return set_id(c, i, number_at(line, 3));
+// set gathered N, and the fields of its parts
+fn set_frame(f: Frame, field: u8, n: usize, target: Target) -> Frame {
+    let position = f.position;
+    let body = f.body;
+    let was = f.target;
+    Frame {
+        position: set_position(position, field, n),
+        target: pick_target(field, target, was),
+        gathered: pick(field, GATHERED, n, f.gathered),
+        body: body,
     }
-    if same(w, b"length") {
-        return set_length(c, i, number_at(line, 3));
+}
+
+// set open 0|1
+fn set_open(field: u8, n: usize, was: bool) -> bool {
+    if field == OPEN {
+        return n == 1;
     }
-    if same(w, b"turn") {
-        return set_turn(c, i, turn_of(word(line, 3)));
-    }
-    set_position(c, w, i)
+    was
 }
 
 // set FIELD ..: the state with that field set.
 pub fn set(c: Conn, line: &[u8]) -> Conn {
-    let w = word(line, 1);
-    let n = number_at(line, 2);
-    if same(w, b"open") {
-        return set_open(c, n);
+    let field = field_of(word(line, 1));
+    let i = number_at(line, 2);
+    let n = number_at(line, 3);
+    let turn = turn_of(word(line, 3));
+    let target = target_of(word(line, 2), n);
+    let t = c.table;
+    let f = c.frame;
+    Conn {
+        table: set_table(t, field, i, n, turn),
+        frame: set_frame(f, field, i, target),
+        open: set_open(field, i, c.open),
     }
-    if same(w, b"occupied") {
-        return set_occupied(c, n);
-    }
-    if same(w, b"gathered") {
-        return set_gathered(c, n);
-    }
-    if same(w, b"target") {
-        return set_target(c, target_of(word(line, 2), number_at(line, 3)));
-    }
-    set_in_slot(c, line)
 }

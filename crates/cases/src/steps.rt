@@ -1,5 +1,6 @@
 // Steps: what waits is fed in pieces, and what the steps tell is held to the case.
 use crate::bench::Bench;
+use crate::bench::with_check;
 use crate::bench::with_conn;
 use crate::expect::Check;
 use crate::expect::came;
@@ -110,71 +111,45 @@ fn came_told(script: &[u8], k: Check, room: usize, told: Told, piece: &[u8]) -> 
     }
 }
 
-// A bench behind a step, and the bytes that the step used; none once the connection is closed.
-struct Turn {
-    bench: Bench,
-    used: usize,
+// The bytes that a step used; none once the connection is closed.
+fn used_open(open: bool, used: usize) -> usize {
+    if open {
+        return used;
+    }
+    0
 }
 
-fn told_turn(b: Bench, script: &[u8], s: Stepped, piece: &[u8]) -> Turn {
-    let k = b.check;
-    let told = s.told;
-    let conn = s.conn;
-    let shown = came_told(script, k, b.room, told, piece);
-    let after = with_conn(b, conn, shown);
-    if conn.open {} else {
-        return Turn {
-            bench: after,
-            used: 0,
-        };
-    }
-    Turn {
-        bench: after,
-        used: s.used,
-    }
-}
-
+// A step, and what it told.
 fn take_turn(
     b: Bench,
     script: &[u8],
     store: &mut [u8],
     gathered: &mut [u8; 512],
     piece: &[u8],
-) -> Turn {
-    let c = b.conn;
-    let s = step(c, store, gathered, piece);
-    told_turn(b, script, s, piece)
-}
-
-// Steps through a piece, to its end or to a step that uses nothing.
-fn feed_piece(
-    b: Bench,
-    script: &[u8],
-    store: &mut [u8],
-    gathered: &mut [u8; 512],
-    piece: &[u8],
 ) -> Bench {
-    let mut bench = b;
-    let mut from: usize = 0;
-    while from < piece.len() {
-        let t = take_turn(
-            bench,
-            script,
-            store,
-            gathered,
-            part(piece, from, piece.len()),
-        );
-        bench = t.bench;
-        let next = plus(from, t.used);
-        if next <= from {
-            return bench;
-        }
-        from = next;
-    }
-    bench
+    let c = b.conn;
+    let lent = b.lent;
+    let s = step(c, store, gathered, piece);
+    let told = s.told;
+    let after = s.conn;
+    let used = used_open(after.open, s.used);
+    with_conn(
+        b,
+        after,
+        came_told(script, b.check, lent.room, told, piece),
+        used,
+    )
 }
 
-// Feeds what waits, in pieces; once the connection is closed the rest is dropped.
+// Where the piece ends that a place lies in.
+fn piece_end(at: usize, size: usize, end: usize) -> usize {
+    if size == 0 {
+        return end;
+    }
+    least(plus(at, minus(size, at % size)), end)
+}
+
+// Feeds what waits, in pieces, to its end or to a step that uses nothing.
 pub fn feed(
     b: Bench,
     script: &[u8],
@@ -184,16 +159,13 @@ pub fn feed(
 ) -> Bench {
     let mut bench = b;
     let mut from: usize = 0;
-    let end = b.pending;
+    let lent = b.lent;
+    let end = lent.pending;
     let k = b.check;
-    bench.pending = 0;
     while from < end {
-        let next = least(plus(from, k.size), end);
-        bench = feed_piece(bench, script, store, gathered, part(input, from, next));
-        let c = bench.conn;
-        if c.open {} else {
-            return bench;
-        }
+        let e = piece_end(from, k.size, end);
+        bench = take_turn(bench, script, store, gathered, part(input, from, e));
+        let next = plus(from, bench.used);
         if next <= from {
             return bench;
         }
@@ -207,62 +179,76 @@ pub const KEPT: usize = 40000;
 
 const GATHERED: usize = 39000;
 
-// That a refused call changed neither the state nor the store.
-pub fn unchanged(script: &[u8], k: Check, before: Conn, after: Conn) -> Check {
-    if same_state(before, after) {} else {
-        return came(script, k, b"a changed state");
+// That a refused call changed neither the state nor the lent bytes.
+pub fn unchanged(script: &[u8], k: Check, refused: bool, before: Conn, after: Conn) -> Check {
+    if refused {
+        if same_state(before, after) {} else {
+            return came(script, k, b"a changed state");
+        }
     }
     k
 }
 
-pub fn unchanged_store(script: &[u8], k: Check, kept: &[u8; KEPT], store: &[u8]) -> Check {
-    if same(part(kept, 0, store.len()), store) {} else {
-        return came(script, k, b"a changed store");
+pub fn unchanged_store(
+    script: &[u8],
+    k: Check,
+    refused: bool,
+    kept: &[u8; KEPT],
+    store: &[u8],
+) -> Check {
+    if refused {
+        if same(part(kept, 0, store.len()), store) {} else {
+            return came(script, k, b"a changed store");
+        }
     }
     k
 }
 
-fn unchanged_gathered(script: &[u8], k: Check, kept: &[u8; KEPT], gathered: &[u8; 512]) -> Check {
-    if same(part(kept, GATHERED, GATHERED + 512), gathered) {} else {
-        return came(script, k, b"changed gathered bytes");
+fn unchanged_gathered(
+    script: &[u8],
+    k: Check,
+    refused: bool,
+    kept: &[u8; KEPT],
+    gathered: &[u8; 512],
+) -> Check {
+    if refused {
+        if same(part(kept, GATHERED, GATHERED + 512), gathered) {} else {
+            return came(script, k, b"changed gathered bytes");
+        }
     }
     k
 }
 
-// What a single step told and used.
-fn told_step(b: Bench, script: &[u8], s: Stepped, piece: &[u8]) -> Check {
-    let k = b.check;
-    let told = s.told;
-    let shown = came_told(script, k, b.room, told, piece);
-    let counted = came_number(script, shown, b"used ", s.used);
-    if let Told::Refused(_) = told {
-        return unchanged(script, counted, b.conn, s.conn);
-    }
-    counted
-}
-
-fn is_refused(s: Stepped) -> bool {
-    let told = s.told;
+fn is_refused(told: Told) -> bool {
     match told {
         Told::Event(_) => false,
         Told::Refused(_) => true,
     }
 }
 
-// What is kept of the lent bytes before a step, held to them behind it, where the step is refused.
+// What a single step told and used, and what it left.
+fn told_step(b: Bench, script: &[u8], s: Stepped, piece: &[u8]) -> Bench {
+    let before = b.conn;
+    let lent = b.lent;
+    let told = s.told;
+    let after = s.conn;
+    let shown = came_told(script, b.check, lent.room, told, piece);
+    let counted = came_number(script, shown, b"used ", s.used);
+    let checked = unchanged(script, counted, is_refused(told), before, after);
+    with_conn(b, after, checked, 0)
+}
+
+// What is kept, held to the lent bytes.
 fn checked_step(
     k: Check,
     script: &[u8],
+    refused: bool,
     kept: &[u8; KEPT],
     store: &[u8],
     gathered: &[u8; 512],
-    refused: bool,
 ) -> Check {
-    if refused {
-        let checked = unchanged_store(script, k, kept, store);
-        return unchanged_gathered(script, checked, kept, gathered);
-    }
-    k
+    let checked = unchanged_store(script, k, refused, kept, store);
+    unchanged_gathered(script, checked, refused, kept, gathered)
 }
 
 // step BYTES: one step.
@@ -273,13 +259,19 @@ pub fn one_step(
     gathered: &mut [u8; 512],
     piece: &[u8],
 ) -> Bench {
-    let before = b.conn;
     let mut kept = [0u8; KEPT];
     copy_into(&mut kept, 0, store);
     copy_into(&mut kept, GATHERED, gathered);
-    let s = step(before, store, gathered, piece);
-    let after = s.conn;
-    let told = told_step(b, script, s, piece);
-    let checked = checked_step(told, script, &kept, store, gathered, is_refused(s));
-    with_conn(b, after, checked)
+    let s = step(b.conn, store, gathered, piece);
+    let told = s.told;
+    let after = told_step(b, script, s, piece);
+    let checked = checked_step(
+        after.check,
+        script,
+        is_refused(told),
+        &kept,
+        store,
+        gathered,
+    );
+    with_check(after, checked)
 }
