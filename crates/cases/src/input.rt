@@ -1,15 +1,15 @@
 // What a web server sends: records and bytes that wait to be fed.
-use crate::notation::put;
-use crate::notation::put_all;
-use crate::notation::put_bytes;
-use crate::notation::put_times;
-use crate::text::as_u8;
-use crate::text::id_at;
-use crate::text::minus;
-use crate::text::number_at;
-use crate::text::plus;
-use crate::text::rest;
-use crate::text::word;
+use harness::notation::put;
+use harness::notation::put_all;
+use harness::notation::put_bytes;
+use harness::notation::put_times;
+use harness::text::as_u8;
+use harness::text::id_at;
+use harness::text::minus;
+use harness::text::number_at;
+use harness::text::plus;
+use harness::text::rest;
+use harness::text::word;
 use pairs::name::same;
 use record::names;
 

@@ -1,38 +1,32 @@
 // Runs the cases of a script that comes on standard input, and prints a line for each. A case says what the web
 // server sends and what the station calls, and what must come of it; it is run with pieces of 1, 7 and 8 bytes and
 // with whole ones.
-mod bench;
 mod calls;
-mod expect;
-mod image;
 mod input;
-mod notation;
 mod state;
-mod steps;
-mod text;
 
-use bench::Bench;
-use bench::Lent;
-use bench::with_lent;
 use calls::call;
 use connection::sizes::STORE;
 use connection::state::Conn;
-use expect::Check;
-use expect::over;
-use expect::print_case;
+use harness::bench::Bench;
+use harness::bench::Lent;
+use harness::bench::with_lent;
+use harness::expect::Check;
+use harness::expect::over;
+use harness::expect::print_case;
+use harness::notation::put_times;
+use harness::steps::FILL;
+use harness::steps::ROOM;
+use harness::steps::feed;
+use harness::text::byte_at;
+use harness::text::find;
+use harness::text::part;
+use harness::text::plus;
 use input::put_input;
 use libc::STDIN_FILENO;
-use notation::put_times;
 use pairs::name::same;
 use starting::closed;
 use starting::start;
-use steps::FILL;
-use steps::ROOM;
-use steps::feed;
-use text::byte_at;
-use text::find;
-use text::part;
-use text::plus;
 
 // Whether a case begins with the line at a place.
 fn begins_case(script: &[u8], at: usize) -> bool {

@@ -1,14 +1,14 @@
 // States that no run comes to: one field set.
-use crate::text::as_u8;
-use crate::text::as_u16;
-use crate::text::number_at;
-use crate::text::word;
 use connection::request::Mark;
 use connection::request::Turn;
 use connection::state::Conn;
 use connection::state::Frame;
 use connection::state::Table;
 use connection::state::Target;
+use harness::text::as_u8;
+use harness::text::as_u16;
+use harness::text::number_at;
+use harness::text::word;
 use pairs::name::same;
 use reader::Position;
 
