@@ -1,5 +1,4 @@
 // What a web server sends: records and bytes that wait to be fed.
-use harness::notation::put;
 use harness::notation::put_all;
 use harness::notation::put_bytes;
 use harness::notation::put_times;

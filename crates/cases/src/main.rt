@@ -4,6 +4,7 @@
 mod calls;
 mod input;
 mod state;
+mod verbs;
 
 use calls::call;
 use connection::sizes::STORE;

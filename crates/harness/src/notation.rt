@@ -1,5 +1,4 @@
 // Bytes as text: a printable byte stands for itself, \hh for a byte in hex, \{n}B for n times the byte B.
-use crate::text::as_u8;
 use crate::text::byte_at;
 use crate::text::find;
 use crate::text::number;

@@ -1,4 +1,4 @@
-// The words, numbers and bytes of a script. Every function answers for any text: what lies outside of it is empty, or 0.
+// The words and numbers of a script. Every function answers for any text: what lies outside of it is empty, or 0.
 ghost use Prim.Native.Nat.{_<_};
 
 pub fn byte_at(s: &[u8], at: usize) -> u8 {
