@@ -1,0 +1,216 @@
+// The questions: they change nothing.
+use crate::command::Ask;
+use crate::page::put;
+use crate::page::put_hex;
+use crate::page::put_next;
+use crate::page::put_number;
+use crate::words::part;
+use crate::write::put_refused;
+use admit::Count;
+use admit::active_count;
+use connection::sizes::AREA;
+use connection::sizes::SLOTS;
+use connection::state::Conn;
+use connection::state::Slot;
+use connection::state::Table;
+use numbers::refusal_number;
+use occupancy::is_taken;
+use pairs::pair::Pair;
+use pairs::pair::Read;
+use pairs::pair::read_pair;
+use parameters::Numbered;
+use parameters::Source;
+use parameters::pair_at;
+use parameters::value;
+use parameters::value_source;
+use walk::list_of;
+use walk::list_refusal;
+use wire::least;
+
+// Where a value comes from.
+fn put_source(page: &mut [u8], at: usize, source: Source) -> usize {
+    match source {
+        Source::Store => put(page, at, b"store"),
+        Source::Fallback => put(page, at, b"fallback"),
+        Source::Refused(why) => put_refused(page, at, refusal_number(why)),
+    }
+}
+
+fn ask_value(
+    page: &mut [u8],
+    at: usize,
+    c: Conn,
+    lent: &[u8],
+    id: u16,
+    name: &[u8],
+    fallback: &[u8],
+) -> usize {
+    let source = value_source(c, lent, id, name);
+    let place = put_source(page, at, source);
+    let found = value(c, lent, id, name, fallback);
+    put_hex(page, place, found)
+}
+
+fn put_pair(page: &mut [u8], at: usize, p: Pair) -> usize {
+    let a = put(page, at, b"pair");
+    let b = put_next(page, a, p.name as u64);
+    let d = put_next(page, b, p.name_len as u64);
+    let e = put_next(page, d, p.value as u64);
+    put_next(page, e, p.value_len as u64)
+}
+
+fn ask_pair(page: &mut [u8], at: usize, c: Conn, lent: &[u8], id: u16, k: usize) -> usize {
+    let found = pair_at(c, lent, id, k);
+    match found {
+        Numbered::Pair(p) => put_pair(page, at, p),
+        Numbered::Refused(why) => put_refused(page, at, refusal_number(why)),
+    }
+}
+
+// A comma and a number.
+fn put_comma(page: &mut [u8], at: usize, n: u64) -> usize {
+    let a = put(page, at, b",");
+    put_number(page, a, n)
+}
+
+// A pair of a walk: a space, and its places and lengths between commas.
+fn put_span(page: &mut [u8], at: usize, p: Pair) -> usize {
+    let a = put_next(page, at, p.name as u64);
+    let b = put_comma(page, a, p.name_len as u64);
+    let d = put_comma(page, b, p.value as u64);
+    put_comma(page, d, p.value_len as u64)
+}
+
+fn put_stop(page: &mut [u8], at: usize, place: usize) -> usize {
+    let a = put(page, at, b" stop");
+    put_next(page, a, place as u64)
+}
+
+// The pairs that reading on gives, and the place where it gives none. A proved loop has to end: so it counts its turns
+// down, from a number that no list uses up.
+fn put_walk(page: &mut [u8], at: usize, c: Conn, lent: &[u8], id: u16) -> usize {
+    let mut next = at;
+    let mut place: usize = 0;
+    let mut turns = u64::MAX;
+    while turns > 0 {
+        let read = read_pair(list_of(c, lent, id), place);
+        let Read::Pair(p, behind) = read else {
+            return put_stop(page, next, place);
+        };
+        next = put_span(page, next, p);
+        place = behind;
+        turns -= 1;
+    }
+    put_stop(page, next, place)
+}
+
+fn ask_walk(page: &mut [u8], at: usize, c: Conn, lent: &[u8], id: u16) -> usize {
+    let why = list_refusal(c, lent, id);
+    if 0 < why {
+        return put_refused(page, at, why);
+    }
+    let list = list_of(c, lent, id);
+    let length = list.len();
+    let a = put(page, at, b"walk");
+    let b = put_next(page, a, length as u64);
+    put_walk(page, b, c, lent, id)
+}
+
+fn ask_active(page: &mut [u8], at: usize, c: Conn) -> usize {
+    let count = active_count(c);
+    match count {
+        Count::Active(n) => {
+            let a = put(page, at, b"active");
+            put_next(page, a, n as u64)
+        }
+        Count::Refused(why) => put_refused(page, at, refusal_number(why)),
+    }
+}
+
+// Whether slot i is taken and has that id.
+fn has(t: Table, i: usize, id: u16) -> bool {
+    if i < SLOTS {
+        if is_taken(t.occupied, i) {
+            return t.ids[i] == id;
+        }
+    }
+    false
+}
+
+// The first taken slot that has that id.
+fn first_with(t: Table, id: u16) -> Slot {
+    let mut i: usize = 0;
+    while i < SLOTS {
+        if has(t, i, id) {
+            return Slot::At(i);
+        }
+        i += 1;
+    }
+    Slot::Nowhere
+}
+
+// The bytes of slot i's area up to its length, or all of them.
+fn area_of<'a>(t: Table, store: &'a [u8], i: usize) -> &'a [u8] {
+    let z: usize = 0;
+    if i < SLOTS {
+        let from = i * AREA;
+        let n = least(t.lengths[i] as usize, AREA);
+        return part(store, from, from + n);
+    }
+    &store[z..z]
+}
+
+fn ask_area(page: &mut [u8], at: usize, c: Conn, store: &[u8], id: u16) -> usize {
+    let t = c.table;
+    let slot = first_with(t, id);
+    let Slot::At(i) = slot else {
+        return put(page, at, b"none");
+    };
+    let a = put(page, at, b"area");
+    put_hex(page, a, area_of(t, store, i))
+}
+
+// 0 for a zero, else 1.
+fn weight(b: u8) -> u64 {
+    if b == 0 { 0 } else { 1 }
+}
+
+fn ask_store(page: &mut [u8], at: usize, store: &[u8]) -> usize {
+    let mut n: u64 = 0;
+    let mut i: usize = 0;
+    while i < store.len() {
+        n = n + weight(store[i]);
+        i += 1;
+    }
+    let a = put(page, at, b"store");
+    put_next(page, a, n)
+}
+
+// Answers a question, over the store and as much of it as is lent.
+pub fn ask(
+    page: &mut [u8],
+    at: usize,
+    c: Conn,
+    q: Ask,
+    store: &[u8],
+    lent: usize,
+    bytes: &[u8],
+) -> usize {
+    let seen = part(store, 0, lent);
+    match q {
+        Ask::Value(id, n, m) => ask_value(
+            page,
+            at,
+            c,
+            seen,
+            id,
+            part(bytes, 0, n),
+            part(bytes, n, m),
+        ),
+        Ask::Pair(id, k) => ask_pair(page, at, c, seen, id, k),
+        Ask::Walk(id) => ask_walk(page, at, c, seen, id),
+        Ask::Active => ask_active(page, at, c),
+        Ask::Area(id) => ask_area(page, at, c, store, id),
+        Ask::Store => ask_store(page, at, store),
+    }
+}

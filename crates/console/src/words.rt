@@ -1,0 +1,70 @@
+// A line cut into words. Between two words stands one space: two spaces have a word of no characters between them.
+ghost use Prim.Native.Nat.{_≤_};
+
+// The bytes of s from a to e; none where there is no such part.
+pub fn part<'a>(s: &'a [u8], a: usize, e: usize) -> &'a [u8] {
+    if a <= e {
+        if e <= s.len() {
+            return &s[a..e];
+        }
+    }
+    let z: usize = 0;
+    &s[z..z]
+}
+
+// 1 for a space, else 0.
+fn space(b: u8) -> usize
+    ensures { λ r. ⌜ r ≤ 1 ⌝ }
+{
+    if b == 32 { 1 } else { 0 }
+}
+
+// How many spaces a line has: it has one word more.
+pub fn spaces(line: &[u8]) -> usize {
+    let mut n: usize = 0;
+    let mut i: usize = 0;
+    while i < line.len() {
+        n = n + space(line[i]);
+        i += 1;
+    }
+    n
+}
+
+// The place of the first space from a place on, or the line's end.
+fn word_end(line: &[u8], from: usize) -> usize {
+    let mut i = from;
+    while i < line.len() {
+        if line[i] == 32 {
+            return i;
+        }
+        i += 1;
+    }
+    i
+}
+
+// The place behind the first space from a place on, or the line's end.
+fn past_space(line: &[u8], from: usize) -> usize {
+    let e = word_end(line, from);
+    if e < line.len() {
+        return e + 1;
+    }
+    e
+}
+
+// Where word k begins, counted from 0.
+fn word_start(line: &[u8], k: usize) -> usize {
+    let mut at: usize = 0;
+    let mut i: usize = 0;
+    while i < k {
+        at = past_space(line, at);
+        i += 1;
+    }
+    at
+}
+
+// Word k of a line, counted from 0.
+pub fn word<'a>(line: &'a [u8], k: usize) -> &'a [u8] {
+    let a = word_start(line, k);
+    let e = word_end(line, a);
+    part(line, a, e)
+}
