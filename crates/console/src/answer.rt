@@ -1,14 +1,20 @@
 // A line answered.
 use crate::ask::ask;
-use crate::command::Command;
-use crate::command::Write;
+use crate::command::LEND;
+use crate::command::START;
+use crate::command::STEP;
+use crate::command::is_question;
 use crate::command::read_command;
+use crate::command::read_field;
+use crate::command::read_target;
+use crate::command::room_of;
+use crate::form::Form;
+use crate::form::UNKNOWN;
 use crate::page::put;
-use crate::poke::Poke;
+use crate::poke::aimed;
 use crate::poke::poke_gathered;
 use crate::poke::poke_store;
 use crate::poke::poked;
-use crate::poke_words::read_poke;
 use crate::room::fill;
 use crate::state::State;
 use crate::state::with_conn;
@@ -16,6 +22,7 @@ use crate::state::with_place;
 use crate::told::last_event;
 use crate::told::put_told;
 use crate::words::part;
+use crate::words::rest;
 use crate::words::word;
 use crate::write::call;
 use crate::write::put_effect;
@@ -88,7 +95,7 @@ fn step_on(
 // A call that writes into the lent room.
 fn write_on(
     s: State,
-    w: Write,
+    f: Form,
     lent: &mut [u8],
     bytes: &[u8],
     room: &mut [u8],
@@ -96,84 +103,89 @@ fn write_on(
 ) -> State {
     let c = s.conn;
     let e = s.event;
+    let values = f.values;
     fill(room);
-    let called = call(c, e, w, lent, bytes, room);
+    let called = call(c, e, f.kind, values, lent, bytes, room);
     let effect = called.effect;
     let conn = called.conn;
     let at = put_effect(page, s.at, effect, room);
     with_conn(s, conn, at)
 }
 
-// A call that writes, with so much of the buffer as its room.
-fn write_in(
-    s: State,
-    w: Write,
-    n: usize,
-    lent: &mut [u8],
-    bytes: &[u8],
-    out: &mut [u8],
-    page: &mut [u8],
-) -> State {
-    let z: usize = 0;
-    let e = least(n, out.len());
-    write_on(s, w, lent, bytes, &mut out[z..e], page)
-}
-
-// What a command that is no question does.
+// What a command does, over the lent part of the store and with so much of the buffer as its room.
 fn perform(
     s: State,
-    c: Command,
+    f: Form,
     lent: &mut [u8],
     gathered: &mut [u8; 512],
     bytes: &[u8],
     out: &mut [u8],
     page: &mut [u8],
 ) -> State {
-    match c {
-        Command::Start => start_anew(s, lent, gathered, page),
-        Command::Lend(n) => lend(s, n, page),
-        Command::Step(n) => step_on(s, lent, gathered, part(bytes, 0, n), page),
-        Command::Write(w, n) => write_in(s, w, n, lent, bytes, out, page),
-        _ => plainly(s, page, b"what"),
+    let values = f.values;
+    let n = values[0] as usize;
+    let z: usize = 0;
+    let e = least(room_of(f), out.len());
+    match f.kind {
+        START => start_anew(s, lent, gathered, page),
+        LEND => lend(s, n, page),
+        STEP => step_on(s, lent, gathered, part(bytes, 0, n), page),
+        _ => write_on(s, f, lent, bytes, &mut out[z..e], page),
     }
 }
 
 // A command over the store, of which the first bytes are lent.
 fn command(
     s: State,
-    c: Command,
+    f: Form,
     store: &mut [u8],
     gathered: &mut [u8; 512],
     bytes: &[u8],
     out: &mut [u8],
     page: &mut [u8],
 ) -> State {
-    if let Command::Ask(q) = c {
-        let conn = s.conn;
-        let at = ask(page, s.at, conn, q, store, s.lent, bytes);
+    if is_question(f.kind) {
+        let c = s.conn;
+        let values = f.values;
+        let at = ask(page, s.at, c, f.kind, values, store, s.lent, bytes);
         return with_place(s, at);
     }
     let z: usize = 0;
     let e = least(s.lent, store.len());
-    perform(s, c, &mut store[z..e], gathered, bytes, out, page)
+    perform(s, f, &mut store[z..e], gathered, bytes, out, page)
+}
+
+// Sets what the content is for.
+fn poke_target(s: State, f: Form, page: &mut [u8]) -> State {
+    if f.kind == UNKNOWN {
+        return plainly(s, page, b"what");
+    }
+    let c = s.conn;
+    let values = f.values;
+    let conn = aimed(c, f.kind, values[0]);
+    let at = put(page, s.at, b"ok");
+    with_conn(s, conn, at)
 }
 
 // Sets a field.
 fn poke(
     s: State,
-    p: Poke,
+    f: Form,
     store: &mut [u8],
     gathered: &mut [u8; 512],
     bytes: &[u8],
     page: &mut [u8],
 ) -> State {
-    if let Poke::What = p {
+    if f.kind == UNKNOWN {
         return plainly(s, page, b"what");
     }
-    poke_store(p, store);
-    poke_gathered(p, gathered, bytes);
     let c = s.conn;
-    let conn = poked(c, p, bytes);
+    let values = f.values;
+    let a = values[0];
+    let b = values[1];
+    poke_store(store, f.kind, a, b);
+    poke_gathered(gathered, f.kind, a, bytes);
+    let conn = poked(c, f.kind, a, b, bytes);
     let at = put(page, s.at, b"ok");
     with_conn(s, conn, at)
 }
@@ -188,10 +200,15 @@ pub fn answer(
     out: &mut [u8],
     page: &mut [u8],
 ) -> State {
-    if same(word(line, 0), b"poke") {
-        let p = read_poke(line, bytes);
-        return poke(s, p, store, gathered, bytes, page);
+    let name = word(line, 0);
+    if same(name, b"poke") {
+        let field = rest(line);
+        if same(word(field, 0), b"target") {
+            return poke_target(s, read_target(rest(field), bytes), page);
+        }
+        let f = read_field(field, bytes);
+        return poke(s, f, store, gathered, bytes, page);
     }
-    let c = read_command(line, bytes);
-    command(s, c, store, gathered, bytes, out, page)
+    let f = read_command(line, bytes);
+    command(s, f, store, gathered, bytes, out, page)
 }

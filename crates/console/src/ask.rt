@@ -1,5 +1,11 @@
 // The questions: they change nothing.
-use crate::command::Ask;
+use crate::command::ACTIVE;
+use crate::command::AREA_OF;
+use crate::command::PAIR;
+use crate::command::STORE;
+use crate::command::VALUE;
+use crate::command::WALK;
+use crate::number::low16;
 use crate::page::put;
 use crate::page::put_hex;
 use crate::page::put_next;
@@ -36,14 +42,14 @@ fn put_source(page: &mut [u8], at: usize, source: Source) -> usize {
     }
 }
 
-fn ask_value(
+fn ask_value<'a>(
     page: &mut [u8],
     at: usize,
     c: Conn,
-    lent: &[u8],
+    lent: &'a [u8],
     id: u16,
     name: &[u8],
-    fallback: &[u8],
+    fallback: &'a [u8],
 ) -> usize {
     let source = value_source(c, lent, id, name);
     let place = put_source(page, at, source);
@@ -186,31 +192,28 @@ fn ask_store(page: &mut [u8], at: usize, store: &[u8]) -> usize {
     put_next(page, a, n)
 }
 
-// Answers a question, over the store and as much of it as is lent.
-pub fn ask(
+// Answers a question with its arguments, over the store and as much of it as is lent.
+pub fn ask<'a>(
     page: &mut [u8],
     at: usize,
     c: Conn,
-    q: Ask,
-    store: &[u8],
+    kind: u64,
+    values: [u64; 4],
+    store: &'a [u8],
     lent: usize,
-    bytes: &[u8],
+    bytes: &'a [u8],
 ) -> usize {
     let seen = part(store, 0, lent);
-    match q {
-        Ask::Value(id, n, m) => ask_value(
-            page,
-            at,
-            c,
-            seen,
-            id,
-            part(bytes, 0, n),
-            part(bytes, n, m),
-        ),
-        Ask::Pair(id, k) => ask_pair(page, at, c, seen, id, k),
-        Ask::Walk(id) => ask_walk(page, at, c, seen, id),
-        Ask::Active => ask_active(page, at, c),
-        Ask::Area(id) => ask_area(page, at, c, store, id),
-        Ask::Store => ask_store(page, at, store),
+    let id = low16(values[0]);
+    let n = values[1] as usize;
+    let m = values[2] as usize;
+    match kind {
+        ACTIVE => ask_active(page, at, c),
+        STORE => ask_store(page, at, store),
+        WALK => ask_walk(page, at, c, seen, id),
+        AREA_OF => ask_area(page, at, c, store, id),
+        PAIR => ask_pair(page, at, c, seen, id, n),
+        VALUE => ask_value(page, at, c, seen, id, part(bytes, 0, n), part(bytes, n, m)),
+        _ => put(page, at, b"what"),
     }
 }

@@ -1,12 +1,7 @@
 // Bytes in hex.
+use crate::number::Number;
 use pairs::name::same;
 ghost use Prim.Native.Nat.{_≤_};
-
-// Where the bytes of a word end in the buffer that they were put into, or no bytes in hex.
-pub enum Decoded {
-    To(usize),
-    Not,
-}
 
 // What a digit stands for; 16 for any other character.
 fn digit(b: u8) -> u8
@@ -27,8 +22,8 @@ fn digit(b: u8) -> u8
     16
 }
 
-// The bytes of a word of pairs of digits, put into a buffer from a place on.
-fn decode_pairs(word: &[u8], bytes: &mut [u8], at: usize) -> Decoded {
+// Puts the bytes of a word of pairs of digits into a buffer from a place on, and answers where they end.
+fn decode_pairs(word: &[u8], bytes: &mut [u8], at: usize) -> Number {
     let n = word.len() / 2;
     let mut to = at;
     let mut i: usize = 0;
@@ -36,31 +31,34 @@ fn decode_pairs(word: &[u8], bytes: &mut [u8], at: usize) -> Decoded {
         let high = digit(word[2 * i]);
         let low = digit(word[2 * i + 1]);
         if 16 <= high {
-            return Decoded::Not;
+            return Number::Not;
         }
         if 16 <= low {
-            return Decoded::Not;
+            return Number::Not;
         }
         if bytes.len() <= to {
-            return Decoded::Not;
+            return Number::Not;
         }
         bytes[to] = high * 16 + low;
         to += 1;
         i += 1;
     }
-    Decoded::To(to)
+    Number::Is(to as u64)
 }
 
-// The bytes of a word, put into a buffer from a place on; `-` is no bytes.
-pub fn decode(word: &[u8], bytes: &mut [u8], at: usize) -> Decoded {
-    if word.len() == 0 {
-        return Decoded::Not;
-    }
+// Puts at most so many bytes of a word into a buffer from a place on, and answers where they end; `-` is no bytes.
+pub fn decode(word: &[u8], most: usize, bytes: &mut [u8], at: usize) -> Number {
     if same(word, b"-") {
-        return Decoded::To(at);
+        return Number::Is(at as u64);
+    }
+    if word.len() == 0 {
+        return Number::Not;
     }
     if word.len() % 2 == 1 {
-        return Decoded::Not;
+        return Number::Not;
+    }
+    if most < word.len() / 2 {
+        return Number::Not;
     }
     decode_pairs(word, bytes, at)
 }

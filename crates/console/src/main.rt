@@ -2,11 +2,11 @@
 mod answer;
 mod ask;
 mod command;
+mod form;
 mod hex;
 mod number;
 mod page;
 mod poke;
-mod poke_words;
 mod room;
 mod state;
 mod told;

@@ -33,7 +33,7 @@ fn digits(word: &[u8]) -> Number {
 }
 
 // The number of one to twenty digits that a word is, where it is not over the most that its place takes.
-pub fn number(word: &[u8], most: u64) -> Number {
+pub fn number_of(word: &[u8], most: u64) -> Number {
     if word.len() == 0 {
         return Number::Not;
     }

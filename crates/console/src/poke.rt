@@ -1,4 +1,6 @@
-// Fields of the state set to whatever is given.
+// Fields of the state set to whatever is given. A field has the number of its name in the table of fields.
+use crate::number::low8;
+use crate::number::low16;
 use crate::words::part;
 use connection::request::Life;
 use connection::request::Mark;
@@ -12,296 +14,228 @@ use connection::state::Target;
 use reader::Position;
 use wire::clear;
 use wire::copy_into;
+use wire::least;
 
-// A mark of a request.
-pub enum Field {
-    Role(Role),
-    Turn(Turn),
-    Life(Life),
-    Keep(bool),
-    OutEnded(bool),
-    ErrUsed(bool),
-    ErrEnded(bool),
-}
+// Fields that are one for the connection.
+pub const OPEN: u64 = 0;
 
-// A number of the record being read.
-pub enum Count {
-    Held(usize),
-    Content(usize),
-    Padding(usize),
-    Gathered(usize),
-}
+pub const OCCUPIED: u64 = 1;
 
-// What is set. `Header` and `Body` are followed by as many bytes.
-pub enum Poke {
-    What,
-    Open(bool),
-    Occupied(u16),
-    Id(usize, u16),
-    Length(usize, u16),
-    Mark(usize, Field),
-    Count(Count),
-    Target(Target),
-    Header(usize),
-    Body(usize),
-    Byte(usize, u8),
-}
+// Fields of a slot.
+pub const ID: u64 = 2;
 
-fn with_role(m: Mark, role: Role) -> Mark {
-    let turn = m.turn;
-    let life = m.life;
-    Mark {
-        role: role,
-        turn: turn,
-        life: life,
-        keep: m.keep,
-        out_ended: m.out_ended,
-        err_used: m.err_used,
-        err_ended: m.err_ended,
+pub const LENGTH: u64 = 3;
+
+pub const ROLE: u64 = 4;
+
+pub const KEEP: u64 = 5;
+
+pub const TURN: u64 = 6;
+
+pub const SPENT: u64 = 7;
+
+pub const OUT_ENDED: u64 = 8;
+
+pub const ERR_USED: u64 = 9;
+
+pub const ERR_ENDED: u64 = 10;
+
+// Fields of the record being read.
+pub const HELD: u64 = 11;
+
+pub const HEADER: u64 = 12;
+
+pub const CONTENT: u64 = 13;
+
+pub const PADDING: u64 = 14;
+
+pub const GATHERED: u64 = 15;
+
+pub const BODY: u64 = 16;
+
+// A byte of the store.
+pub const BYTE: u64 = 17;
+
+fn role_of(n: u64) -> Role {
+    match n {
+        0 => Role::Responder,
+        1 => Role::Authorizer,
+        _ => Role::Filter,
     }
 }
 
-fn with_turn(m: Mark, turn: Turn) -> Mark {
-    let role = m.role;
-    let life = m.life;
-    Mark {
-        role: role,
-        turn: turn,
-        life: life,
-        keep: m.keep,
-        out_ended: m.out_ended,
-        err_used: m.err_used,
-        err_ended: m.err_ended,
+fn turn_of(n: u64) -> Turn {
+    match n {
+        0 => Turn::Params,
+        1 => Turn::Stdin,
+        2 => Turn::Data,
+        _ => Turn::Done,
     }
 }
 
-fn with_life(m: Mark, life: Life) -> Mark {
-    let role = m.role;
-    let turn = m.turn;
-    Mark {
-        role: role,
-        turn: turn,
-        life: life,
-        keep: m.keep,
-        out_ended: m.out_ended,
-        err_used: m.err_used,
-        err_ended: m.err_ended,
+fn life_of(n: u64) -> Life {
+    match n {
+        0 => Life::Live,
+        1 => Life::Faulted,
+        _ => Life::Aborted,
     }
 }
 
-fn with_keep(m: Mark, b: bool) -> Mark {
-    let mut n = m;
-    n.keep = b;
-    n
-}
-
-fn with_out_ended(m: Mark, b: bool) -> Mark {
-    let mut n = m;
-    n.out_ended = b;
-    n
-}
-
-fn with_err_used(m: Mark, b: bool) -> Mark {
-    let mut n = m;
-    n.err_used = b;
-    n
-}
-
-fn with_err_ended(m: Mark, b: bool) -> Mark {
-    let mut n = m;
-    n.err_ended = b;
-    n
-}
-
-fn with_field(m: Mark, field: Field) -> Mark {
-    match field {
-        Field::Role(role) => with_role(m, role),
-        Field::Turn(turn) => with_turn(m, turn),
-        Field::Life(life) => with_life(m, life),
-        Field::Keep(b) => with_keep(m, b),
-        Field::OutEnded(b) => with_out_ended(m, b),
-        Field::ErrUsed(b) => with_err_used(m, b),
-        Field::ErrEnded(b) => with_err_ended(m, b),
+// The target of a number in the table of targets.
+fn target_of(n: u64, value: u64) -> Target {
+    match n {
+        0 => Target::Skip,
+        1 => Target::Begin(low16(value)),
+        2 => Target::Query,
+        3 => Target::Params(low8(value)),
+        4 => Target::Stdin(low8(value)),
+        _ => Target::Data(low8(value)),
     }
 }
 
-fn with_mark(t: Table, i: usize, field: Field) -> Table {
-    let mut table = t;
-    if i < SLOTS {
-        let mark = t.marks[i];
-        table.marks[i] = with_field(mark, field);
+fn role_if(hit: bool, n: u64, before: Role) -> Role {
+    if hit {
+        return role_of(n);
     }
-    table
+    before
 }
 
-fn with_id(t: Table, i: usize, id: u16) -> Table {
-    let mut table = t;
-    if i < SLOTS {
-        table.ids[i] = id;
+fn turn_if(hit: bool, n: u64, before: Turn) -> Turn {
+    if hit {
+        return turn_of(n);
     }
-    table
+    before
 }
 
-fn with_length(t: Table, i: usize, length: u16) -> Table {
-    let mut table = t;
-    if i < SLOTS {
-        table.lengths[i] = length;
+fn life_if(hit: bool, n: u64, before: Life) -> Life {
+    if hit {
+        return life_of(n);
     }
-    table
+    before
 }
 
-fn with_occupied(t: Table, occupied: u16) -> Table {
-    let mut table = t;
-    table.occupied = occupied;
-    table
-}
-
-fn with_held(p: Position, held: usize) -> Position {
-    let mut q = p;
-    q.held = held;
-    q
-}
-
-fn with_content(p: Position, content: usize) -> Position {
-    let mut q = p;
-    q.content = content;
-    q
-}
-
-fn with_padding(p: Position, padding: usize) -> Position {
-    let mut q = p;
-    q.padding = padding;
-    q
-}
-
-fn with_header(p: Position, header: [u8; 8]) -> Position {
-    Position {
-        content: p.content,
-        padding: p.padding,
-        held: p.held,
-        header: header,
+fn flag_if(hit: bool, n: u64, before: bool) -> bool {
+    if hit {
+        return n == 1;
     }
+    before
 }
 
-fn with_position(f: Frame, p: Position) -> Frame {
-    let target = f.target;
-    let body = f.body;
-    Frame {
-        position: p,
-        target: target,
-        gathered: f.gathered,
-        body: body,
+fn count_if(hit: bool, n: u64, before: usize) -> usize {
+    if hit {
+        return n as usize;
     }
-}
-
-fn with_gathered(f: Frame, gathered: usize) -> Frame {
-    let mut g = f;
-    g.gathered = gathered;
-    g
-}
-
-fn with_target(f: Frame, target: Target) -> Frame {
-    let position = f.position;
-    let body = f.body;
-    Frame {
-        position: position,
-        target: target,
-        gathered: f.gathered,
-        body: body,
-    }
-}
-
-fn with_body(f: Frame, body: [u8; 8]) -> Frame {
-    let position = f.position;
-    let target = f.target;
-    Frame {
-        position: position,
-        target: target,
-        gathered: f.gathered,
-        body: body,
-    }
-}
-
-fn with_count(f: Frame, count: Count) -> Frame {
-    let p = f.position;
-    match count {
-        Count::Held(n) => with_position(f, with_held(p, n)),
-        Count::Content(n) => with_position(f, with_content(p, n)),
-        Count::Padding(n) => with_position(f, with_padding(p, n)),
-        Count::Gathered(n) => with_gathered(f, n),
-    }
+    before
 }
 
 // The first eight bytes, zeros after those given.
-fn first_eight(bytes: &[u8]) -> [u8; 8] {
-    let mut eight = [0u8; 8];
-    if bytes.len() < 8 {
+fn eight_if(hit: bool, bytes: &[u8], before: [u8; 8]) -> [u8; 8] {
+    if hit {
+        let mut eight = [0u8; 8];
         copy_into(&mut eight, 0, bytes);
         return eight;
     }
-    copy_into(&mut eight, 0, part(bytes, 0, 8));
-    eight
+    before
 }
 
-fn new_table(t: Table, p: Poke) -> Table {
-    match p {
-        Poke::Occupied(w) => with_occupied(t, w),
-        Poke::Id(i, id) => with_id(t, i, id),
-        Poke::Length(i, n) => with_length(t, i, n),
-        Poke::Mark(i, field) => with_mark(t, i, field),
-        _ => t,
+fn mark_with(m: Mark, field: u64, n: u64) -> Mark {
+    let role = m.role;
+    let turn = m.turn;
+    let life = m.life;
+    Mark {
+        role: role_if(field == ROLE, n, role),
+        turn: turn_if(field == TURN, n, turn),
+        life: life_if(field == SPENT, n, life),
+        keep: flag_if(field == KEEP, n, m.keep),
+        out_ended: flag_if(field == OUT_ENDED, n, m.out_ended),
+        err_used: flag_if(field == ERR_USED, n, m.err_used),
+        err_ended: flag_if(field == ERR_ENDED, n, m.err_ended),
     }
 }
 
-fn new_frame(f: Frame, p: Poke, bytes: &[u8]) -> Frame {
-    let position = f.position;
-    match p {
-        Poke::Count(count) => with_count(f, count),
-        Poke::Target(target) => with_target(f, target),
-        Poke::Header(n) => {
-            let header = first_eight(part(bytes, 0, n));
-            with_position(f, with_header(position, header))
-        }
-        Poke::Body(n) => {
-            let body = first_eight(part(bytes, 0, n));
-            with_body(f, body)
-        }
-        _ => f,
+fn number_if(hit: bool, n: u64, before: u16) -> u16 {
+    if hit {
+        return low16(n);
+    }
+    before
+}
+
+// The table with its word, or a field of slot a, set.
+fn table_with(t: Table, field: u64, a: u64, b: u64) -> Table {
+    let i = a as usize;
+    let mut table = t;
+    table.occupied = number_if(field == OCCUPIED, a, t.occupied);
+    if i < SLOTS {
+        let mark = t.marks[i];
+        table.ids[i] = number_if(field == ID, b, t.ids[i]);
+        table.lengths[i] = number_if(field == LENGTH, b, t.lengths[i]);
+        table.marks[i] = mark_with(mark, field, b);
+    }
+    table
+}
+
+fn frame_with(f: Frame, field: u64, n: u64, bytes: &[u8]) -> Frame {
+    let p = f.position;
+    let target = f.target;
+    let body = f.body;
+    let header = p.header;
+    Frame {
+        position: Position {
+            content: count_if(field == CONTENT, n, p.content),
+            padding: count_if(field == PADDING, n, p.padding),
+            held: count_if(field == HELD, n, p.held),
+            header: eight_if(field == HEADER, bytes, header),
+        },
+        target: target,
+        gathered: count_if(field == GATHERED, n, f.gathered),
+        body: eight_if(field == BODY, bytes, body),
     }
 }
 
-fn new_open(open: bool, p: Poke) -> bool {
-    if let Poke::Open(b) = p {
-        return b;
-    }
-    open
-}
-
-// The connection with a field set.
-pub fn poked(c: Conn, p: Poke, bytes: &[u8]) -> Conn {
+// The connection with a field set to a, or of slot a to b.
+pub fn poked(c: Conn, field: u64, a: u64, b: u64, bytes: &[u8]) -> Conn {
     let t = c.table;
     let f = c.frame;
-    let open = c.open;
+    let eight = part(bytes, 0, least(a as usize, 8));
     Conn {
-        table: new_table(t, p),
-        frame: new_frame(f, p, bytes),
-        open: new_open(open, p),
+        table: table_with(t, field, a, b),
+        frame: frame_with(f, field, a, eight),
+        open: flag_if(field == OPEN, a, c.open),
+    }
+}
+
+// The connection with the target of that number.
+pub fn aimed(c: Conn, n: u64, value: u64) -> Conn {
+    let t = c.table;
+    let f = c.frame;
+    let position = f.position;
+    let body = f.body;
+    Conn {
+        table: t,
+        frame: Frame {
+            position: position,
+            target: target_of(n, value),
+            gathered: f.gathered,
+            body: body,
+        },
+        open: c.open,
     }
 }
 
 // A byte of the store set.
-pub fn poke_store(p: Poke, store: &mut [u8]) {
-    if let Poke::Byte(n, b) = p {
-        if n < store.len() {
-            store[n] = b;
+pub fn poke_store(store: &mut [u8], field: u64, a: u64, b: u64) {
+    let i = a as usize;
+    if field == BYTE {
+        if i < store.len() {
+            store[i] = low8(b);
         }
     }
 }
 
-// The gathered bytes set, zeros after those given.
-pub fn poke_gathered(p: Poke, gathered: &mut [u8; 512], bytes: &[u8]) {
-    if let Poke::Body(n) = p {
+// The gathered bytes set to the first n, zeros after those.
+pub fn poke_gathered(gathered: &mut [u8; 512], field: u64, n: u64, bytes: &[u8]) {
+    if field == BODY {
         clear(gathered);
-        copy_into(gathered, 0, part(bytes, 0, n));
+        copy_into(gathered, 0, part(bytes, 0, n as usize));
     }
 }

@@ -1,4 +1,6 @@
 // A line cut into words. Between two words stands one space: two spaces have a word of no characters between them.
+use crate::number::Number;
+use pairs::name::same;
 ghost use Prim.Native.Nat.{_≤_};
 
 // The bytes of s from a to e; none where there is no such part.
@@ -19,7 +21,7 @@ fn space(b: u8) -> usize
     if b == 32 { 1 } else { 0 }
 }
 
-// How many spaces a line has: it has one word more.
+// How many spaces a line has: so many words stand behind its first.
 pub fn spaces(line: &[u8]) -> usize {
     let mut n: usize = 0;
     let mut i: usize = 0;
@@ -31,7 +33,9 @@ pub fn spaces(line: &[u8]) -> usize {
 }
 
 // The place of the first space from a place on, or the line's end.
-fn word_end(line: &[u8], from: usize) -> usize {
+fn word_end(line: &[u8], from: usize) -> usize
+    ensures { λ r. ⌜ from ≤ r ⌝ }
+{
     let mut i = from;
     while i < line.len() {
         if line[i] == 32 {
@@ -51,20 +55,36 @@ fn past_space(line: &[u8], from: usize) -> usize {
     e
 }
 
-// Where word k begins, counted from 0.
-fn word_start(line: &[u8], k: usize) -> usize {
+// What stands behind the first word of a line and its space.
+pub fn rest<'a>(line: &'a [u8]) -> &'a [u8] {
+    part(line, past_space(line, 0), line.len())
+}
+
+// Word k of a line, counted from 0.
+pub fn word<'a>(line: &'a [u8], k: usize) -> &'a [u8] {
     let mut at: usize = 0;
     let mut i: usize = 0;
     while i < k {
         at = past_space(line, at);
         i += 1;
     }
-    at
+    part(line, at, word_end(line, at))
 }
 
-// Word k of a line, counted from 0.
-pub fn word<'a>(line: &'a [u8], k: usize) -> &'a [u8] {
-    let a = word_start(line, k);
-    let e = word_end(line, a);
-    part(line, a, e)
+// Which word of a list a word is, counted from 0.
+pub fn choice(list: &[u8], w: &[u8]) -> Number {
+    let mut k: u64 = 0;
+    let mut at: usize = 0;
+    while at < list.len() {
+        let e = word_end(list, at);
+        if same(part(list, at, e), w) {
+            return Number::Is(k);
+        }
+        if list.len() <= e {
+            return Number::Not;
+        }
+        at = e + 1;
+        k += 1;
+    }
+    Number::Not
 }

@@ -1,5 +1,10 @@
 // The calls that write into a lent buffer, and what is told of them.
-use crate::command::Write;
+use crate::command::END;
+use crate::command::FINISH;
+use crate::command::PUT;
+use crate::command::SAY;
+use crate::number::low16;
+use crate::number::low32;
 use crate::page::put;
 use crate::page::put_hex;
 use crate::page::put_next;
@@ -102,21 +107,33 @@ fn finish(c: Conn, store: &mut [u8], id: u16, status: u32, room: &mut [u8]) -> C
     }
 }
 
-// A call on a connection whose last event was e.
+fn output_of(n: u64) -> Output {
+    match n {
+        0 => Output::Stdout,
+        _ => Output::Stderr,
+    }
+}
+
+// A call with its arguments, on a connection whose last event was e.
 pub fn call(
     c: Conn,
     e: Event,
-    w: Write,
+    kind: u64,
+    values: [u64; 4],
     store: &mut [u8],
     bytes: &[u8],
     room: &mut [u8],
 ) -> Called {
-    match w {
-        Write::Say(id, output, n) => say(c, id, output, part(bytes, 0, n), room),
-        Write::End(id, output) => end_stream(c, id, output, room),
-        Write::Owed => owed(c, e, room),
-        Write::Put(n, m) => pair(c, part(bytes, 0, n), part(bytes, n, m), room),
-        Write::Finish(id, status) => finish(c, store, id, status, room),
+    let id = low16(values[0]);
+    let a = values[0] as usize;
+    let b = values[1];
+    let m = values[2] as usize;
+    match kind {
+        SAY => say(c, id, output_of(b), part(bytes, 0, m), room),
+        END => end_stream(c, id, output_of(b), room),
+        PUT => pair(c, part(bytes, 0, a), part(bytes, a, b as usize), room),
+        FINISH => finish(c, store, id, low32(b), room),
+        _ => owed(c, e, room),
     }
 }
 
