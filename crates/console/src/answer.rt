@@ -15,7 +15,6 @@ use crate::poke::aimed;
 use crate::poke::poke_gathered;
 use crate::poke::poke_store;
 use crate::poke::poked;
-use crate::room::fill;
 use crate::state::State;
 use crate::state::with_conn;
 use crate::state::with_place;
@@ -24,7 +23,7 @@ use crate::told::put_told;
 use crate::words::part;
 use crate::words::rest;
 use crate::words::word;
-use crate::write::call;
+use crate::write::fill_and_call;
 use crate::write::put_effect;
 use crate::write::put_refused;
 use connection::answer::Start;
@@ -104,8 +103,7 @@ fn write_on(
     let c = s.conn;
     let e = s.event;
     let values = f.values;
-    fill(room);
-    let called = call(c, e, f.kind, values, lent, bytes, room);
+    let called = fill_and_call(c, e, f.kind, values, lent, bytes, room);
     let effect = called.effect;
     let conn = called.conn;
     let at = put_effect(page, s.at, effect, room);
@@ -126,7 +124,8 @@ fn perform(
     let n = values[0] as usize;
     let z: usize = 0;
     let e = least(room_of(f), out.len());
-    match f.kind {
+    let kind = f.kind;
+    match kind {
         START => start_anew(s, lent, gathered, page),
         LEND => lend(s, n, page),
         STEP => step_on(s, lent, gathered, part(bytes, 0, n), page),

@@ -32,6 +32,7 @@ use parameters::value_source;
 use walk::list_of;
 use walk::list_refusal;
 use wire::least;
+ghost use Prim.Native.Nat.{_≤_};
 
 // Where a value comes from.
 fn put_source(page: &mut [u8], at: usize, source: Source) -> usize {
@@ -177,19 +178,27 @@ fn ask_area(page: &mut [u8], at: usize, c: Conn, store: &[u8], id: u16) -> usize
 }
 
 // 0 for a zero, else 1.
-fn weight(b: u8) -> u64 {
+fn weight(b: u8) -> usize
+    ensures { λ r. ⌜ r ≤ 1 ⌝ }
+{
     if b == 0 { 0 } else { 1 }
 }
 
-fn ask_store(page: &mut [u8], at: usize, store: &[u8]) -> usize {
-    let mut n: u64 = 0;
+// How many bytes are not zero.
+fn set_bytes(store: &[u8]) -> usize {
+    let mut n: usize = 0;
     let mut i: usize = 0;
     while i < store.len() {
         n = n + weight(store[i]);
         i += 1;
     }
+    n
+}
+
+fn ask_store(page: &mut [u8], at: usize, store: &[u8]) -> usize {
+    let n = set_bytes(store);
     let a = put(page, at, b"store");
-    put_next(page, a, n)
+    put_next(page, a, n as u64)
 }
 
 // Answers a question with its arguments, over the store and as much of it as is lent.

@@ -44,8 +44,9 @@ pub fn is_question(kind: u64) -> bool {
 
 // The room of a command that writes: its last argument.
 pub fn room_of(f: Form) -> usize {
+    let kind = f.kind;
     let values = f.values;
-    match f.kind {
+    match kind {
         OWED => values[0] as usize,
         SAY => values[3] as usize,
         _ => values[2] as usize,

@@ -63,29 +63,23 @@ fn bytes_end(kind: u8, n: u64, before: usize) -> usize {
     before
 }
 
-// The values with the one at i set.
-fn with_value(values: [u64; 4], i: usize, n: u64) -> [u64; 4] {
-    let mut v = values;
-    if i < 4 {
-        v[i] = n;
-    }
-    v
-}
-
 // The form of a line whose first word is the name of that number and whose other words are of those kinds.
 fn arguments(line: &[u8], name: u64, kinds: &[u8], bytes: &mut [u8]) -> Form {
+    if 4 < kinds.len() {
+        return unknown();
+    }
     let mut values = [0u64; 4];
     let mut end: usize = 0;
     let mut i: usize = 0;
     while i < kinds.len() {
         let kind = kinds[i];
-        i += 1;
-        let read = argument(kind, word(line, i), bytes, end);
+        let read = argument(kind, word(line, i + 1), bytes, end);
         let Number::Is(n) = read else {
             return unknown();
         };
-        values = with_value(values, i - 1, n);
+        values[i] = n;
         end = bytes_end(kind, n, end);
+        i += 1;
     }
     Form {
         kind: name,

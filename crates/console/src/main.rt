@@ -21,6 +21,8 @@ use crate::state::fresh;
 use crate::state::with_place;
 use libc::STDIN_FILENO;
 use wire::copy_into;
+ghost use Prim.Native.Nat.{_≤_};
+ghost use lib.ListN.{length};
 
 // The most characters of a line.
 const LINE: usize = 70000;
@@ -59,7 +61,10 @@ fn answer_line(
 }
 
 // The place of the first newline from a place on, or the end.
-fn line_end(text: &[u8], from: usize) -> usize {
+fn line_end(text: &[u8], from: usize) -> usize
+    requires { ⌜ from ≤ length (now text) ⌝ }
+    ensures { λ r. ⌜ (from ≤ r) × (r ≤ length (now (text .entry))) ⌝ }
+{
     let mut i = from;
     while i < text.len() {
         if text[i] == 10 {
@@ -99,9 +104,10 @@ fn answer_piece(
                 held: held,
             };
         }
+        let next = e + 1;
         state = answer_line(state, line, held, store, gathered, bytes, out, page);
         held = 0;
-        from = e + 1;
+        from = next;
     }
     Turn {
         state: state,
@@ -121,9 +127,9 @@ fn answer_all(
     page: &mut [u8],
 ) -> Turn {
     let mut turn = Turn { state: s, held: 0 };
-    let mut piece = io::large_buffer();
     let mut turns = u64::MAX;
     while turns > 0 {
+        let mut piece = io::large_buffer();
         let got = libc::read(STDIN_FILENO, &mut piece);
         if got <= 0 {
             return turn;

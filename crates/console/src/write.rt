@@ -8,6 +8,7 @@ use crate::number::low32;
 use crate::page::put;
 use crate::page::put_hex;
 use crate::page::put_next;
+use crate::room::fill;
 use crate::room::touched;
 use crate::words::part;
 use connection::answer::Output;
@@ -115,7 +116,7 @@ fn output_of(n: u64) -> Output {
 }
 
 // A call with its arguments, on a connection whose last event was e.
-pub fn call(
+fn call(
     c: Conn,
     e: Event,
     kind: u64,
@@ -135,6 +136,20 @@ pub fn call(
         FINISH => finish(c, store, id, low32(b), room),
         _ => owed(c, e, room),
     }
+}
+
+// The same call, into a room that is filled first.
+pub fn fill_and_call(
+    c: Conn,
+    e: Event,
+    kind: u64,
+    values: [u64; 4],
+    store: &mut [u8],
+    bytes: &[u8],
+    room: &mut [u8],
+) -> Called {
+    fill(room);
+    call(c, e, kind, values, store, bytes, room)
 }
 
 // `wrote N HEX` and a last word.
