@@ -5,19 +5,17 @@ use crate::command::START;
 use crate::command::STEP;
 use crate::command::is_question;
 use crate::command::read_command;
-use crate::command::read_field;
-use crate::command::read_target;
+use crate::command::read_poke;
 use crate::command::room_of;
 use crate::form::Form;
 use crate::form::UNKNOWN;
+use crate::page::end_line;
 use crate::page::put;
-use crate::poke::aimed;
 use crate::poke::poke_gathered;
 use crate::poke::poke_store;
 use crate::poke::poked;
 use crate::state::State;
 use crate::state::with_conn;
-use crate::state::with_place;
 use crate::told::last_event;
 use crate::told::put_told;
 use crate::words::part;
@@ -28,7 +26,6 @@ use crate::write::put_effect;
 use crate::write::put_refused;
 use connection::answer::Start;
 use connection::event::Event;
-use connection::state::Conn;
 use numbers::refusal_number;
 use pairs::name::same;
 use receive::step::step;
@@ -36,15 +33,18 @@ use starting::start;
 use wire::least;
 
 // An answer of words alone.
-fn plainly(s: State, page: &mut [u8], text: &[u8]) -> State {
-    let at = put(page, s.at, text);
-    with_place(s, at)
+pub fn tell(page: &mut [u8], text: &[u8]) {
+    let at = put(page, 0, text);
+    end_line(page, at);
 }
 
-fn put_start(page: &mut [u8], at: usize, started: Start) -> usize {
+fn tell_start(page: &mut [u8], started: Start) {
     match started {
-        Start::Open => put(page, at, b"open"),
-        Start::Refused(why) => put_refused(page, at, refusal_number(why)),
+        Start::Open => tell(page, b"open"),
+        Start::Refused(why) => {
+            let at = put_refused(page, 0, refusal_number(why));
+            end_line(page, at);
+        }
     }
 }
 
@@ -53,18 +53,18 @@ fn start_anew(s: State, lent: &mut [u8], gathered: &mut [u8; 512], page: &mut [u
     let started = start(lent, gathered);
     let told = started.start;
     let conn = started.conn;
-    let at = put_start(page, s.at, told);
+    tell_start(page, told);
     State {
         conn: conn,
         event: Event::Nothing,
         lent: s.lent,
-        at: at,
     }
 }
 
 // Lends the first n bytes of the store from now on.
 fn lend(s: State, n: usize, page: &mut [u8]) -> State {
-    let mut t = plainly(s, page, b"ok");
+    tell(page, b"ok");
+    let mut t = s;
     t.lent = n;
     t
 }
@@ -82,12 +82,11 @@ fn step_on(
     let stepped = step(c, lent, gathered, piece);
     let told = stepped.told;
     let conn = stepped.conn;
-    let at = put_told(page, s.at, stepped.used, told, piece);
+    put_told(page, stepped.used, told, piece);
     State {
         conn: conn,
         event: last_event(before, told),
         lent: s.lent,
-        at: at,
     }
 }
 
@@ -106,8 +105,8 @@ fn write_on(
     let called = fill_and_call(c, e, f.kind, values, lent, bytes, room);
     let effect = called.effect;
     let conn = called.conn;
-    let at = put_effect(page, s.at, effect, room);
-    with_conn(s, conn, at)
+    put_effect(page, effect, room);
+    with_conn(s, conn)
 }
 
 // What a command does, over the lent part of the store and with so much of the buffer as its room.
@@ -133,39 +132,6 @@ fn perform(
     }
 }
 
-// A command over the store, of which the first bytes are lent.
-fn command(
-    s: State,
-    f: Form,
-    store: &mut [u8],
-    gathered: &mut [u8; 512],
-    bytes: &[u8],
-    out: &mut [u8],
-    page: &mut [u8],
-) -> State {
-    if is_question(f.kind) {
-        let c = s.conn;
-        let values = f.values;
-        let at = ask(page, s.at, c, f.kind, values, store, s.lent, bytes);
-        return with_place(s, at);
-    }
-    let z: usize = 0;
-    let e = least(s.lent, store.len());
-    perform(s, f, &mut store[z..e], gathered, bytes, out, page)
-}
-
-// Sets what the content is for.
-fn poke_target(s: State, f: Form, page: &mut [u8]) -> State {
-    if f.kind == UNKNOWN {
-        return plainly(s, page, b"what");
-    }
-    let c = s.conn;
-    let values = f.values;
-    let conn = aimed(c, f.kind, values[0]);
-    let at = put(page, s.at, b"ok");
-    with_conn(s, conn, at)
-}
-
 // Sets a field.
 fn poke(
     s: State,
@@ -176,7 +142,8 @@ fn poke(
     page: &mut [u8],
 ) -> State {
     if f.kind == UNKNOWN {
-        return plainly(s, page, b"what");
+        tell(page, b"what");
+        return s;
     }
     let c = s.conn;
     let values = f.values;
@@ -184,12 +151,11 @@ fn poke(
     let b = values[1];
     poke_store(store, f.kind, a, b);
     poke_gathered(gathered, f.kind, a, bytes);
-    let conn = poked(c, f.kind, a, b, bytes);
-    let at = put(page, s.at, b"ok");
-    with_conn(s, conn, at)
+    tell(page, b"ok");
+    with_conn(s, poked(c, f.kind, a, b, bytes))
 }
 
-// Answers a line, without the newline.
+// Answers a line.
 pub fn answer(
     s: State,
     line: &[u8],
@@ -199,15 +165,17 @@ pub fn answer(
     out: &mut [u8],
     page: &mut [u8],
 ) -> State {
-    let name = word(line, 0);
-    if same(name, b"poke") {
-        let field = rest(line);
-        if same(word(field, 0), b"target") {
-            return poke_target(s, read_target(rest(field), bytes), page);
-        }
-        let f = read_field(field, bytes);
-        return poke(s, f, store, gathered, bytes, page);
+    if same(word(line, 0), b"poke") {
+        let p = read_poke(rest(line), bytes);
+        return poke(s, p, store, gathered, bytes, page);
     }
     let f = read_command(line, bytes);
-    command(s, f, store, gathered, bytes, out, page)
+    if is_question(f.kind) {
+        let c = s.conn;
+        ask(page, c, f, store, s.lent, bytes);
+        return s;
+    }
+    let z: usize = 0;
+    let e = least(s.lent, store.len());
+    perform(s, f, &mut store[z..e], gathered, bytes, out, page)
 }

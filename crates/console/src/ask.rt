@@ -5,7 +5,9 @@ use crate::command::PAIR;
 use crate::command::STORE;
 use crate::command::VALUE;
 use crate::command::WALK;
+use crate::form::Form;
 use crate::number::low16;
+use crate::page::end_line;
 use crate::page::put;
 use crate::page::put_hex;
 use crate::page::put_next;
@@ -45,7 +47,6 @@ fn put_source(page: &mut [u8], at: usize, source: Source) -> usize {
 
 fn ask_value<'a>(
     page: &mut [u8],
-    at: usize,
     c: Conn,
     lent: &'a [u8],
     id: u16,
@@ -53,7 +54,7 @@ fn ask_value<'a>(
     fallback: &'a [u8],
 ) -> usize {
     let source = value_source(c, lent, id, name);
-    let place = put_source(page, at, source);
+    let place = put_source(page, 0, source);
     let found = value(c, lent, id, name, fallback);
     put_hex(page, place, found)
 }
@@ -66,11 +67,11 @@ fn put_pair(page: &mut [u8], at: usize, p: Pair) -> usize {
     put_next(page, e, p.value_len as u64)
 }
 
-fn ask_pair(page: &mut [u8], at: usize, c: Conn, lent: &[u8], id: u16, k: usize) -> usize {
+fn ask_pair(page: &mut [u8], c: Conn, lent: &[u8], id: u16, k: usize) -> usize {
     let found = pair_at(c, lent, id, k);
     match found {
-        Numbered::Pair(p) => put_pair(page, at, p),
-        Numbered::Refused(why) => put_refused(page, at, refusal_number(why)),
+        Numbered::Pair(p) => put_pair(page, 0, p),
+        Numbered::Refused(why) => put_refused(page, 0, refusal_number(why)),
     }
 }
 
@@ -111,26 +112,26 @@ fn put_walk(page: &mut [u8], at: usize, c: Conn, lent: &[u8], id: u16) -> usize 
     put_stop(page, next, place)
 }
 
-fn ask_walk(page: &mut [u8], at: usize, c: Conn, lent: &[u8], id: u16) -> usize {
+fn ask_walk(page: &mut [u8], c: Conn, lent: &[u8], id: u16) -> usize {
     let why = list_refusal(c, lent, id);
     if 0 < why {
-        return put_refused(page, at, why);
+        return put_refused(page, 0, why);
     }
     let list = list_of(c, lent, id);
     let length = list.len();
-    let a = put(page, at, b"walk");
+    let a = put(page, 0, b"walk");
     let b = put_next(page, a, length as u64);
     put_walk(page, b, c, lent, id)
 }
 
-fn ask_active(page: &mut [u8], at: usize, c: Conn) -> usize {
+fn ask_active(page: &mut [u8], c: Conn) -> usize {
     let count = active_count(c);
     match count {
         Count::Active(n) => {
-            let a = put(page, at, b"active");
+            let a = put(page, 0, b"active");
             put_next(page, a, n as u64)
         }
-        Count::Refused(why) => put_refused(page, at, refusal_number(why)),
+        Count::Refused(why) => put_refused(page, 0, refusal_number(why)),
     }
 }
 
@@ -167,13 +168,13 @@ fn area_of<'a>(t: Table, store: &'a [u8], i: usize) -> &'a [u8] {
     &store[z..z]
 }
 
-fn ask_area(page: &mut [u8], at: usize, c: Conn, store: &[u8], id: u16) -> usize {
+fn ask_area(page: &mut [u8], c: Conn, store: &[u8], id: u16) -> usize {
     let t = c.table;
     let slot = first_with(t, id);
     let Slot::At(i) = slot else {
-        return put(page, at, b"none");
+        return put(page, 0, b"none");
     };
-    let a = put(page, at, b"area");
+    let a = put(page, 0, b"area");
     put_hex(page, a, area_of(t, store, i))
 }
 
@@ -195,34 +196,39 @@ fn set_bytes(store: &[u8]) -> usize {
     n
 }
 
-fn ask_store(page: &mut [u8], at: usize, store: &[u8]) -> usize {
+fn ask_store(page: &mut [u8], store: &[u8]) -> usize {
     let n = set_bytes(store);
-    let a = put(page, at, b"store");
+    let a = put(page, 0, b"store");
     put_next(page, a, n as u64)
 }
 
-// Answers a question with its arguments, over the store and as much of it as is lent.
-pub fn ask<'a>(
+// What a question is answered, over the store and as much of it as is lent.
+fn put_answer<'a>(
     page: &mut [u8],
-    at: usize,
     c: Conn,
-    kind: u64,
-    values: [u64; 4],
+    f: Form,
     store: &'a [u8],
-    lent: usize,
+    seen: &'a [u8],
     bytes: &'a [u8],
 ) -> usize {
-    let seen = part(store, 0, lent);
+    let values = f.values;
     let id = low16(values[0]);
     let n = values[1] as usize;
     let m = values[2] as usize;
+    let kind = f.kind;
     match kind {
-        ACTIVE => ask_active(page, at, c),
-        STORE => ask_store(page, at, store),
-        WALK => ask_walk(page, at, c, seen, id),
-        AREA_OF => ask_area(page, at, c, store, id),
-        PAIR => ask_pair(page, at, c, seen, id, n),
-        VALUE => ask_value(page, at, c, seen, id, part(bytes, 0, n), part(bytes, n, m)),
-        _ => put(page, at, b"what"),
+        ACTIVE => ask_active(page, c),
+        STORE => ask_store(page, store),
+        WALK => ask_walk(page, c, seen, id),
+        AREA_OF => ask_area(page, c, store, id),
+        PAIR => ask_pair(page, c, seen, id, n),
+        VALUE => ask_value(page, c, seen, id, part(bytes, 0, n), part(bytes, n, m)),
+        _ => put(page, 0, b"what"),
     }
+}
+
+// Answers a question.
+pub fn ask<'a>(page: &mut [u8], c: Conn, f: Form, store: &'a [u8], lent: usize, bytes: &'a [u8]) {
+    let at = put_answer(page, c, f, store, part(store, 0, lent), bytes);
+    end_line(page, at);
 }

@@ -2,6 +2,10 @@
 use crate::form::Form;
 use crate::form::UNKNOWN;
 use crate::form::read_form;
+use crate::poke::TARGET;
+use crate::words::rest;
+use crate::words::word;
+use pairs::name::same;
 
 // Questions.
 pub const ACTIVE: u64 = 0;
@@ -62,7 +66,7 @@ pub fn read_command(line: &[u8], bytes: &mut [u8]) -> Form {
     )
 }
 
-pub fn read_field(line: &[u8], bytes: &mut [u8]) -> Form {
+fn read_field(line: &[u8], bytes: &mut [u8]) -> Form {
     read_form(
         line,
         b"open occupied id length role keep turn spent out_ended err_used err_ended held header content padding gathered body byte",
@@ -71,11 +75,32 @@ pub fn read_field(line: &[u8], bytes: &mut [u8]) -> Form {
     )
 }
 
-pub fn read_target(line: &[u8], bytes: &mut [u8]) -> Form {
+fn read_target(line: &[u8], bytes: &mut [u8]) -> Form {
     read_form(
         line,
         b"skip begin query params stdin data",
         b"- i - b b b",
         bytes,
     )
+}
+
+// The number of a target among the fields.
+fn as_field(target: u64) -> u64 {
+    if target < UNKNOWN {
+        return TARGET + target;
+    }
+    UNKNOWN
+}
+
+// What stands behind the word `poke`.
+pub fn read_poke(line: &[u8], bytes: &mut [u8]) -> Form {
+    if same(word(line, 0), b"target") {
+        let f = read_target(rest(line), bytes);
+        let values = f.values;
+        return Form {
+            kind: as_field(f.kind),
+            values: values,
+        };
+    }
+    read_field(line, bytes)
 }

@@ -1,9 +1,9 @@
-// The page: text on its way to standard output.
+// The page: the text of one line on its way to standard output.
 use libc::STDOUT_FILENO;
 use wire::copy_into;
 
 // Writes out what the page holds, and answers where the next text goes: at its start.
-pub fn flush(page: &[u8], at: usize) -> usize {
+fn flush(page: &[u8], at: usize) -> usize {
     let z: usize = 0;
     if at <= page.len() {
         io::write_all(STDOUT_FILENO, &page[z..at]);
@@ -78,4 +78,10 @@ pub fn put_hex(page: &mut [u8], at: usize, bytes: &[u8]) -> usize {
     }
     let place = put(page, at, b" ");
     put_pairs(page, place, bytes)
+}
+
+// Ends the line, and writes out what the page holds.
+pub fn end_line(page: &mut [u8], at: usize) {
+    let e = put(page, at, b"\n");
+    flush(page, e);
 }

@@ -17,44 +17,47 @@ use wire::copy_into;
 use wire::least;
 
 // Fields that are one for the connection.
-pub const OPEN: u64 = 0;
+const OPEN: u64 = 0;
 
-pub const OCCUPIED: u64 = 1;
+const OCCUPIED: u64 = 1;
 
 // Fields of a slot.
-pub const ID: u64 = 2;
+const ID: u64 = 2;
 
-pub const LENGTH: u64 = 3;
+const LENGTH: u64 = 3;
 
-pub const ROLE: u64 = 4;
+const ROLE: u64 = 4;
 
-pub const KEEP: u64 = 5;
+const KEEP: u64 = 5;
 
-pub const TURN: u64 = 6;
+const TURN: u64 = 6;
 
-pub const SPENT: u64 = 7;
+const SPENT: u64 = 7;
 
-pub const OUT_ENDED: u64 = 8;
+const OUT_ENDED: u64 = 8;
 
-pub const ERR_USED: u64 = 9;
+const ERR_USED: u64 = 9;
 
-pub const ERR_ENDED: u64 = 10;
+const ERR_ENDED: u64 = 10;
 
 // Fields of the record being read.
-pub const HELD: u64 = 11;
+const HELD: u64 = 11;
 
-pub const HEADER: u64 = 12;
+const HEADER: u64 = 12;
 
-pub const CONTENT: u64 = 13;
+const CONTENT: u64 = 13;
 
-pub const PADDING: u64 = 14;
+const PADDING: u64 = 14;
 
-pub const GATHERED: u64 = 15;
+const GATHERED: u64 = 15;
 
-pub const BODY: u64 = 16;
+const BODY: u64 = 16;
 
 // A byte of the store.
-pub const BYTE: u64 = 17;
+const BYTE: u64 = 17;
+
+// From here on, what the content of the record being read is for: the number in the table of targets is added.
+pub const TARGET: u64 = 20;
 
 fn role_of(n: u64) -> Role {
     match n {
@@ -91,6 +94,13 @@ fn target_of(n: u64, value: u64) -> Target {
         4 => Target::Stdin(low8(value)),
         _ => Target::Data(low8(value)),
     }
+}
+
+fn target_if(field: u64, n: u64, before: Target) -> Target {
+    if TARGET <= field {
+        return target_of(field - TARGET, n);
+    }
+    before
 }
 
 fn role_if(hit: bool, n: u64, before: Role) -> Role {
@@ -186,7 +196,7 @@ fn frame_with(f: Frame, field: u64, n: u64, bytes: &[u8]) -> Frame {
             held: count_if(field == HELD, n, p.held),
             header: eight_if(field == HEADER, bytes, header),
         },
-        target: target,
+        target: target_if(field, n, target),
         gathered: count_if(field == GATHERED, n, f.gathered),
         body: eight_if(field == BODY, bytes, body),
     }
@@ -201,24 +211,6 @@ pub fn poked(c: Conn, field: u64, a: u64, b: u64, bytes: &[u8]) -> Conn {
         table: table_with(t, field, a, b),
         frame: frame_with(f, field, a, eight),
         open: flag_if(field == OPEN, a, c.open),
-    }
-}
-
-// The connection with the target of that number.
-pub fn aimed(c: Conn, n: u64, value: u64) -> Conn {
-    let t = c.table;
-    let f = c.frame;
-    let position = f.position;
-    let body = f.body;
-    Conn {
-        table: t,
-        frame: Frame {
-            position: position,
-            target: target_of(n, value),
-            gathered: f.gathered,
-            body: body,
-        },
-        open: c.open,
     }
 }
 

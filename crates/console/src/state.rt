@@ -3,12 +3,11 @@ use connection::event::Event;
 use connection::state::Conn;
 use starting::closed;
 
-// The connection, the event of the last step, how many bytes of the store are lent, and where the next text goes on the page.
+// The connection, the event of the last step that was not refused, and how many bytes of the store are lent.
 pub struct State {
     pub conn: Conn,
     pub event: Event,
     pub lent: usize,
-    pub at: usize,
 }
 
 // A closed connection, no event, and the whole store lent.
@@ -18,24 +17,15 @@ pub fn fresh() -> State {
         conn: c,
         event: Event::Nothing,
         lent: 32768,
-        at: 0,
     }
 }
 
-// The state with another connection and another place on the page.
-pub fn with_conn(s: State, c: Conn, at: usize) -> State {
+// The state with another connection.
+pub fn with_conn(s: State, c: Conn) -> State {
     let e = s.event;
     State {
         conn: c,
         event: e,
         lent: s.lent,
-        at: at,
     }
-}
-
-// The state with another place on the page.
-pub fn with_place(s: State, at: usize) -> State {
-    let mut t = s;
-    t.at = at;
-    t
 }

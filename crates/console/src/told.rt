@@ -1,4 +1,5 @@
 // What a step tells.
+use crate::page::end_line;
 use crate::page::put;
 use crate::page::put_hex;
 use crate::page::put_next;
@@ -45,14 +46,18 @@ fn put_event(page: &mut [u8], at: usize, e: Event, piece: &[u8]) -> usize {
 }
 
 // How many bytes of the piece a step used, and its event; or its refusal.
-pub fn put_told(page: &mut [u8], at: usize, used: usize, told: Told, piece: &[u8]) -> usize {
+pub fn put_told(page: &mut [u8], used: usize, told: Told, piece: &[u8]) {
     match told {
         Told::Event(e) => {
-            let a = put(page, at, b"used");
+            let a = put(page, 0, b"used");
             let b = put_next(page, a, used as u64);
-            put_event(page, b, e, piece)
+            let d = put_event(page, b, e, piece);
+            end_line(page, d);
         }
-        Told::Refused(why) => put_refused(page, at, refusal_number(why)),
+        Told::Refused(why) => {
+            let a = put_refused(page, 0, refusal_number(why));
+            end_line(page, a);
+        }
     }
 }
 

@@ -5,6 +5,7 @@ use crate::command::PUT;
 use crate::command::SAY;
 use crate::number::low16;
 use crate::number::low32;
+use crate::page::end_line;
 use crate::page::put;
 use crate::page::put_hex;
 use crate::page::put_next;
@@ -169,7 +170,7 @@ fn put_touched(page: &mut [u8], at: usize, room: &[u8], n: usize) -> usize {
 }
 
 // What a call came to and left in the room.
-pub fn put_effect(page: &mut [u8], at: usize, e: Effect, room: &[u8]) -> usize {
+fn put_call(page: &mut [u8], at: usize, e: Effect, room: &[u8]) -> usize {
     match e {
         Effect::Bytes(n) => {
             let a = put_wrote(page, at, room, n, b"");
@@ -188,6 +189,12 @@ pub fn put_effect(page: &mut [u8], at: usize, e: Effect, room: &[u8]) -> usize {
             put_touched(page, a, room, 0)
         }
     }
+}
+
+// The line of a call.
+pub fn put_effect(page: &mut [u8], e: Effect, room: &[u8]) {
+    let at = put_call(page, 0, e, room);
+    end_line(page, at);
 }
 
 // `refused N`

@@ -7,22 +7,28 @@ use Rattle.console.proofs.answer_all.Statement.{statement}
 use Rattle.console.proofs.answer_all.Tie as tie
 
 abbrev Inv-loop : tie.InvT-loop
-Inv-loop line₀ store₀ gathered₀ bytes₀ out₀ page₀ turn₀ turns₀ line store gathered bytes out page turn turns = (length line ≡ length line₀) × (length store ≡ length store₀) × (length bytes ≡ length bytes₀) × (length out ≡ length out₀) × (length page ≡ length page₀)
+Inv-loop line₀ store₀ gathered₀ bytes₀ out₀ page₀ piece₀ input₀ state₀ turns₀ line store gathered bytes out page piece input state turns = (length line ≡ length line₀) × (length store ≡ length store₀) × (length bytes ≡ length bytes₀) × (length out ≡ length out₀) × (length page ≡ length page₀)
 
 abbrev μ-loop : tie.MeasureT-loop
-μ-loop line₀ store₀ gathered₀ bytes₀ out₀ page₀ turn₀ turns₀ line store gathered bytes out page turn turns = turns
-
-loop-holds : tie.Need-loop-holds Inv-loop μ-loop
-loop-holds c = (refl, refl, refl, refl, refl)
+μ-loop line₀ store₀ gathered₀ bytes₀ out₀ page₀ piece₀ input₀ state₀ turns₀ line store gathered bytes out page piece input state turns = turns
 
 large-buffer-requires : tie.Need-large-buffer-requires Inv-loop μ-loop
 large-buffer-requires c κs = search needs
 
-slice-aggregate-read : tie.Need-slice-aggregate-read Inv-loop μ-loop
-slice-aggregate-read c = search needs
+fresh-requires : tie.Need-fresh-requires Inv-loop μ-loop
+fresh-requires c κs = search needs
 
-read-requires : tie.Need-read-requires Inv-loop μ-loop
-read-requires c κs = search needs
+loop-holds : tie.Need-loop-holds Inv-loop μ-loop
+loop-holds c = (refl, refl, refl, refl, refl)
+
+sub-turns : tie.Need-sub-turns Inv-loop μ-loop
+sub-turns c = search needs
+
+slice-aggregate-next-line : tie.Need-slice-aggregate-next-line Inv-loop μ-loop
+slice-aggregate-next-line c = search needs
+
+next-line-requires : tie.Need-next-line-requires Inv-loop μ-loop
+next-line-requires c κs = search needs
 
 same-length : tie.Need-same-length Inv-loop μ-loop
 same-length c = search needs
@@ -42,37 +48,14 @@ same-length-5 c = search needs
 returns : tie.Need-returns Inv-loop μ-loop
 returns c = search needs
 
-slice-aggregate-count : tie.Need-slice-aggregate-count Inv-loop μ-loop
-slice-aggregate-count c = search needs
-
-count-requires : tie.Need-count-requires Inv-loop μ-loop
-count-requires c κs = search needs
-
-sub-answer-piece : tie.Need-sub-answer-piece Inv-loop μ-loop
-sub-answer-piece c = search needs
-
-part-answer-piece-start : tie.Need-part-answer-piece-start Inv-loop μ-loop
-part-answer-piece-start c = search needs
-
-part-answer-piece-end : tie.Need-part-answer-piece-end Inv-loop μ-loop
-part-answer-piece-end c = search needs
-
-answer-piece-requires : tie.Need-answer-piece-requires Inv-loop μ-loop
-answer-piece-requires c κs = search needs
-
-flushed-requires : tie.Need-flushed-requires Inv-loop μ-loop
-flushed-requires c κs = search needs
-
-sub-turns : tie.Need-sub-turns Inv-loop μ-loop
-sub-turns c = omega (arith, c .before .before .before .before .before .before .before .before .before .before .before .before .before .before .before .before .before .before .before .before .before .before .before .before .before .before .before .before .loop-test .taken)
+answer-line-requires : tie.Need-answer-line-requires Inv-loop μ-loop
+answer-line-requires c κs = search needs
 
 loop-less : tie.Need-loop-less Inv-loop μ-loop
-loop-less c = omega (arith, c .before .before .before .before .before .before .before .before .before .before .before .before .before .before .before .before .before .before .before .before .before .before .before .before .before .before .before .before .loop-test .taken)
+loop-less c = search needs
 
 loop-again : tie.Need-loop-again Inv-loop μ-loop
-loop-again c =
-    let i = c .before .before .before .before .before .before .before .before .before .before .before .before .before .before .before .before .before .before .before .before .before .before .before .before .before .before .before .before .before .loop .inv in
-    (search (needs, i), search (needs, i), search (needs, i), search (needs, i), search (needs, i))
+loop-again c = search needs
 
 same-length-6 : tie.Need-same-length-6 Inv-loop μ-loop
 same-length-6 c = search needs
@@ -98,24 +81,19 @@ answer-all-spec =
     (tie.spec
     Inv-loop
     μ-loop
-    loop-holds
     large-buffer-requires
-    slice-aggregate-read
-    read-requires
+    fresh-requires
+    loop-holds
+    sub-turns
+    slice-aggregate-next-line
+    next-line-requires
     same-length
     same-length-2
     same-length-3
     same-length-4
     same-length-5
     returns
-    slice-aggregate-count
-    count-requires
-    sub-answer-piece
-    part-answer-piece-start
-    part-answer-piece-end
-    answer-piece-requires
-    flushed-requires
-    sub-turns
+    answer-line-requires
     loop-less
     loop-again
     same-length-6

@@ -3,8 +3,8 @@ use Prim.Native.Nat.{_-_, _≤_}
 use lib.ListN.{length}
 use native.Mathlib.Omega.{arith}
 use borrow.Author.Needs.{needs}
-use Rattle.console.proofs.line_end.Statement.{statement}
-use Rattle.console.proofs.line_end.Tie as tie
+use Rattle.console.proofs.input.line_end.Statement.{statement}
+use Rattle.console.proofs.input.line_end.Tie as tie
 
 abbrev Inv-loop : tie.InvT-loop
 Inv-loop text from i₀ i = (from ≤ i) × (i ≤ length text)
