@@ -25,7 +25,6 @@ use numbers::refusal_number;
 use occupancy::is_taken;
 use pairs::pair::Pair;
 use pairs::pair::Read;
-use pairs::pair::read_pair;
 use parameters::Numbered;
 use parameters::Source;
 use parameters::pair_at;
@@ -33,6 +32,7 @@ use parameters::value;
 use parameters::value_source;
 use walk::list_of;
 use walk::list_refusal;
+use walk::pair_from;
 use wire::least;
 ghost use Prim.Native.Nat.{_≤_};
 
@@ -101,7 +101,7 @@ fn put_walk(page: &mut [u8], at: usize, c: Conn, lent: &[u8], id: u16) -> usize 
     let mut place: usize = 0;
     let mut turns = u64::MAX;
     while turns > 0 {
-        let read = read_pair(list_of(c, lent, id), place);
+        let read = pair_from(c, lent, id, place);
         let Read::Pair(p, behind) = read else {
             return put_stop(page, next, place);
         };

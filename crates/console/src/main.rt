@@ -44,6 +44,7 @@ fn answer_line(
 // Answers every line. A proved loop has to end, and nothing says that the input does: so it counts its turns down, from
 // a number that no run uses up.
 fn answer_all(
+    piece: &mut [u8],
     line: &mut [u8],
     store: &mut [u8],
     gathered: &mut [u8; 512],
@@ -51,7 +52,6 @@ fn answer_all(
     out: &mut [u8],
     page: &mut [u8],
 ) {
-    let mut piece = io::large_buffer();
     let mut input = Input {
         from: 0,
         to: 0,
@@ -62,7 +62,7 @@ fn answer_all(
     let mut turns = u64::MAX;
     while turns > 0 {
         turns -= 1;
-        input = next_line(input, &mut piece, line);
+        input = next_line(input, piece, line);
         if input.more {} else {
             return;
         }
@@ -73,11 +73,13 @@ fn answer_all(
 fn main() {
     let mut store = [0u8; 32768];
     let mut gathered = [0u8; 512];
+    let mut piece = io::large_buffer();
     let mut line = [0u8; LINE];
     let mut bytes = [0u8; 35000];
     let mut out = io::large_buffer();
     let mut page = io::large_buffer();
     answer_all(
+        &mut piece,
         &mut line,
         &mut store,
         &mut gathered,

@@ -1,5 +1,4 @@
 use mathlib.Core.Path.{_≡_, refl}
-use Prim.Native.Nat.{_-_, _≤_}
 use lib.ListN.{length}
 use native.Mathlib.Omega.{arith}
 use borrow.Author.Needs.{needs}
@@ -7,25 +6,19 @@ use Rattle.console.proofs.answer_all.Statement.{statement}
 use Rattle.console.proofs.answer_all.Tie as tie
 
 abbrev Inv-loop : tie.InvT-loop
-Inv-loop line₀ store₀ gathered₀ bytes₀ out₀ page₀ piece₀ input₀ state₀ turns₀ line store gathered bytes out page piece input state turns = (length line ≡ length line₀) × (length store ≡ length store₀) × (length bytes ≡ length bytes₀) × (length out ≡ length out₀) × (length page ≡ length page₀)
+Inv-loop piece₀ line₀ store₀ gathered₀ bytes₀ out₀ page₀ input₀ state₀ turns₀ piece line store gathered bytes out page input state turns = (length piece ≡ length piece₀) × (length line ≡ length line₀) × (length store ≡ length store₀) × (length bytes ≡ length bytes₀) × (length out ≡ length out₀) × (length page ≡ length page₀)
 
 abbrev μ-loop : tie.MeasureT-loop
-μ-loop line₀ store₀ gathered₀ bytes₀ out₀ page₀ piece₀ input₀ state₀ turns₀ line store gathered bytes out page piece input state turns = turns
-
-large-buffer-requires : tie.Need-large-buffer-requires Inv-loop μ-loop
-large-buffer-requires c κs = search needs
+μ-loop piece₀ line₀ store₀ gathered₀ bytes₀ out₀ page₀ input₀ state₀ turns₀ piece line store gathered bytes out page input state turns = turns
 
 fresh-requires : tie.Need-fresh-requires Inv-loop μ-loop
 fresh-requires c κs = search needs
 
 loop-holds : tie.Need-loop-holds Inv-loop μ-loop
-loop-holds c = (refl, refl, refl, refl, refl)
+loop-holds c = (refl, refl, refl, refl, refl, refl)
 
 sub-turns : tie.Need-sub-turns Inv-loop μ-loop
 sub-turns c = search needs
-
-slice-aggregate-next-line : tie.Need-slice-aggregate-next-line Inv-loop μ-loop
-slice-aggregate-next-line c = search needs
 
 next-line-requires : tie.Need-next-line-requires Inv-loop μ-loop
 next-line-requires c κs = search needs
@@ -45,6 +38,9 @@ same-length-4 c = search needs
 same-length-5 : tie.Need-same-length-5 Inv-loop μ-loop
 same-length-5 c = search needs
 
+same-length-6 : tie.Need-same-length-6 Inv-loop μ-loop
+same-length-6 c = search needs
+
 returns : tie.Need-returns Inv-loop μ-loop
 returns c = search needs
 
@@ -52,13 +48,12 @@ answer-line-requires : tie.Need-answer-line-requires Inv-loop μ-loop
 answer-line-requires c κs = search needs
 
 loop-less : tie.Need-loop-less Inv-loop μ-loop
-loop-less c = search needs
+loop-less c = omega (arith, c .before .before .before .before .before .before .before .before .before .before .before .before .before .before .before .before .before .before .before .before .before .before .before .loop-test .taken)
 
 loop-again : tie.Need-loop-again Inv-loop μ-loop
-loop-again c = search needs
-
-same-length-6 : tie.Need-same-length-6 Inv-loop μ-loop
-same-length-6 c = search needs
+loop-again c =
+    let i = c .before .before .before .before .before .before .before .before .before .before .before .before .before .before .before .before .before .before .before .before .before .before .before .before .loop .inv in
+    (search (needs, i), search (needs, i), search (needs, i), search (needs, i), search (needs, i), search (needs, i))
 
 same-length-7 : tie.Need-same-length-7 Inv-loop μ-loop
 same-length-7 c = search needs
@@ -72,6 +67,12 @@ same-length-9 c = search needs
 same-length-10 : tie.Need-same-length-10 Inv-loop μ-loop
 same-length-10 c = search needs
 
+same-length-11 : tie.Need-same-length-11 Inv-loop μ-loop
+same-length-11 c = search needs
+
+same-length-12 : tie.Need-same-length-12 Inv-loop μ-loop
+same-length-12 c = search needs
+
 returns-2 : tie.Need-returns-2 Inv-loop μ-loop
 returns-2 c = search needs
 
@@ -81,24 +82,24 @@ answer-all-spec =
     (tie.spec
     Inv-loop
     μ-loop
-    large-buffer-requires
     fresh-requires
     loop-holds
     sub-turns
-    slice-aggregate-next-line
     next-line-requires
     same-length
     same-length-2
     same-length-3
     same-length-4
     same-length-5
+    same-length-6
     returns
     answer-line-requires
     loop-less
     loop-again
-    same-length-6
     same-length-7
     same-length-8
     same-length-9
     same-length-10
+    same-length-11
+    same-length-12
     returns-2)
