@@ -38,6 +38,7 @@ pub fn tell(page: &mut [u8], text: &[u8]) {
     end_line(page, at);
 }
 
+// What a start came to.
 fn tell_start(page: &mut [u8], started: Start) {
     match started {
         Start::Open => tell(page, b"open"),
@@ -63,10 +64,14 @@ fn start_anew(s: State, lent: &mut [u8], gathered: &mut [u8; 512], page: &mut [u
 
 // Lends the first n bytes of the store from now on.
 fn lend(s: State, n: usize, page: &mut [u8]) -> State {
+    let c = s.conn;
+    let e = s.event;
     tell(page, b"ok");
-    let mut t = s;
-    t.lent = n;
-    t
+    State {
+        conn: c,
+        event: e,
+        lent: n,
+    }
 }
 
 // One step over a piece.

@@ -10,8 +10,8 @@ use crate::number::low16;
 use crate::page::end_line;
 use crate::page::put;
 use crate::page::put_hex;
-use crate::page::put_next;
 use crate::page::put_number;
+use crate::words::count_of;
 use crate::words::part;
 use crate::write::put_refused;
 use admit::Count;
@@ -34,7 +34,6 @@ use walk::list_of;
 use walk::list_refusal;
 use walk::pair_from;
 use wire::least;
-ghost use Prim.Native.Nat.{_≤_};
 
 // Where a value comes from.
 fn put_source(page: &mut [u8], at: usize, source: Source) -> usize {
@@ -45,6 +44,7 @@ fn put_source(page: &mut [u8], at: usize, source: Source) -> usize {
     }
 }
 
+// Where value finds its answer, and the value.
 fn ask_value<'a>(
     page: &mut [u8],
     c: Conn,
@@ -59,39 +59,30 @@ fn ask_value<'a>(
     put_hex(page, place, found)
 }
 
-fn put_pair(page: &mut [u8], at: usize, p: Pair) -> usize {
-    let a = put(page, at, b"pair");
-    let b = put_next(page, a, p.name as u64);
-    let d = put_next(page, b, p.name_len as u64);
-    let e = put_next(page, d, p.value as u64);
-    put_next(page, e, p.value_len as u64)
+// The places and lengths of a pair, with a mark between them.
+fn put_pair(page: &mut [u8], at: usize, p: Pair, mark: &[u8]) -> usize {
+    let a = put_number(page, at, b" ", p.name as u64);
+    let b = put_number(page, a, mark, p.name_len as u64);
+    let d = put_number(page, b, mark, p.value as u64);
+    put_number(page, d, mark, p.value_len as u64)
 }
 
+// A pair by its number.
 fn ask_pair(page: &mut [u8], c: Conn, lent: &[u8], id: u16, k: usize) -> usize {
     let found = pair_at(c, lent, id, k);
     match found {
-        Numbered::Pair(p) => put_pair(page, 0, p),
+        Numbered::Pair(p) => {
+            let a = put(page, 0, b"pair");
+            put_pair(page, a, p, b" ")
+        }
         Numbered::Refused(why) => put_refused(page, 0, refusal_number(why)),
     }
 }
 
-// A comma and a number.
-fn put_comma(page: &mut [u8], at: usize, n: u64) -> usize {
-    let a = put(page, at, b",");
-    put_number(page, a, n)
-}
-
-// A pair of a walk: a space, and its places and lengths between commas.
-fn put_span(page: &mut [u8], at: usize, p: Pair) -> usize {
-    let a = put_next(page, at, p.name as u64);
-    let b = put_comma(page, a, p.name_len as u64);
-    let d = put_comma(page, b, p.value as u64);
-    put_comma(page, d, p.value_len as u64)
-}
-
+// Where a walk stops.
 fn put_stop(page: &mut [u8], at: usize, place: usize) -> usize {
     let a = put(page, at, b" stop");
-    put_next(page, a, place as u64)
+    put_number(page, a, b" ", place as u64)
 }
 
 // The pairs that reading on gives, and the place where it gives none. A proved loop has to end: so it counts its turns
@@ -105,13 +96,14 @@ fn put_walk(page: &mut [u8], at: usize, c: Conn, lent: &[u8], id: u16) -> usize 
         let Read::Pair(p, behind) = read else {
             return put_stop(page, next, place);
         };
-        next = put_span(page, next, p);
+        next = put_pair(page, next, p, b",");
         place = behind;
         turns -= 1;
     }
     put_stop(page, next, place)
 }
 
+// The list's length and its pairs.
 fn ask_walk(page: &mut [u8], c: Conn, lent: &[u8], id: u16) -> usize {
     let why = list_refusal(c, lent, id);
     if 0 < why {
@@ -120,16 +112,17 @@ fn ask_walk(page: &mut [u8], c: Conn, lent: &[u8], id: u16) -> usize {
     let list = list_of(c, lent, id);
     let length = list.len();
     let a = put(page, 0, b"walk");
-    let b = put_next(page, a, length as u64);
+    let b = put_number(page, a, b" ", length as u64);
     put_walk(page, b, c, lent, id)
 }
 
+// How many requests are active.
 fn ask_active(page: &mut [u8], c: Conn) -> usize {
     let count = active_count(c);
     match count {
         Count::Active(n) => {
             let a = put(page, 0, b"active");
-            put_next(page, a, n as u64)
+            put_number(page, a, b" ", n as u64)
         }
         Count::Refused(why) => put_refused(page, 0, refusal_number(why)),
     }
@@ -168,6 +161,7 @@ fn area_of<'a>(t: Table, store: &'a [u8], i: usize) -> &'a [u8] {
     &store[z..z]
 }
 
+// What the area of the first taken slot with that id holds.
 fn ask_area(page: &mut [u8], c: Conn, store: &[u8], id: u16) -> usize {
     let t = c.table;
     let slot = first_with(t, id);
@@ -178,28 +172,11 @@ fn ask_area(page: &mut [u8], c: Conn, store: &[u8], id: u16) -> usize {
     put_hex(page, a, area_of(t, store, i))
 }
 
-// 0 for a zero, else 1.
-fn weight(b: u8) -> usize
-    ensures { λ r. ⌜ r ≤ 1 ⌝ }
-{
-    if b == 0 { 0 } else { 1 }
-}
-
-// How many bytes are not zero.
-fn set_bytes(store: &[u8]) -> usize {
-    let mut n: usize = 0;
-    let mut i: usize = 0;
-    while i < store.len() {
-        n = n + weight(store[i]);
-        i += 1;
-    }
-    n
-}
-
+// How many bytes of the store are not zero.
 fn ask_store(page: &mut [u8], store: &[u8]) -> usize {
-    let n = set_bytes(store);
+    let zeros = count_of(store, 0);
     let a = put(page, 0, b"store");
-    put_next(page, a, n as u64)
+    put_number(page, a, b" ", (store.len() - zeros) as u64)
 }
 
 // What a question is answered, over the store and as much of it as is lent.

@@ -57,6 +57,7 @@ pub fn room_of(f: Form) -> usize {
     }
 }
 
+// A line that is no poke.
 pub fn read_command(line: &[u8], bytes: &mut [u8]) -> Form {
     read_form(
         line,
@@ -66,6 +67,7 @@ pub fn read_command(line: &[u8], bytes: &mut [u8]) -> Form {
     )
 }
 
+// A field and its values.
 fn read_field(line: &[u8], bytes: &mut [u8]) -> Form {
     read_form(
         line,
@@ -75,6 +77,7 @@ fn read_field(line: &[u8], bytes: &mut [u8]) -> Form {
     )
 }
 
+// A target and its number.
 fn read_target(line: &[u8], bytes: &mut [u8]) -> Form {
     read_form(
         line,

@@ -5,8 +5,8 @@ use crate::hex::decode;
 use crate::number::Number;
 use crate::number::number_of;
 use crate::words::choice;
+use crate::words::count_of;
 use crate::words::part;
-use crate::words::spaces;
 use crate::words::word;
 use pairs::name::same;
 
@@ -19,6 +19,7 @@ pub struct Form {
     pub values: [u64; 4],
 }
 
+// The form of a line that is in no table.
 pub fn unknown() -> Form {
     Form {
         kind: UNKNOWN,
@@ -96,14 +97,14 @@ fn kinds_of<'a>(table: &'a [u8], k: usize) -> &'a [u8] {
     kinds
 }
 
-// Reads a line by a table of names and a table of kinds.
+// Reads a line by a table of names and a table of kinds. A space stands before each argument.
 pub fn read_form(line: &[u8], names: &[u8], table: &[u8], bytes: &mut [u8]) -> Form {
     let found = choice(names, word(line, 0));
     let Number::Is(k) = found else {
         return unknown();
     };
     let kinds = kinds_of(table, k as usize);
-    if spaces(line) == kinds.len() {
+    if count_of(line, 32) == kinds.len() {
         return arguments(line, k, kinds, bytes);
     }
     unknown()

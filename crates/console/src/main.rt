@@ -70,6 +70,7 @@ fn answer_all(
     }
 }
 
+// The buffers are made once.
 fn main() {
     let mut store = [0u8; 32768];
     let mut gathered = [0u8; 512];

@@ -6,6 +6,7 @@ pub enum Number {
     Not,
 }
 
+// A byte as a wider number.
 fn wide(b: u8) -> u64 {
     b as u64
 }

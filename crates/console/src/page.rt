@@ -39,17 +39,12 @@ pub fn put(page: &mut [u8], at: usize, text: &[u8]) -> usize {
     put_at(page, place, text)
 }
 
-// A number in decimal.
-pub fn put_number(page: &mut [u8], at: usize, n: u64) -> usize {
+// A mark and a number in decimal.
+pub fn put_number(page: &mut [u8], at: usize, mark: &[u8], n: u64) -> usize {
     let mut text = [0u8; 20];
     let k = io::decimal(n, &mut text);
-    put(page, at, &text[..k])
-}
-
-// A space and a number.
-pub fn put_next(page: &mut [u8], at: usize, n: u64) -> usize {
-    let place = put(page, at, b" ");
-    put_number(page, place, n)
+    let place = put(page, at, mark);
+    put(page, place, &text[..k])
 }
 
 // The hex digit of a byte's lower half.

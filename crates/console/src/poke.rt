@@ -56,10 +56,14 @@ const BODY: u64 = 16;
 // A byte of the store.
 const BYTE: u64 = 17;
 
-// From here on, what the content of the record being read is for: the number in the table of targets is added.
+// From here on, what the content of the record being read is for.
 pub const TARGET: u64 = 20;
 
-fn role_of(n: u64) -> Role {
+// A role set or left; so are the other kinds of fields below.
+fn role_if(hit: bool, n: u64, before: Role) -> Role {
+    if hit {} else {
+        return before;
+    }
     match n {
         0 => Role::Responder,
         1 => Role::Authorizer,
@@ -67,7 +71,11 @@ fn role_of(n: u64) -> Role {
     }
 }
 
-fn turn_of(n: u64) -> Turn {
+// A turn set or left.
+fn turn_if(hit: bool, n: u64, before: Turn) -> Turn {
+    if hit {} else {
+        return before;
+    }
     match n {
         0 => Turn::Params,
         1 => Turn::Stdin,
@@ -76,7 +84,11 @@ fn turn_of(n: u64) -> Turn {
     }
 }
 
-fn life_of(n: u64) -> Life {
+// A life set or left.
+fn life_if(hit: bool, n: u64, before: Life) -> Life {
+    if hit {} else {
+        return before;
+    }
     match n {
         0 => Life::Live,
         1 => Life::Faulted,
@@ -84,46 +96,23 @@ fn life_of(n: u64) -> Life {
     }
 }
 
-// The target of a number in the table of targets.
-fn target_of(n: u64, value: u64) -> Target {
-    match n {
-        0 => Target::Skip,
-        1 => Target::Begin(low16(value)),
-        2 => Target::Query,
-        3 => Target::Params(low8(value)),
-        4 => Target::Stdin(low8(value)),
-        _ => Target::Data(low8(value)),
-    }
-}
-
+// A target set or left: a field from TARGET on has its number in the table of targets.
 fn target_if(field: u64, n: u64, before: Target) -> Target {
-    if TARGET <= field {
-        return target_of(field - TARGET, n);
+    if field < TARGET {
+        return before;
     }
-    before
+    let k = field - TARGET;
+    match k {
+        0 => Target::Skip,
+        1 => Target::Begin(low16(n)),
+        2 => Target::Query,
+        3 => Target::Params(low8(n)),
+        4 => Target::Stdin(low8(n)),
+        _ => Target::Data(low8(n)),
+    }
 }
 
-fn role_if(hit: bool, n: u64, before: Role) -> Role {
-    if hit {
-        return role_of(n);
-    }
-    before
-}
-
-fn turn_if(hit: bool, n: u64, before: Turn) -> Turn {
-    if hit {
-        return turn_of(n);
-    }
-    before
-}
-
-fn life_if(hit: bool, n: u64, before: Life) -> Life {
-    if hit {
-        return life_of(n);
-    }
-    before
-}
-
+// A flag set or left.
 fn flag_if(hit: bool, n: u64, before: bool) -> bool {
     if hit {
         return n == 1;
@@ -131,6 +120,7 @@ fn flag_if(hit: bool, n: u64, before: bool) -> bool {
     before
 }
 
+// A 64-bit number set or left.
 fn count_if(hit: bool, n: u64, before: usize) -> usize {
     if hit {
         return n as usize;
@@ -138,7 +128,7 @@ fn count_if(hit: bool, n: u64, before: usize) -> usize {
     before
 }
 
-// The first eight bytes, zeros after those given.
+// Eight bytes set, zeros after those given, or left.
 fn eight_if(hit: bool, bytes: &[u8], before: [u8; 8]) -> [u8; 8] {
     if hit {
         let mut eight = [0u8; 8];
@@ -148,6 +138,7 @@ fn eight_if(hit: bool, bytes: &[u8], before: [u8; 8]) -> [u8; 8] {
     before
 }
 
+// The marks with a field set, if it is one of theirs.
 fn mark_with(m: Mark, field: u64, n: u64) -> Mark {
     let role = m.role;
     let turn = m.turn;
@@ -163,6 +154,7 @@ fn mark_with(m: Mark, field: u64, n: u64) -> Mark {
     }
 }
 
+// A 16-bit number set or left.
 fn number_if(hit: bool, n: u64, before: u16) -> u16 {
     if hit {
         return low16(n);
@@ -184,6 +176,7 @@ fn table_with(t: Table, field: u64, a: u64, b: u64) -> Table {
     table
 }
 
+// The record being read with a field set, if it is one of its own.
 fn frame_with(f: Frame, field: u64, n: u64, bytes: &[u8]) -> Frame {
     let p = f.position;
     let target = f.target;

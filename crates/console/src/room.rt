@@ -3,6 +3,7 @@
 // What stands in it before the call.
 const FILL: u8 = 238;
 
+// Fills it.
 pub fn fill(room: &mut [u8]) {
     let mut i: usize = 0;
     while i < room.len() {

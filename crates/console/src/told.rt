@@ -2,7 +2,7 @@
 use crate::page::end_line;
 use crate::page::put;
 use crate::page::put_hex;
-use crate::page::put_next;
+use crate::page::put_number;
 use crate::words::part;
 use crate::write::put_refused;
 use connection::answer::Told;
@@ -12,6 +12,7 @@ use draft::LONGEST;
 use lines::write_line;
 use numbers::refusal_number;
 
+// The name of a stream.
 fn put_stream(page: &mut [u8], at: usize, stream: Stream) -> usize {
     match stream {
         Stream::Stdin => put(page, at, b" stdin"),
@@ -22,7 +23,7 @@ fn put_stream(page: &mut [u8], at: usize, stream: Stream) -> usize {
 // Data: its id, its stream and its bytes.
 fn put_data(page: &mut [u8], at: usize, id: u16, stream: Stream, bytes: &[u8]) -> usize {
     let a = put(page, at, b" data");
-    let b = put_next(page, a, id as u64);
+    let b = put_number(page, a, b" ", id as u64);
     let d = put_stream(page, b, stream);
     put_hex(page, d, bytes)
 }
@@ -38,6 +39,7 @@ fn put_line(page: &mut [u8], at: usize, e: Event) -> usize {
     put(page, a, part(&text, 0, n - 1))
 }
 
+// What an event adds to the line of its step.
 fn put_event(page: &mut [u8], at: usize, e: Event, piece: &[u8]) -> usize {
     if let Event::Data(id, stream, n) = e {
         return put_data(page, at, id, stream, part(piece, 0, n));
@@ -50,7 +52,7 @@ pub fn put_told(page: &mut [u8], used: usize, told: Told, piece: &[u8]) {
     match told {
         Told::Event(e) => {
             let a = put(page, 0, b"used");
-            let b = put_next(page, a, used as u64);
+            let b = put_number(page, a, b" ", used as u64);
             let d = put_event(page, b, e, piece);
             end_line(page, d);
         }

@@ -2,6 +2,7 @@
 use crate::number::Number;
 use pairs::name::same;
 ghost use Prim.Native.Nat.{_≤_};
+ghost use lib.ListN.{length};
 
 // The bytes of s from a to e; none where there is no such part.
 pub fn part<'a>(s: &'a [u8], a: usize, e: usize) -> &'a [u8] {
@@ -14,19 +15,21 @@ pub fn part<'a>(s: &'a [u8], a: usize, e: usize) -> &'a [u8] {
     &s[z..z]
 }
 
-// 1 for a space, else 0.
-fn space(b: u8) -> usize
+// 1 if two bytes are the same, else 0.
+fn one_if_same(a: u8, b: u8) -> usize
     ensures { λ r. ⌜ r ≤ 1 ⌝ }
 {
-    if b == 32 { 1 } else { 0 }
+    if a == b { 1 } else { 0 }
 }
 
-// How many spaces a line has: so many words stand behind its first.
-pub fn spaces(line: &[u8]) -> usize {
+// How many bytes of a text are b.
+pub fn count_of(text: &[u8], b: u8) -> usize
+    ensures { λ r. ⌜ r ≤ length (now (text .entry)) ⌝ }
+{
     let mut n: usize = 0;
     let mut i: usize = 0;
-    while i < line.len() {
-        n = n + space(line[i]);
+    while i < text.len() {
+        n = n + one_if_same(text[i], b);
         i += 1;
     }
     n

@@ -8,7 +8,7 @@ use crate::number::low32;
 use crate::page::end_line;
 use crate::page::put;
 use crate::page::put_hex;
-use crate::page::put_next;
+use crate::page::put_number;
 use crate::room::fill;
 use crate::room::touched;
 use crate::words::part;
@@ -40,6 +40,7 @@ pub struct Called {
     pub conn: Conn,
 }
 
+// What output and replies came to.
 fn of_wrote(wrote: Wrote) -> Effect {
     match wrote {
         Wrote::Bytes(n) => Effect::Bytes(n),
@@ -47,6 +48,7 @@ fn of_wrote(wrote: Wrote) -> Effect {
     }
 }
 
+// What a pair came to.
 fn of_pairing(wrote: Pairing) -> Effect {
     match wrote {
         Pairing::Bytes(n) => Effect::Bytes(n),
@@ -55,6 +57,7 @@ fn of_pairing(wrote: Pairing) -> Effect {
     }
 }
 
+// What a finish came to.
 fn of_finish(finish: Finish) -> Effect {
     match finish {
         Finish::Open(n) => Effect::Open(n),
@@ -63,6 +66,7 @@ fn of_finish(finish: Finish) -> Effect {
     }
 }
 
+// Data to a request's STDOUT or STDERR.
 fn say(c: Conn, id: u16, output: Output, bytes: &[u8], room: &mut [u8]) -> Called {
     let written = write_output(c, id, output, bytes, room);
     let wrote = written.wrote;
@@ -73,6 +77,7 @@ fn say(c: Conn, id: u16, output: Output, bytes: &[u8], room: &mut [u8]) -> Calle
     }
 }
 
+// The end of one of them.
 fn end_stream(c: Conn, id: u16, output: Output, room: &mut [u8]) -> Called {
     let written = end_output(c, id, output, room);
     let wrote = written.wrote;
@@ -83,6 +88,7 @@ fn end_stream(c: Conn, id: u16, output: Output, room: &mut [u8]) -> Called {
     }
 }
 
+// The reply that an event owes.
 fn owed(c: Conn, e: Event, room: &mut [u8]) -> Called {
     let wrote = reply(e, room);
     Called {
@@ -91,6 +97,7 @@ fn owed(c: Conn, e: Event, room: &mut [u8]) -> Called {
     }
 }
 
+// A pair; the connection has no part in it.
 fn pair(c: Conn, name: &[u8], value: &[u8], room: &mut [u8]) -> Called {
     let wrote = write_pair(room, name, value);
     Called {
@@ -99,6 +106,7 @@ fn pair(c: Conn, name: &[u8], value: &[u8], room: &mut [u8]) -> Called {
     }
 }
 
+// The end of a request.
 fn finish(c: Conn, store: &mut [u8], id: u16, status: u32, room: &mut [u8]) -> Called {
     let finished = end_request(c, store, id, status, room);
     let end = finished.finish;
@@ -109,6 +117,7 @@ fn finish(c: Conn, store: &mut [u8], id: u16, status: u32, room: &mut [u8]) -> C
     }
 }
 
+// The stream of a number.
 fn output_of(n: u64) -> Output {
     match n {
         0 => Output::Stdout,
@@ -156,7 +165,7 @@ pub fn fill_and_call(
 // `wrote N HEX` and a last word.
 fn put_wrote(page: &mut [u8], at: usize, room: &[u8], n: usize, last: &[u8]) -> usize {
     let a = put(page, at, b"wrote");
-    let b = put_next(page, a, n as u64);
+    let b = put_number(page, a, b" ", n as u64);
     let d = put_hex(page, b, part(room, 0, n));
     put(page, d, last)
 }
@@ -200,5 +209,5 @@ pub fn put_effect(page: &mut [u8], e: Effect, room: &[u8]) {
 // `refused N`
 pub fn put_refused(page: &mut [u8], at: usize, why: u8) -> usize {
     let a = put(page, at, b"refused");
-    put_next(page, a, why as u64)
+    put_number(page, a, b" ", why as u64)
 }

@@ -5,10 +5,10 @@ use Rattle.console.proofs.ask.put_walk.Statement.{statement}
 use Rattle.console.proofs.ask.put_walk.Tie as tie
 
 abbrev Inv-loop : tie.InvT-loop
-Inv-loop page₀ at c lent id next₀ place₀ turns₀ page next place turns = length page ≡ length page₀
+Inv-loop page₀ at c lent id next₀ place₀ turns₀ t12 page next place turns = length page ≡ length page₀
 
 abbrev μ-loop : tie.MeasureT-loop
-μ-loop page₀ at c lent id next₀ place₀ turns₀ page next place turns = turns
+μ-loop page₀ at c lent id next₀ place₀ turns₀ t12 page next place turns = turns
 
 loop-holds : tie.Need-loop-holds Inv-loop μ-loop
 loop-holds c = refl
@@ -28,8 +28,11 @@ same-length c = search needs
 returns : tie.Need-returns Inv-loop μ-loop
 returns c = search needs
 
-put-span-requires : tie.Need-put-span-requires Inv-loop μ-loop
-put-span-requires c κs = search needs
+slice-aggregate-put-pair : tie.Need-slice-aggregate-put-pair Inv-loop μ-loop
+slice-aggregate-put-pair c = search needs
+
+put-pair-requires : tie.Need-put-pair-requires Inv-loop μ-loop
+put-pair-requires c κs = search needs
 
 sub-turns : tie.Need-sub-turns Inv-loop μ-loop
 sub-turns c = search needs
@@ -61,7 +64,8 @@ put-walk-spec =
     put-stop-requires
     same-length
     returns
-    put-span-requires
+    slice-aggregate-put-pair
+    put-pair-requires
     sub-turns
     loop-less
     loop-again

@@ -2,23 +2,23 @@ use Prim.Native.Nat.{_-_, _≤_}
 use lib.ListN.{length}
 use native.Mathlib.Omega.{arith}
 use borrow.Author.Needs.{needs}
-use Rattle.console.proofs.words.spaces.Statement.{statement}
-use Rattle.console.proofs.words.spaces.Tie as tie
+use Rattle.console.proofs.words.count_of.Statement.{statement}
+use Rattle.console.proofs.words.count_of.Tie as tie
 
 abbrev Inv-loop : tie.InvT-loop
-Inv-loop line n₀ i₀ n i = (i ≤ length line) × (n ≤ i)
+Inv-loop text b n₀ i₀ n i = (i ≤ length text) × (n ≤ i)
 
 abbrev μ-loop : tie.MeasureT-loop
-μ-loop line n₀ i₀ n i = length line - i
+μ-loop text b n₀ i₀ n i = length text - i
 
 loop-holds : tie.Need-loop-holds Inv-loop μ-loop
 loop-holds c = omega arith
 
-shared-slice-read-space : tie.Need-shared-slice-read-space Inv-loop μ-loop
-shared-slice-read-space c = search needs
+shared-slice-read-one-if-same : tie.Need-shared-slice-read-one-if-same Inv-loop μ-loop
+shared-slice-read-one-if-same c = search needs
 
-space-requires : tie.Need-space-requires Inv-loop μ-loop
-space-requires c κs = search needs
+one-if-same-requires : tie.Need-one-if-same-requires Inv-loop μ-loop
+one-if-same-requires c κs = search needs
 
 add-n : tie.Need-add-n Inv-loop μ-loop
 add-n c = search needs
@@ -35,15 +35,15 @@ loop-again c = search needs
 returns : tie.Need-returns Inv-loop μ-loop
 returns c = search needs
 
-pub spaces-spec : {M : Type 1} → statement M
-spaces-spec =
+pub count-of-spec : {M : Type 1} → statement M
+count-of-spec =
     tie.close
     (tie.spec
     Inv-loop
     μ-loop
     loop-holds
-    shared-slice-read-space
-    space-requires
+    shared-slice-read-one-if-same
+    one-if-same-requires
     add-n
     add-i
     loop-less
