@@ -98,3 +98,11 @@ pub fn past_pair<'a>(w: Walk<'a>) -> Walk<'a>
         refusal: w.refusal,
     }
 }
+
+// Reading on from a place of a request's list, by the walk's own functions: for callers that hold a store and a number,
+// and no walk.
+pub fn pair_from(c: Conn, store: &[u8], id: u16, place: usize) -> Read
+    ensures { λ r. ⌜ r ≡ pairAt (walk c (now (store .entry)) id .list) place ⌝ }
+{
+    next_pair(moved(walk_pairs(c, store, id), place))
+}

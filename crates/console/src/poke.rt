@@ -1,0 +1,226 @@
+// Fields of the state set to whatever is given. A field has the number of its name in the table of fields.
+use crate::number::low8;
+use crate::number::low16;
+use crate::words::part;
+use connection::request::Life;
+use connection::request::Mark;
+use connection::request::Role;
+use connection::request::Turn;
+use connection::sizes::SLOTS;
+use connection::state::Conn;
+use connection::state::Frame;
+use connection::state::Table;
+use connection::state::Target;
+use reader::Position;
+use wire::clear;
+use wire::copy_into;
+use wire::least;
+
+// Fields that are one for the connection.
+const OPEN: u64 = 0;
+
+const OCCUPIED: u64 = 1;
+
+// Fields of a slot.
+const ID: u64 = 2;
+
+const LENGTH: u64 = 3;
+
+const ROLE: u64 = 4;
+
+const KEEP: u64 = 5;
+
+const TURN: u64 = 6;
+
+const SPENT: u64 = 7;
+
+const OUT_ENDED: u64 = 8;
+
+const ERR_USED: u64 = 9;
+
+const ERR_ENDED: u64 = 10;
+
+// Fields of the record being read.
+const HELD: u64 = 11;
+
+const HEADER: u64 = 12;
+
+const CONTENT: u64 = 13;
+
+const PADDING: u64 = 14;
+
+const GATHERED: u64 = 15;
+
+const BODY: u64 = 16;
+
+// A byte of the store.
+const BYTE: u64 = 17;
+
+// From here on, what the content of the record being read is for.
+pub const TARGET: u64 = 20;
+
+// A role set or left; so are the other kinds of fields below.
+fn role_if(hit: bool, n: u64, before: Role) -> Role {
+    if hit {} else {
+        return before;
+    }
+    match n {
+        0 => Role::Responder,
+        1 => Role::Authorizer,
+        _ => Role::Filter,
+    }
+}
+
+// A turn set or left.
+fn turn_if(hit: bool, n: u64, before: Turn) -> Turn {
+    if hit {} else {
+        return before;
+    }
+    match n {
+        0 => Turn::Params,
+        1 => Turn::Stdin,
+        2 => Turn::Data,
+        _ => Turn::Done,
+    }
+}
+
+// A life set or left.
+fn life_if(hit: bool, n: u64, before: Life) -> Life {
+    if hit {} else {
+        return before;
+    }
+    match n {
+        0 => Life::Live,
+        1 => Life::Faulted,
+        _ => Life::Aborted,
+    }
+}
+
+// A target set or left: a field from TARGET on has its number in the table of targets.
+fn target_if(field: u64, n: u64, before: Target) -> Target {
+    if field < TARGET {
+        return before;
+    }
+    let k = field - TARGET;
+    match k {
+        0 => Target::Skip,
+        1 => Target::Begin(low16(n)),
+        2 => Target::Query,
+        3 => Target::Params(low8(n)),
+        4 => Target::Stdin(low8(n)),
+        _ => Target::Data(low8(n)),
+    }
+}
+
+// A flag set or left.
+fn flag_if(hit: bool, n: u64, before: bool) -> bool {
+    if hit {
+        return n == 1;
+    }
+    before
+}
+
+// A 64-bit number set or left.
+fn count_if(hit: bool, n: u64, before: usize) -> usize {
+    if hit {
+        return n as usize;
+    }
+    before
+}
+
+// Eight bytes set, zeros after those given, or left.
+fn eight_if(hit: bool, bytes: &[u8], before: [u8; 8]) -> [u8; 8] {
+    if hit {
+        let mut eight = [0u8; 8];
+        copy_into(&mut eight, 0, bytes);
+        return eight;
+    }
+    before
+}
+
+// The marks with a field set, if it is one of theirs.
+fn mark_with(m: Mark, field: u64, n: u64) -> Mark {
+    let role = m.role;
+    let turn = m.turn;
+    let life = m.life;
+    Mark {
+        role: role_if(field == ROLE, n, role),
+        turn: turn_if(field == TURN, n, turn),
+        life: life_if(field == SPENT, n, life),
+        keep: flag_if(field == KEEP, n, m.keep),
+        out_ended: flag_if(field == OUT_ENDED, n, m.out_ended),
+        err_used: flag_if(field == ERR_USED, n, m.err_used),
+        err_ended: flag_if(field == ERR_ENDED, n, m.err_ended),
+    }
+}
+
+// A 16-bit number set or left.
+fn number_if(hit: bool, n: u64, before: u16) -> u16 {
+    if hit {
+        return low16(n);
+    }
+    before
+}
+
+// The table with its word, or a field of slot a, set.
+fn table_with(t: Table, field: u64, a: u64, b: u64) -> Table {
+    let i = a as usize;
+    let mut table = t;
+    table.occupied = number_if(field == OCCUPIED, a, t.occupied);
+    if i < SLOTS {
+        let mark = t.marks[i];
+        table.ids[i] = number_if(field == ID, b, t.ids[i]);
+        table.lengths[i] = number_if(field == LENGTH, b, t.lengths[i]);
+        table.marks[i] = mark_with(mark, field, b);
+    }
+    table
+}
+
+// The record being read with a field set, if it is one of its own.
+fn frame_with(f: Frame, field: u64, n: u64, bytes: &[u8]) -> Frame {
+    let p = f.position;
+    let target = f.target;
+    let body = f.body;
+    let header = p.header;
+    Frame {
+        position: Position {
+            content: count_if(field == CONTENT, n, p.content),
+            padding: count_if(field == PADDING, n, p.padding),
+            held: count_if(field == HELD, n, p.held),
+            header: eight_if(field == HEADER, bytes, header),
+        },
+        target: target_if(field, n, target),
+        gathered: count_if(field == GATHERED, n, f.gathered),
+        body: eight_if(field == BODY, bytes, body),
+    }
+}
+
+// The connection with a field set to a, or of slot a to b.
+pub fn poked(c: Conn, field: u64, a: u64, b: u64, bytes: &[u8]) -> Conn {
+    let t = c.table;
+    let f = c.frame;
+    let eight = part(bytes, 0, least(a as usize, 8));
+    Conn {
+        table: table_with(t, field, a, b),
+        frame: frame_with(f, field, a, eight),
+        open: flag_if(field == OPEN, a, c.open),
+    }
+}
+
+// A byte of the store set.
+pub fn poke_store(store: &mut [u8], field: u64, a: u64, b: u64) {
+    let i = a as usize;
+    if field == BYTE {
+        if i < store.len() {
+            store[i] = low8(b);
+        }
+    }
+}
+
+// The gathered bytes set to the first n, zeros after those.
+pub fn poke_gathered(gathered: &mut [u8; 512], field: u64, n: u64, bytes: &[u8]) {
+    if field == BODY {
+        clear(gathered);
+        copy_into(gathered, 0, part(bytes, 0, n as usize));
+    }
+}
