@@ -1,10 +1,18 @@
 -- Demand 3, the statement. `Runs/Theorem` proves it.
 --
--- Many requests share a connection. Take any run A: a start, then steps over pieces and calls, in any order, refused ones too. Strike out all bytes of records that are not R's and all calls that do not name R. Let B be any run, from a start of its own, of what is left: the same bytes in any pieces, the same calls with the same arguments and lent bytes, each behind as many bytes of R's records. Then R cannot tell the two apart: what is told of R, what R's calls answer and leave in their buffers, and R's request with its whole area, before and after each of its calls and at the end, are the same.
+-- Many requests share a connection. Take any run A: a start, then steps over pieces and calls, in any order, refused
+-- ones too. Strike out all bytes of records that are not R's and all calls that do not name R. Let B be any run, from
+-- a start of its own, of what is left: the same bytes in any pieces, the same calls with the same arguments and lent
+-- bytes, each behind as many bytes of R's records. Then R cannot tell the two apart: what is told of R, what R's calls
+-- answer and leave in their buffers, and R's request with its whole area, before and after each of its calls and at
+-- the end, are the same.
 --
--- Of A it is asked that it ends open and between two records, and that R is never refused there for want of a slot. Nothing is asked of B but that it does not stop early: if it has not had all of R's items, it is closed. That it has had them all, and ends open and between two records too, is concluded.
+-- Of A it is asked that it ends open and between two records, and that R is never refused there for want of a slot.
+-- Nothing is asked of B but that it does not stop early: if it has not had all of R's items, it is closed. That it has
+-- had them all, and ends open and between two records too, is concluded.
 --
--- Runs, timelines and what is observed are defined in `Run`, striking out (`purge`) in the crate `machine`, `Timeline`; steps and calls are those that the contracts of the code cite.
+-- Runs, timelines and what is observed are defined in `Run`, striking out (`purge`) in the crate `machine`,
+-- `Timeline`; steps and calls are those that the contracts of the code cite.
 use mathlib.Core.Path.{_≡_}
 use mathlib.Core.List.{List, [], _++_, List·Memᴰ}
 use mathlib.Core.Logic.{_⊎_}
@@ -31,7 +39,8 @@ overloadedFor R = Heard (Note.Told (Event.Refuse R OVERLOADED))
 abbrev pub NeverOverloaded : ℕ → WholeRun → Type 0
 NeverOverloaded R r = List·Memᴰ (overloadedFor R) (observedIn r) → ⊥
 
--- B is for R's items of A: its timeline begins what purging leaves of A's, and is all of that, or B is closed at its end.
+-- B is for R's items of A: its timeline begins what purging leaves of A's, and is all of that, or B is closed at its
+-- end.
 pub record RunsFor (R : ℕ) (A B : WholeRun) : Type 0 where
   pub rest : List (Item Argument)
   pub prefix : timelineOf B ++ rest ≡ purge R (timelineOf A)
