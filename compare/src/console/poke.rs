@@ -36,7 +36,14 @@ fn poke_request(request: &mut Request, field: &str, value: &str) -> Option<()> {
     match field {
         "id" => request.id = id(value)?,
         "length" => request.length = id(value)?,
-        "role" => request.role = Role::of(id(value)?)?,
+        "role" => {
+            request.role = match value {
+                "1" => Role::Responder,
+                "2" => Role::Authorizer,
+                "3" => Role::Filter,
+                _ => return None,
+            }
+        }
         "keep" => request.keep = flag(value)?,
         "turn" => {
             request.turn = match value {

@@ -18,8 +18,13 @@ pub fn room(word: &str) -> Option<usize> {
     number(word, 65_536).map(|n| n as usize)
 }
 
+/// To the letter: `01` is none.
 pub fn flag(word: &str) -> Option<bool> {
-    number(word, 1).map(|n| n == 1)
+    match word {
+        "0" => Some(false),
+        "1" => Some(true),
+        _ => None,
+    }
 }
 
 /// Lower-case hex, two digits a byte; `-` is no bytes.
