@@ -88,7 +88,7 @@ const LINES: [&str; 80] = [
 ];
 
 /// What stands behind `poke`, refused for one reason each.
-const POKES: [&str; 44] = [
+const POKES: [&str; 47] = [
     "open",
     "open 2",
     "open 0 0",
