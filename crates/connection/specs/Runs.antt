@@ -19,9 +19,6 @@ pub mod Hygiene
 pub mod SecondRun
 pub mod RunParts
 pub mod SmallRuns
-pub mod PremiseRuns
-pub mod PremiseTests
-pub mod Example
 pub mod WellFormedLists
 pub mod DueLive
 pub mod SpentSilent
@@ -30,5 +27,4 @@ pub mod HistoryRequest
 pub mod HistoryTarget
 pub mod HistoryScan
 pub mod HistoryRuns
-pub mod HistoryCase
 pub mod ReadyLength

@@ -1,7 +1,6 @@
 -- Bytes fed from a fresh start, for the cases: what is told on the way.
-use Prim.Native.Nat.{ℕ, zero, suc, _+_}
+use Prim.Native.Nat.{ℕ, zero, suc}
 use mathlib.Core.List.{List, [], _∷_, _++_}
-use lib.ListN.{length}
 use Rattle.wire.specs.Buffer.{zeros}
 use Rattle.connection.specs.Sizes.{STORE, QUERY}
 use Rattle.connection.specs.Event.{Event}

@@ -20,25 +20,25 @@ use Rattle.pairs.specs.Pair.{pairAt}
 use Rattle.lists.specs.List.{pairsIn, pairsFrom, endingOf, wellFormed, firstIn, firstNamed}
 use Rattle.writer.specs.Written.{paddingOf, recordBytes, chunksIn, chunks, streamBytes}
 use Rattle.machine.specs.Timeline.{byteItems, itemBytes, headerId, headerContent, headerPadding, scanLeft, scanWhole, scanNext, isOwn, isOwnCall, purgeFrom, purge}
 use Rattle.connection.specs.declared.answer.Output.{Output}
 use Rattle.connection.specs.declared.request.Role.{Role}
 use Rattle.connection.specs.declared.request.Turn.{Turn}
 use Rattle.connection.specs.declared.request.Life.{Life}
 use Rattle.connection.specs.Sizes.{STORE, QUERY, AREA}
 use Rattle.connection.specs.Event.{Event}
 use Rattle.connection.specs.Request.{Held, withTurn, withLife, faulted, aborted, turned, paramsFault, paramsEnded, onParams, onStdin, onData, onInput, onLive, onHeader, grown, opened}
 use Rattle.connection.specs.RequestCalls as Of
 use Rattle.connection.specs.Slots.{requestAt, areaAt, putRequest, putArea, takeSlot, freeSlot, holdsId, findFrom}
 use Rattle.connection.specs.Shape.{idFits, slotsFit, positionFits, inShape}
 use Rattle.connection.specs.Step.{onInactive, onActive, judged, opens, begun, ofBegin, ofRequest, advances, stepRefusal, stepped, started}
 use Rattle.connection.specs.Calls as C
 use Rattle.connection.specs.Bytewise.{Note, showing}
 use Rattle.connection.specs.Arguments.{ForValue, ForSay, ForFinish, ValueIs, Wrote, FinishedWith}
 use Rattle.connection.specs.Run.{Operation, StepOver, CallFor, CountActive, Heard, Answered, requestOf, called, leftBy, seenIn, itemsOf, finalMemory, allSeen, timeline, startOf, WholeRun, ending, timelineOf, observedIn, seenOf, observed}
 use Rattle.connection.specs.Isolation.{EndsBetweenRecords, Isolated}
 use Rattle.connection.specs.Runs.Records.{between-whole}
 use Rattle.connection.specs.Runs.Theorem.{isolation}
-use Rattle.connection.specs.Runs.PremiseTests.{allBelow, piecesBelow, below-pieces, refusedIn, never-refused}
+use Rattle.examples.specs.RunTests.{allBelow, piecesBelow, below-pieces, refusedIn, never-refused}
 
 -- ---- two runs
 -- the buffer that is lent to the calls

@@ -41,7 +41,7 @@ abbrev others : List Operation
 others =
     begin 2 ++ begin 3 ++ begin 4 ++ begin 5 ++ begin 6 ++ begin 7 ++ begin 8 ++ begin 9 ++ begin 10 ++ begin 11 ++ begin 12 ++ begin 13 ++ begin 14 ++ begin 15 ++ begin 16 ++ begin 17
 
-pub record PremiseRuns : Type 0 where
+pub record Premises : Type 0 where
   -- The whole run ends open. Here a record of 2 has the version 2 and closes the connection; alone, 1 would still be there.
   closed-by-another : leftOfOne (begin 1 ++ (StepOver (2 ∷ 1 ∷ 0 ∷ 2 ∷ 0 ∷ 8 ∷ 0 ∷ 0 ∷ []) ∷ [])) ≡ none
   not-alone : leftOfOne (begin 1) ≡ one 0 Turn.Params (zeros AREA)
@@ -53,7 +53,7 @@ pub record PremiseRuns : Type 0 where
   -- The second run has all of 1's items, or is closed. Here it has only the header of the BEGIN record: nothing is told of 1 yet.
   stops-early : seenOfOne (header 1 1 8 ∷ []) ≡ []
 
-pub premise-runs : PremiseRuns
+pub premises : Premises
 unfolding copied taken lowestFree withBit withSlot withoutBit withoutSlot headerOf beginBodyOf headerBytes endBodyBytes advanced inHeader number4 fourAt lengthAt pairAt sameBytes pairsIn pairsFrom endingOf wellFormed firstIn firstNamed paddingOf recordBytes chunksIn chunks streamBytes flatten withTurn withLife faulted aborted turned paramsFault paramsEnded onParams onStdin onData onInput onLive onHeader grown opened Of.valueIn Of.writes Of.saidOn Of.sayIn Of.owesOut Of.owesErr Of.finishBytes Of.finishIn requestAt areaAt putRequest putArea takeSlot freeSlot holdsId findFrom idFits slotsFit positionFits inShape onInactive onActive judged opens begun ofBegin ofRequest advances stepRefusal stepped started showing C.lentRefusal C.callRefusal C.value C.say C.released C.finishes C.finish byteItems requestOf called leftBy seenIn itemsOf finalMemory allSeen timeline startOf seenOf closes
-premise-runs =
+premises =
     record { closed-by-another = refl; not-alone = refl; cut-in-header = refl; refused-for-others = refl; opens-alone = refl; stops-early = refl }
