@@ -80,6 +80,22 @@ pub fn write_record(buffer: &mut [u8], kind: u8, id: u16, content: &[u8]) -> usi
     length
 }
 
+/// A record as others may write it: any padding, any reserved byte.
+pub fn record_with(kind: u8, id: u16, content: &[u8], reserved: u8, padding: &[u8]) -> Vec<u8> {
+    let header = Header {
+        version: VERSION,
+        kind,
+        id,
+        content: content.len() as u16,
+        padding: padding.len() as u8,
+    };
+    let mut bytes = header.to_bytes().to_vec();
+    bytes[HEADER - 1] = reserved;
+    bytes.extend(content);
+    bytes.extend(padding);
+    bytes
+}
+
 /// The body of END_REQUEST: the application's status, the protocol's, three reserved bytes.
 pub fn end_body(application: u32, protocol: u8) -> [u8; 8] {
     let [a, b, c, d] = application.to_be_bytes();

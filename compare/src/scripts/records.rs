@@ -3,7 +3,7 @@
 use crate::pairs::{pair_length, write_pair};
 use crate::random::Random;
 use crate::state::AREA;
-use crate::wire::Header;
+use crate::wire::record_with;
 
 /// A record with random padding, whose bytes and reserved byte are anything.
 pub fn record(random: &mut Random, kind: u8, id: u16, content: &[u8]) -> Vec<u8> {
@@ -13,18 +13,8 @@ pub fn record(random: &mut Random, kind: u8, id: u16, content: &[u8]) -> Vec<u8>
         10 => random.byte() % 40,
         _ => 255,
     };
-    let header = Header {
-        version: 1,
-        kind,
-        id,
-        content: content.len() as u16,
-        padding,
-    };
-    let mut bytes = header.to_bytes().to_vec();
-    bytes[7] = random.byte();
-    bytes.extend(content);
-    bytes.extend(random.bytes(padding.into()));
-    bytes
+    let reserved = random.byte();
+    record_with(kind, id, content, reserved, &random.bytes(padding.into()))
 }
 
 /// Mostly a known role; mostly KEEP_CONN, since a finish without it ends all.

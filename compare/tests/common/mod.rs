@@ -3,7 +3,7 @@
 
 use compare::answer::{Event, Refusal, Step, Stream};
 use compare::state::{Connection, STORE};
-use compare::wire::{kind, Header};
+use compare::wire::{kind, record_with};
 
 pub struct Station {
     pub connection: Connection,
@@ -26,18 +26,7 @@ pub fn record(kind: u8, id: u16, content: &[u8]) -> Vec<u8> {
 
 /// Padding and the reserved byte are anything but zero.
 pub fn padded(kind: u8, id: u16, content: &[u8], padding: u8) -> Vec<u8> {
-    let header = Header {
-        version: 1,
-        kind,
-        id,
-        content: content.len() as u16,
-        padding,
-    };
-    let mut bytes = header.to_bytes().to_vec();
-    bytes[7] = 0xaa;
-    bytes.extend(content);
-    bytes.extend(vec![0xbb; padding.into()]);
-    bytes
+    record_with(kind, id, content, 0xaa, &vec![0xbb; padding.into()])
 }
 
 impl Station {
