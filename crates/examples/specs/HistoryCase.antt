@@ -2,6 +2,7 @@
 use mathlib.Core.Path.{_≡_, refl}
 use mathlib.Core.List.{List, [], _∷_, _++_}
 use Prim.Native.Nat.{ℕ}
+use Rattle.record.specs.Header.{headerOf}
 use Rattle.record.specs.Body.{beginBodyOf}
 use Rattle.machine.specs.Slots as S
 use Rattle.machine.specs.Machine as M
@@ -20,5 +21,5 @@ abbrev aborting : List ℕ
 aborting = 1 ∷ 2 ∷ 0 ∷ 1 ∷ 0 ∷ 0 ∷ 0 ∷ 0 ∷ 1 ∷ 4 ∷ 0 ∷ 1 ∷ 0 ∷ 1 ∷ 0 ∷ 0 ∷ 55 ∷ []
 
 pub history-case : historyOf 1 (byteItems (opening ++ aborting)) ≡ 1 ∷ 0 ∷ 97 ∷ []
-unfolding byteItems parametersBy witnessed scanParams scanWholeParams scanLeft M.onItem M.fresh M.recordByte M.headerByte M.headerVersioned M.headerRouted M.headerFound M.headerDecided M.inactiveHeader M.contentByte M.beginWhole M.requestSeated M.streamByte M.withLeft M.targetAt M.eventFrom headerVersion headerType headerId headerContent headerPadding S.lookup S.lookupFurther S.firstVacancy S.vacancyFurther P.receiveHeader P.receiveByte P.receiveBegin P.receiveInactive Q.onHeader Q.onLive Q.onInput Q.onParams Q.grown Q.opened Q.aborted Q.withLife beginBodyOf
+unfolding headerOf byteItems parametersBy witnessed scanParams scanWholeParams scanLeft M.onItem M.fresh M.recordByte M.headerByte M.headerVersioned M.headerRouted M.headerFound M.headerDecided M.inactiveHeader M.contentByte M.beginWhole M.requestSeated M.streamByte M.withLeft M.targetAt M.eventFrom headerVersion headerType headerId headerContent headerPadding S.lookup S.lookupFurther S.firstVacancy S.vacancyFurther P.receiveHeader P.receiveByte P.receiveBegin P.receiveInactive Q.onHeader Q.onLive Q.onInput Q.onParams Q.grown Q.opened Q.aborted Q.withLife beginBodyOf
 history-case = refl

@@ -8,11 +8,12 @@ use lib.ListN.{length, List·getD-append, length-append}
 use lib.Dec.{eqb}
 use borrow.Author.Tests.{lt-ltb, le-ltb}
 use Rattle.wire.specs.Test.{if_then_else_, _=?_}
+use Rattle.record.specs.Header.{headerOf}
 use Rattle.machine.specs.Timeline.{Call, Item, ByteItem, CallItem, itemBytes, headerId, headerContent, headerPadding, Scan, ScanHeader, scanLeft, scanWhole, scanNext, isOwn, isOwnCall, purgeFrom, purge}
 
 -- a header's first eight bytes tell its id
 pub header-id-known : (h l : List ℕ) → 8 ≤ length h → headerId (h ++ l) ≡ headerId h
-unfolding headerId
+unfolding headerId headerOf
 header-id-known h l n =
     let n2 : 2 < length h = omega arith in
     let n3 : 3 < length h = omega arith in

@@ -9,6 +9,7 @@ use lib.ListN.{length}
 use lib.Dec.{eqb, ltb}
 use borrow.Author.Tests.{eqb-false, ltb-true}
 use Rattle.machine.specs.Slots.{HeldBy, Lookup, Absent, FoundAt, lookup, slotAt, LookupRight, lookup-right, slot-written}
+use Rattle.record.specs.Header.{headerOf}
 use Rattle.machine.specs.Timeline.{headerVersion, headerType, headerId, headerContent, headerPadding}
 use Rattle.machine.specs.Machine.{HeaderOutcome, Decided, InactiveOutcome, WrongBegin, NewBegin, PassedOver, ManagementOutcome, QueryTooLong, Notices, Gathers, Machine, Target, Skip, ToBegin, ToSlot, Reading, Slots, withLeft, queryWhole, queryHeader, managementHeader, inactiveHeader, targetAt, headerDecided, headerFound, headerRouted, headerVersioned, headerByte}
 use Rattle.machine.specs.Laws.{HeaderOutcomeOk, InactiveOutcomeOk, ManagementOutcomeOk, Laws}
@@ -21,11 +22,11 @@ module _ (M : Machine) (L : Laws M) where
 
   -- ---- what a header can say
   header-content-bound : (h : List ℕ) → BytesOk h → headerContent h ≤ 65535
-  unfolding headerContent
+  unfolding headerContent headerOf
   header-content-bound h b = omega (arith, b 4, b 5)
 
   header-padding-bound : (h : List ℕ) → BytesOk h → headerPadding h ≤ 255
-  unfolding headerPadding
+  unfolding headerPadding headerOf
   header-padding-bound h b = omega (arith, b 6)
 
   -- so much left of a record

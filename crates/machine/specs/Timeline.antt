@@ -4,8 +4,7 @@ use mathlib.Core.Bool.{Bool, true, false}
 use Prim.Native.Nat.{ℕ, zero, suc}
 use lib.ListN.{length}
 use Rattle.wire.specs.Test.{if_then_else_, _<?_, _=?_}
-use Rattle.wire.specs.Buffer.{byteAt}
-use Rattle.wire.specs.Number.{number2}
+use Rattle.record.specs.Header.{headerOf}
 
 -- ---- items
 -- A call names the request that it is for; the active number names nobody.
@@ -29,26 +28,26 @@ itemBytes [] = []
 itemBytes (ByteItem b ∷ t) = b ∷ itemBytes t
 itemBytes (CallItem c ∷ t) = itemBytes t
 
--- ---- the fields of a header of eight bytes
+-- ---- the fields of a header, as the record format has them
 -- the version
 unfoldable pub headerVersion : List ℕ → ℕ
-headerVersion h = byteAt h 0
+headerVersion h = headerOf h .version
 
 -- the record type
 unfoldable pub headerType : List ℕ → ℕ
-headerType h = byteAt h 1
+headerType h = headerOf h .kind
 
 -- the request id
 unfoldable pub headerId : List ℕ → ℕ
-headerId h = number2 (byteAt h 2) (byteAt h 3)
+headerId h = headerOf h .id
 
 -- the content length
 unfoldable pub headerContent : List ℕ → ℕ
-headerContent h = number2 (byteAt h 4) (byteAt h 5)
+headerContent h = headerOf h .content
 
 -- the padding length
 unfoldable pub headerPadding : List ℕ → ℕ
-headerPadding h = byteAt h 6
+headerPadding h = headerOf h .padding
 
 -- ---- purging: of the bytes those of R's records stay, of the calls those that name R
 -- Where the next byte stands: in a header, with the bytes of it that are in; or past a header, with whether the record is R's and its content and padding left.
