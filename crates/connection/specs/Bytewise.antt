@@ -30,7 +30,7 @@ notes (Event.Query conns reqs mpxs) bytes = Note.Told (Event.Query conns reqs mp
 notes (Event.Unknown kind) bytes = Note.Told (Event.Unknown kind) ∷ []
 notes (Event.Closed n) bytes = Note.Told (Event.Closed n) ∷ []
 
--- Where bytes lead: the state and the store behind them, and what was told on the way.
+-- Where bytes lead: the state and the store after them, and what was told on the way.
 pub record Run : Type 0 where
   pub state : State
   pub store : List ℕ
@@ -69,7 +69,7 @@ leftOf zero st store bytes = bytes
 leftOf (suc k) st store bytes =
     leftOf k (stepped st store bytes .state) (stepped st store bytes .store) (drop (stepped st store bytes .used) bytes)
 
--- what the bytes one at a time leave unread: all that comes when a step is refused, as it is behind a byte that closed the connection
+-- what the bytes one at a time leave unread: all that comes when a step is refused, as it is after a byte that closed the connection
 unfoldable pub unread : State → List ℕ → List ℕ → List ℕ
 unread st store [] = []
 unread st store (b ∷ bytes) =

@@ -5,10 +5,10 @@ use mathlib.Core.List.{List, [], _∷_, _++_}
 use lib.ListN.{length}
 use Rattle.wire.specs.Test.{if_then_else_, _<?_, _=?_}
 use Rattle.wire.specs.Buffer.{putAt, zeros}
-use Rattle.occupancy.specs.Word.{takenCount}
+use Rattle.slot_word.specs.Word.{takenCount}
 use Rattle.record.specs.Names.{END-REQUEST, GET-VALUES-RESULT, UNKNOWN-TYPE}
 use Rattle.record.specs.Body.{endBodyBytes, unknownTypeBytes}
-use Rattle.writer.specs.Written.{recordBytes}
+use Rattle.record_writer.specs.Written.{recordBytes}
 use Rattle.pairs.specs.Pair.{pairBytes}
 use Rattle.connection.specs.declared.request.Request.{Request}
 use Rattle.connection.specs.declared.state.Target.{Target}
@@ -77,7 +77,7 @@ unwritten n c buffer = record { refusal = n; written = 0; conn = c; buffer = buf
 abbrev pub putsRequest : Conn → ℕ → Request → Conn
 putsRequest c i r = record { table = putRequest (c .table) i r; frame = c .frame; «open» = c .«open» }
 
-abbrev pub writtenBy : Conn → ℕ → Of.Wrote → Written
+abbrev pub writtenBy : Conn → ℕ → Of.Writing → Written
 writtenBy c i w = record { refusal = w .refusal; written = w .written; conn = putsRequest c i (w .request); buffer = w .buffer }
 
 unfoldable pub say : Conn → ℕ → Output → List ℕ → List ℕ → Written
@@ -121,7 +121,7 @@ released c i =
     }
 
 -- With KEEP_CONN the slot and its area are given back; without, the connection closes, all requests are freed and the store is zeroed.
-unfoldable pub finishes : Conn → List ℕ → ℕ → Bool → Of.Wrote → Finished
+unfoldable pub finishes : Conn → List ℕ → ℕ → Bool → Of.Writing → Finished
 finishes c store i keep w =
     if w .refusal =? 0 then
     (if keep then record { refusal = 0; written = w .written; closed = false; conn = released c i; store = putArea store i (zeros (length (areaAt store i))); buffer = w .buffer }
@@ -131,7 +131,7 @@ finishes c store i keep w =
 unfoldable pub finish : Conn → List ℕ → ℕ → ℕ → List ℕ → Finished
 finish c store id appStatus buffer =
     if lentRefusal c store id =? 0 then
-    finishes c store (slotOf c id) (requestAt (c .table) (slotOf c id) .mark .keep) (Of.finishIn (requestAt (c .table) (slotOf c id)) appStatus buffer)
+    finishes c store (slotOf c id) (requestAt (c .table) (slotOf c id) .state .keep) (Of.finishIn (requestAt (c .table) (slotOf c id)) appStatus buffer)
     else unfinished (lentRefusal c store id) c store buffer
 
 -- ---- the number of active requests

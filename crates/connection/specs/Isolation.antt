@@ -3,7 +3,7 @@
 -- Many requests share a connection. Take any run A: a start, then steps over pieces and calls, in any order, refused
 -- ones too. Strike out all bytes of records that are not R's and all calls that do not name R. Let B be any run, from
 -- a start of its own, of what is left: the same bytes in any pieces, the same calls with the same arguments and lent
--- bytes, each behind as many bytes of R's records. Then R cannot tell the two apart: what is told of R, what R's calls
+-- bytes, each after as many bytes of R's records. Then R cannot tell the two apart: what is told of R, what R's calls
 -- answer and leave in their buffers, and R's request with its whole area, before and after each of its calls and at
 -- the end, are the same.
 --

@@ -23,4 +23,4 @@ pub mod Faults
 pub mod Readiness
 pub mod Spent
 pub mod Gathered
-pub mod NumbersLaws
+pub mod CodesLaws

@@ -1,6 +1,6 @@
 pub mod Sizes
 pub mod Event
-pub mod Numbers
+pub mod Codes
 pub mod Refusal
 pub mod Request
 pub mod Slots
@@ -9,7 +9,7 @@ pub mod Step
 pub mod RequestCalls
 pub mod Calls
 pub mod Bytewise
-pub mod Moved
+pub mod Decision
 pub mod Arguments
 pub mod Run
 pub mod Isolation

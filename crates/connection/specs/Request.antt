@@ -6,11 +6,11 @@ use lib.ListN.{length, take}
 use Rattle.wire.specs.Test.{if_then_else_, _<?_, _≤?_, _=?_}
 use Rattle.wire.specs.Buffer.{copied, zeros}
 use Rattle.record.specs.Names.{BEGIN-REQUEST, ABORT-REQUEST, PARAMS, STDIN, DATA}
-use Rattle.lists.specs.List.{wellFormed}
+use Rattle.pair_list.specs.List.{wellFormed}
 use Rattle.connection.specs.declared.request.Role.{Role}
 use Rattle.connection.specs.declared.request.Turn.{Turn}
 use Rattle.connection.specs.declared.request.Life.{Life}
-use Rattle.connection.specs.declared.request.Mark.{Mark}
+use Rattle.connection.specs.declared.request.RequestState.{RequestState}
 use Rattle.connection.specs.declared.request.Request.{Request}
 use Rattle.connection.specs.declared.request.Due.{Due}
 use Rattle.connection.specs.Event.{Event}
@@ -25,16 +25,16 @@ abbrev pub listOf : Held → List ℕ
 listOf h = take (h .request .length) (h .area)
 
 -- ---- marks
-unfoldable pub withTurn : Mark → Turn → Mark
+unfoldable pub withTurn : RequestState → Turn → RequestState
 withTurn m t =
     record { role = m .role; turn = t; life = m .life; keep = m .keep; «out_ended» = m .«out_ended»; «err_used» = m .«err_used»; «err_ended» = m .«err_ended» }
 
-unfoldable pub withLife : Mark → Life → Mark
+unfoldable pub withLife : RequestState → Life → RequestState
 withLife m l =
     record { role = m .role; turn = m .turn; life = l; keep = m .keep; «out_ended» = m .«out_ended»; «err_used» = m .«err_used»; «err_ended» = m .«err_ended» }
 
-abbrev pub withMark : Request → Mark → Request
-withMark r m = record { id = r .id; length = r .length; mark = m }
+abbrev pub withState : Request → RequestState → Request
+withState r m = record { id = r .id; length = r .length; state = m }
 
 -- spent: faulted or aborted
 abbrev pub isSpent : Life → Bool
@@ -78,7 +78,7 @@ unfoldable pub faulted : Held → ℕ → Ruled
 faulted h n =
     ruled
     (record {
-      request = record { id = h .request .id; length = 0; mark = withLife (h .request .mark) Life.Faulted };
+      request = record { id = h .request .id; length = 0; state = withLife (h .request .state) Life.Faulted };
       area = zeros (length (h .area));
     })
     Due.Skip (Event.Fault (h .request .id) n)
@@ -86,13 +86,13 @@ faulted h n =
 -- An abort spends the request; its area stays.
 unfoldable pub aborted : Held → Ruled
 aborted h =
-    ruled (record { request = withMark (h .request) (withLife (h .request .mark) Life.Aborted); area = h .area }) Due.Skip
+    ruled (record { request = withState (h .request) (withLife (h .request .state) Life.Aborted); area = h .area }) Due.Skip
     (Event.Abort (h .request .id))
 
 -- A stream ends: the turn moves on.
 unfoldable pub turned : Held → Turn → Event → Ruled
 turned h t e =
-    ruled (record { request = withMark (h .request) (withTurn (h .request .mark) t); area = h .area }) Due.Skip e
+    ruled (record { request = withState (h .request) (withTurn (h .request .state) t); area = h .area }) Due.Skip e
 
 -- What the end of PARAMS comes to: the number of a fault, or 0.
 unfoldable pub paramsFault : List ℕ → ℕ
@@ -100,7 +100,7 @@ paramsFault list = if wellFormed list then 0 else 25
 
 unfoldable pub paramsEnded : Held → Ruled
 paramsEnded h =
-    if paramsFault (listOf h) =? 0 then turned h (afterParams (h .request .mark .role)) (Event.Ready (h .request .id) (h .request .length))
+    if paramsFault (listOf h) =? 0 then turned h (afterParams (h .request .state .role)) (Event.Ready (h .request .id) (h .request .length))
     else faulted h (paramsFault (listOf h))
 
 -- Rule 8. PARAMS with n content bytes.
@@ -113,7 +113,7 @@ onParams n h =
 -- Rule 9. STDIN and DATA: their content is shown; an empty record ends the stream.
 unfoldable pub onStdin : ℕ → Held → Ruled
 onStdin n h =
-    if n =? 0 then turned h (afterStdin (h .request .mark .role)) (Event.End (h .request .id) STDIN)
+    if n =? 0 then turned h (afterStdin (h .request .state .role)) (Event.End (h .request .id) STDIN)
     else ruled h Due.Stdin Event.None
 
 unfoldable pub onData : ℕ → Held → Ruled
@@ -132,7 +132,7 @@ isInput kind = if kind =? PARAMS then true else if kind =? STDIN then true else 
 -- Rule 7. A record of an input stream that is out of turn is fault 22.
 unfoldable pub onInput : ℕ → ℕ → Held → Ruled
 onInput kind n h =
-    if kind =? turnType (h .request .mark .turn) then inTurn (h .request .mark .turn) n h else faulted h 22
+    if kind =? turnType (h .request .state .turn) then inTurn (h .request .state .turn) n h else faulted h 22
 
 -- Rules 6 to 10: a header of that type with n content bytes, for a request that is not spent.
 unfoldable pub onLive : ℕ → ℕ → Held → Ruled
@@ -144,14 +144,14 @@ onLive kind n h =
 
 -- Rule 5: the records of a spent request are skipped in silence.
 unfoldable pub onHeader : ℕ → ℕ → Held → Ruled
-onHeader kind n h = if isSpent (h .request .mark .life) then skipped h else onLive kind n h
+onHeader kind n h = if isSpent (h .request .state .life) then skipped h else onLive kind n h
 
 -- ---- what content does to its request
--- PARAMS content goes into the area behind the list, and the list grows by it. (In a state in shape it does not pass AREA.)
+-- PARAMS content goes into the area after the list, and the list grows by it. (In a state in shape it does not pass AREA.)
 unfoldable pub grown : Held → List ℕ → Held
 grown h bytes =
     if h .request .length + length bytes ≤? AREA then record {
-      request = record { id = h .request .id; length = h .request .length + length bytes; mark = h .request .mark };
+      request = record { id = h .request .id; length = h .request .length + length bytes; state = h .request .state };
       area = copied (h .area) (h .request .length) bytes;
     }
     else h
@@ -173,5 +173,5 @@ opened id role keep =
     record {
       id = id;
       length = 0;
-      mark = record { role = role; turn = Turn.Params; life = Life.Live; keep = keep; «out_ended» = false; «err_used» = false; «err_ended» = false };
+      state = record { role = role; turn = Turn.Params; life = Life.Live; keep = keep; «out_ended» = false; «err_used» = false; «err_ended» = false };
     }

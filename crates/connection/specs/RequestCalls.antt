@@ -7,20 +7,20 @@ use Rattle.wire.specs.Test.{if_then_else_, _<?_, _=?_}
 use Rattle.wire.specs.Buffer.{putAt}
 use Rattle.record.specs.Names.{STDOUT, STDERR, END-REQUEST, REQUEST-COMPLETE}
 use Rattle.record.specs.Body.{endBodyBytes}
-use Rattle.writer.specs.Written.{recordBytes, streamBytes}
+use Rattle.record_writer.specs.Written.{recordBytes, streamBytes}
 use Rattle.pairs.specs.Pair.{valueOf}
-use Rattle.lists.specs.List.{firstNamed, pairNumber}
+use Rattle.pair_list.specs.List.{firstNamed, pairNumber}
 use Rattle.pairs.specs.declared.pair.Pair.{Pair}
-use Rattle.lists.specs.declared.Found.{Found}
+use Rattle.pair_list.specs.declared.Found.{Found}
 use Rattle.connection.specs.declared.request.Turn.{Turn}
 use Rattle.connection.specs.declared.request.Life.{Life}
-use Rattle.connection.specs.declared.request.Mark.{Mark}
+use Rattle.connection.specs.declared.request.RequestState.{RequestState}
 use Rattle.connection.specs.declared.request.Request.{Request}
 use Rattle.connection.specs.declared.answer.Output.{Output}
 use Rattle.connection.specs.Sizes.{CHUNK}
-use Rattle.connection.specs.Numbers.{outputType}
+use Rattle.connection.specs.Codes.{outputType}
 use Rattle.connection.specs.Refusal.{_when_, refusal}
-use Rattle.connection.specs.Request.{Held, listOf, isSpent, withMark}
+use Rattle.connection.specs.Request.{Held, listOf, isSpent, withState}
 
 -- PARAMS has not ended
 abbrev pub inParams : Turn → Bool
@@ -36,7 +36,7 @@ isFaulted Life.Aborted = false
 
 -- ---- value and pairs. Row 4: PARAMS not ended, or the request faulted.
 abbrev pub noList : Request → Bool
-noList r = if inParams (r .mark .turn) then true else isFaulted (r .mark .life)
+noList r = if inParams (r .state .turn) then true else isFaulted (r .state .life)
 
 -- with the pair found, or else
 abbrev pub onFound {ℓ} : {A : Type ℓ} → Found → (Pair → A) → A → A
@@ -82,28 +82,28 @@ walkIn h = if noList (h .request) then noWalk 4 else record { list = listOf h; p
 
 -- ---- say and end. Row 4: PARAMS not ended and the request not spent. Row 5: that stream is ended.
 abbrev pub noOutput : Request → Bool
-noOutput r = if inParams (r .mark .turn) then not (isSpent (r .mark .life)) else false
+noOutput r = if inParams (r .state .turn) then not (isSpent (r .state .life)) else false
 
-abbrev pub isEnded : Output → Mark → Bool
+abbrev pub isEnded : Output → RequestState → Bool
 isEnded Output.Stdout m = m .«out_ended»
 isEnded Output.Stderr m = m .«err_ended»
 
 -- What a call that writes comes to: the number of its refusal, 0 for none; the bytes written; the request and the lent buffer afterwards.
-pub record Wrote : Type 0 where
+pub record Writing : Type 0 where
   pub refusal : ℕ
   pub written : ℕ
   pub request : Request
   pub buffer : List ℕ
 
 -- Row 6: the output is longer than the buffer. Else it fills the buffer from its start, and the request is changed.
-unfoldable pub writes : ℕ → List ℕ → Request → Request → List ℕ → Wrote
+unfoldable pub writes : ℕ → List ℕ → Request → Request → List ℕ → Writing
 writes n bytes after r buffer =
     if n =? 0 then record { refusal = 0; written = length bytes; request = after; buffer = putAt buffer 0 bytes }
     else record { refusal = n; written = 0; request = r; buffer = buffer }
 
 abbrev pub outputRefusal : Request → Output → List ℕ → List ℕ → ℕ
 outputRefusal r output bytes buffer =
-    refusal ((4 when noOutput r) ∷ (5 when isEnded output (r .mark)) ∷ (6 when (length buffer <? length bytes)) ∷ [])
+    refusal ((4 when noOutput r) ∷ (5 when isEnded output (r .state)) ∷ (6 when (length buffer <? length bytes)) ∷ [])
 
 -- STDERR is used once data was said on it.
 abbrev pub usesErr : Output → List ℕ → Bool → Bool
@@ -113,8 +113,8 @@ usesErr Output.Stderr (b ∷ bytes) used = true
 
 unfoldable pub saidOn : Request → Output → List ℕ → Request
 saidOn r output bytes =
-    let m = r .mark in
-    withMark r
+    let m = r .state in
+    withState r
     (record { role = m .role; turn = m .turn; life = m .life; keep = m .keep; «out_ended» = m .«out_ended»; «err_used» = usesErr output bytes (m .«err_used»); «err_ended» = m .«err_ended» })
 
 abbrev pub endsOut : Output → Bool → Bool
@@ -127,15 +127,15 @@ endsErr Output.Stderr ended = true
 
 unfoldable pub endedOn : Request → Output → Request
 endedOn r output =
-    let m = r .mark in
-    withMark r
+    let m = r .state in
+    withState r
     (record { role = m .role; turn = m .turn; life = m .life; keep = m .keep; «out_ended» = endsOut output (m .«out_ended»); «err_used» = m .«err_used»; «err_ended» = endsErr output (m .«err_ended») })
 
 -- Say: data in records of CHUNK content bytes, the last one shorter; empty data writes nothing.
 abbrev pub sayBytes : Request → Output → List ℕ → List ℕ
 sayBytes r output bytes = streamBytes CHUNK (outputType output) (r .id) bytes
 
-unfoldable pub sayIn : Request → Output → List ℕ → List ℕ → Wrote
+unfoldable pub sayIn : Request → Output → List ℕ → List ℕ → Writing
 sayIn r output bytes buffer =
     writes (outputRefusal r output (sayBytes r output bytes) buffer) (sayBytes r output bytes) (saidOn r output bytes) r buffer
 
@@ -143,22 +143,22 @@ sayIn r output bytes buffer =
 abbrev pub endBytes : Request → Output → List ℕ
 endBytes r output = recordBytes (outputType output) (r .id) []
 
-unfoldable pub endIn : Request → Output → List ℕ → Wrote
+unfoldable pub endIn : Request → Output → List ℕ → Writing
 endIn r output buffer =
     writes (outputRefusal r output (endBytes r output) buffer) (endBytes r output) (endedOn r output) r buffer
 
 -- ---- finish: an empty STDOUT record if STDOUT isn't ended, an empty STDERR record if STDERR was used and isn't ended, then END with status 0
-unfoldable pub owesOut : Mark → Bool
+unfoldable pub owesOut : RequestState → Bool
 owesOut m = not (m .«out_ended»)
 
-unfoldable pub owesErr : Mark → Bool
+unfoldable pub owesErr : RequestState → Bool
 owesErr m = if m .«err_used» then not (m .«err_ended») else false
 
 unfoldable pub finishBytes : Request → ℕ → List ℕ
 finishBytes r appStatus =
-    (if owesOut (r .mark) then recordBytes STDOUT (r .id) [] else [])
-    ++ ((if owesErr (r .mark) then recordBytes STDERR (r .id) [] else []) ++ recordBytes END-REQUEST (r .id) (endBodyBytes appStatus REQUEST-COMPLETE))
+    (if owesOut (r .state) then recordBytes STDOUT (r .id) [] else [])
+    ++ ((if owesErr (r .state) then recordBytes STDERR (r .id) [] else []) ++ recordBytes END-REQUEST (r .id) (endBodyBytes appStatus REQUEST-COMPLETE))
 
-unfoldable pub finishIn : Request → ℕ → List ℕ → Wrote
+unfoldable pub finishIn : Request → ℕ → List ℕ → Writing
 finishIn r appStatus buffer =
     writes (refusal ((6 when (length buffer <? length (finishBytes r appStatus))) ∷ [])) (finishBytes r appStatus) r r buffer

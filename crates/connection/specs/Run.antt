@@ -87,10 +87,10 @@ abbrev pub usedOf : Memory → List ℕ → List ℕ
 usedOf m piece = take (stepOf m piece .used) piece
 
 -- what an operation leaves
-unfoldable pub leftBy : Memory → Operation → Memory
-leftBy m (StepOver piece) = memoryOf (stepOf m piece)
-leftBy m (CallFor id a) = called m id a .memory
-leftBy m CountActive = m
+unfoldable pub memoryAfter : Memory → Operation → Memory
+memoryAfter m (StepOver piece) = memoryOf (stepOf m piece)
+memoryAfter m (CallFor id a) = called m id a .memory
+memoryAfter m CountActive = m
 
 -- what is observed of it
 unfoldable pub seenIn : Memory → Operation → List Observed
@@ -108,17 +108,17 @@ itemsOf m CountActive = CallItem CountCall ∷ []
 -- what operations leave
 unfoldable pub finalMemory : Memory → List Operation → Memory
 finalMemory m [] = m
-finalMemory m (o ∷ os) = finalMemory (leftBy m o) os
+finalMemory m (o ∷ os) = finalMemory (memoryAfter m o) os
 
 -- all that is observed on the way, in order
 unfoldable pub allSeen : Memory → List Operation → List Observed
 allSeen m [] = []
-allSeen m (o ∷ os) = seenIn m o ++ allSeen (leftBy m o) os
+allSeen m (o ∷ os) = seenIn m o ++ allSeen (memoryAfter m o) os
 
 -- the timeline: the bytes that the steps used, and the calls, in order
 unfoldable pub timeline : Memory → List Operation → List (Item Argument)
 timeline m [] = []
-timeline m (o ∷ os) = itemsOf m o ++ timeline (leftBy m o) os
+timeline m (o ∷ os) = itemsOf m o ++ timeline (memoryAfter m o) os
 
 -- the memory of a start
 unfoldable pub startOf : List ℕ → List ℕ → Memory

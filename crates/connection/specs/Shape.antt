@@ -4,8 +4,8 @@ use mathlib.Core.Bool.{Bool, true, false, not}
 use mathlib.Core.List.{List}
 use lib.ListN.{getD}
 use Rattle.wire.specs.Test.{if_then_else_, _<?_, _≤?_, _=?_}
-use Rattle.occupancy.specs.Word.{taken}
-use Rattle.reader.specs.declared.Position.{Position}
+use Rattle.slot_word.specs.Word.{taken}
+use Rattle.record_reader.specs.declared.Position.{Position}
 use Rattle.connection.specs.declared.state.Table.{Table}
 use Rattle.connection.specs.declared.state.Target.{Target}
 use Rattle.connection.specs.declared.state.Conn.{Conn}
@@ -21,7 +21,7 @@ false and b = false
 abbrev pub lengthFits : List ℕ → ℕ → Bool
 lengthFits lengths i = getD lengths i 0 ≤? AREA
 
--- an active request's id is not 0, and none of the n slots behind it has the same
+-- an active request's id is not 0, and none of the n slots after it has the same
 unfoldable pub idFits : List ℕ → ℕ → ℕ → ℕ → Bool
 idFits ids occupied n i =
     if taken i occupied then not (getD ids i 0 =? 0) and not (isFound (findFrom n ids occupied (getD ids i 0) (i + 1)))

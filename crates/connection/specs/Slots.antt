@@ -4,11 +4,11 @@ use mathlib.Core.Bool.{Bool, true, false}
 use mathlib.Core.List.{List, _++_}
 use lib.ListN.{take, drop, getD, set, replicate}
 use Rattle.wire.specs.Test.{if_then_else_, _=?_}
-use Rattle.occupancy.specs.Word.{taken, lowestFree, withSlot, withoutSlot}
+use Rattle.slot_word.specs.Word.{taken, lowestFree, withSlot, withoutSlot}
 use Rattle.connection.specs.declared.request.Role.{Role}
 use Rattle.connection.specs.declared.request.Turn.{Turn}
 use Rattle.connection.specs.declared.request.Life.{Life}
-use Rattle.connection.specs.declared.request.Mark.{Mark}
+use Rattle.connection.specs.declared.request.RequestState.{RequestState}
 use Rattle.connection.specs.declared.request.Request.{Request}
 use Rattle.connection.specs.declared.state.Table.{Table}
 use Rattle.connection.specs.declared.state.Slot.{Slot}
@@ -16,16 +16,16 @@ use Rattle.connection.specs.Sizes.{SLOTS, AREA}
 use Rattle.connection.specs.Request.{Held}
 
 -- what a free slot holds
-abbrev pub noMark : Mark
-noMark =
+abbrev pub noState : RequestState
+noState =
     record { role = Role.Responder; turn = Turn.Params; life = Life.Live; keep = false; «out_ended» = false; «err_used» = false; «err_ended» = false }
 
 abbrev pub noRequest : Request
-noRequest = record { id = 0; length = 0; mark = noMark }
+noRequest = record { id = 0; length = 0; state = noState }
 
 -- ---- the request of slot i, with its own AREA bytes of the store
 unfoldable pub requestAt : Table → ℕ → Request
-requestAt t i = record { id = getD (t .ids) i 0; length = getD (t .lengths) i 0; mark = getD (t .marks) i noMark }
+requestAt t i = record { id = getD (t .ids) i 0; length = getD (t .lengths) i 0; state = getD (t .states) i noState }
 
 unfoldable pub areaAt : List ℕ → ℕ → List ℕ
 areaAt store i = take AREA (drop (i * AREA) store)
@@ -36,14 +36,14 @@ heldAt t store i = record { request = requestAt t i; area = areaAt store i }
 -- put back into slot i
 unfoldable pub putRequest : Table → ℕ → Request → Table
 putRequest t i r =
-    record { ids = set (t .ids) i (r .id); lengths = set (t .lengths) i (r .length); marks = set (t .marks) i (r .mark); occupied = t .occupied }
+    record { ids = set (t .ids) i (r .id); lengths = set (t .lengths) i (r .length); states = set (t .states) i (r .state); occupied = t .occupied }
 
 unfoldable pub putArea : List ℕ → ℕ → List ℕ → List ℕ
 putArea store i area = take (i * AREA) store ++ (area ++ drop (i * AREA + AREA) store)
 
 -- ---- slots taken and freed
 abbrev pub withOccupied : Table → ℕ → Table
-withOccupied t w = record { ids = t .ids; lengths = t .lengths; marks = t .marks; occupied = w }
+withOccupied t w = record { ids = t .ids; lengths = t .lengths; states = t .states; occupied = w }
 
 unfoldable pub takeSlot : Table → ℕ → Request → Table
 takeSlot t i r = withOccupied (putRequest t i r) (withSlot i (t .occupied))
@@ -56,7 +56,7 @@ abbrev pub freeSlotOf : Table → ℕ
 freeSlotOf t = lowestFree SLOTS (t .occupied)
 
 abbrev pub noRequests : Table
-noRequests = record { ids = replicate SLOTS 0; lengths = replicate SLOTS 0; marks = replicate SLOTS noMark; occupied = 0 }
+noRequests = record { ids = replicate SLOTS 0; lengths = replicate SLOTS 0; states = replicate SLOTS noState; occupied = 0 }
 
 -- ---- the slot of an id: the first that is taken and has it
 unfoldable pub holdsId : List ℕ → ℕ → ℕ → ℕ → Bool

@@ -9,12 +9,12 @@ use Rattle.record.specs.Names.{VERSION, BEGIN-REQUEST, GET-VALUES, RESPONDER, A
 use Rattle.record.specs.Body.{beginBodyOf}
 use Rattle.record.specs.declared.header.Header.{Header}
 use Rattle.record.specs.declared.body.BeginBody.{BeginBody}
-use Rattle.reader.specs.Position.{betweenRecords, behindHeader, advanced}
-use Rattle.reader.specs.declared.Position.{Position}
-use Rattle.reader.specs.declared.Phase.{Phase}
-use Rattle.reader.specs.declared.Advanced.{Advanced}
-use Rattle.lists.specs.List.{wellFormed, firstNamed}
-use Rattle.lists.specs.declared.Found.{Found}
+use Rattle.record_reader.specs.Position.{betweenRecords, afterHeader, advanced}
+use Rattle.record_reader.specs.declared.Position.{Position}
+use Rattle.record_reader.specs.declared.Phase.{Phase}
+use Rattle.record_reader.specs.declared.Advanced.{Advanced}
+use Rattle.pair_list.specs.List.{wellFormed, firstNamed}
+use Rattle.pair_list.specs.declared.Found.{Found}
 use Rattle.connection.specs.declared.request.Role.{Role}
 use Rattle.connection.specs.declared.request.Due.{Due}
 use Rattle.connection.specs.declared.state.Table.{Table}
@@ -23,7 +23,7 @@ use Rattle.connection.specs.declared.state.Frame.{Frame}
 use Rattle.connection.specs.declared.state.Conn.{Conn}
 use Rattle.connection.specs.Sizes.{SLOTS, STORE, QUERY}
 use Rattle.connection.specs.Event.{Event}
-use Rattle.connection.specs.Numbers.{roleNumber}
+use Rattle.connection.specs.Codes.{roleNumber}
 use Rattle.connection.specs.Refusal.{_when_, refusal}
 use Rattle.connection.specs.Request.{Held, Ruled, onHeader, onContent, opened}
 use Rattle.connection.specs.Slots.{heldAt, putRequest, putArea, takeSlot, freeSlotOf, noRequests, find, onSlot}
@@ -50,18 +50,18 @@ noFrame = record { position = betweenRecords; target = Target.Skip; gathered = 0
 abbrev pub targetIf : ℕ → Target → Target
 targetIf left target = if left =? 0 then Target.Skip else target
 
--- behind a header, the content being for that target
-abbrev pub behind : Header → Target → Frame
-behind h target =
-    record { position = behindHeader h; target = targetIf (h .content) target; gathered = 0; body = noBody }
+-- after a header, the content being for that target
+abbrev pub frameAfter : Header → Target → Frame
+frameAfter h target =
+    record { position = afterHeader h; target = targetIf (h .content) target; gathered = 0; body = noBody }
 
 -- within content, with so many bytes of a body gathered
-abbrev pub within : Frame → Position → ℕ → List ℕ → Frame
-within f p n body = record { position = p; target = targetIf (p .content) (f .target); gathered = n; body = body }
+abbrev pub frameWithin : Frame → Position → ℕ → List ℕ → Frame
+frameWithin f p n body = record { position = p; target = targetIf (p .content) (f .target); gathered = n; body = body }
 
 -- with another position and all else as it is
-abbrev pub moved : Frame → Position → Frame
-moved f p = record { position = p; target = f .target; gathered = f .gathered; body = f .body }
+abbrev pub frameAt : Frame → Position → Frame
+frameAt f p = record { position = p; target = f .target; gathered = f .gathered; body = f .body }
 
 -- ---- what a step leaves: state, store, and the event that it tells
 pub record Left : Type 0 where
@@ -126,16 +126,16 @@ unfoldable pub onManagement : State → List ℕ → Header → Left
 onManagement st store h =
     if h .kind =? GET-VALUES then
     (if QUERY <? h .content then closes st store 13
-    else if h .content =? 0 then queried st store [] (behind h Target.Skip)
-    else reads st store (behind h Target.Query) Event.None)
-    else reads st store (behind h Target.Skip) (Event.Unknown (h .kind))
+    else if h .content =? 0 then queried st store [] (frameAfter h Target.Skip)
+    else reads st store (frameAfter h Target.Query) Event.None)
+    else reads st store (frameAfter h Target.Skip) (Event.Unknown (h .kind))
 
 -- Rule 4: the id is not active.
 unfoldable pub onInactive : State → List ℕ → Header → Left
 onInactive st store h =
     if h .kind =? BEGIN-REQUEST then
-    (if h .content =? 8 then reads st store (behind h (Target.Begin (h .id))) Event.None else closes st store 12)
-    else reads st store (behind h Target.Skip) Event.None
+    (if h .content =? 8 then reads st store (frameAfter h (Target.Begin (h .id))) Event.None else closes st store 12)
+    else reads st store (frameAfter h Target.Skip) Event.None
 
 -- where the content of the request in slot i goes
 abbrev pub dueTo : Due → ℕ → Target
@@ -146,7 +146,7 @@ dueTo Due.Data i = Target.Data i
 
 -- Rules 5 to 10: the request in slot i decides.
 abbrev pub rules : State → List ℕ → Header → ℕ → Ruled → Left
-rules st store h i r = putsBack st store i (r .held) (behind h (dueTo (r .due) i)) (r .event)
+rules st store h i r = putsBack st store i (r .held) (frameAfter h (dueTo (r .due) i)) (r .event)
 
 unfoldable pub onActive : State → List ℕ → Header → ℕ → Left
 onActive st store h i = rules st store h i (onHeader (h .kind) (h .content) (heldAt (st .conn .table) store i))
@@ -159,7 +159,7 @@ judged st store h =
     else onSlot (find (st .conn .table) (h .id)) (onActive st store h) (onInactive st store h))
     else closes st store 11
 
--- ---- content bytes; p is the position behind them
+-- ---- content bytes; p is the position after them
 -- A BEGIN body's eighth byte: an unknown role is refused by 3, else no free slot by 2; else the request is opened in the lowest-numbered free slot.
 abbrev pub onRole {ℓ} : {A : Type ℓ} → ℕ → (Role → A) → A → A
 onRole n f other =
@@ -187,8 +187,8 @@ unfoldable pub ofBegin : State → List ℕ → ℕ → List ℕ → Position �
 ofBegin st store id bytes p =
     let f = st .conn .frame in
     let body = copied (f .body) (f .gathered) bytes in
-    if p .content =? 0 then begun st store id (beginBodyOf body) (within f p 0 noBody)
-    else reads st store (within f p (f .gathered + length bytes) body) Event.None
+    if p .content =? 0 then begun st store id (beginBodyOf body) (frameWithin f p 0 noBody)
+    else reads st store (frameWithin f p (f .gathered + length bytes) body) Event.None
 
 -- A query is gathered in the bytes that are lent for it.
 unfoldable pub ofQuery : State → List ℕ → List ℕ → Position → Left
@@ -196,18 +196,18 @@ ofQuery st store bytes p =
     let f = st .conn .frame in
     let n = f .gathered + length bytes in
     let st′ : State = record { conn = st .conn; gathered = copied (st .gathered) (f .gathered) bytes } in
-    if p .content =? 0 then queried st′ store (take n (st′ .gathered)) (within f p 0 (f .body))
-    else reads st′ store (within f p n (f .body)) Event.None
+    if p .content =? 0 then queried st′ store (take n (st′ .gathered)) (frameWithin f p 0 (f .body))
+    else reads st′ store (frameWithin f p n (f .body)) Event.None
 
 -- Content that is due to the request in slot i.
 unfoldable pub ofRequest : State → List ℕ → Due → ℕ → List ℕ → Position → Left
 ofRequest st store due i bytes p =
     let fed = onContent due bytes (heldAt (st .conn .table) store i) in
-    putsBack st store i (fed .held) (within (st .conn .frame) p (st .conn .frame .gathered) (st .conn .frame .body)) (fed .event)
+    putsBack st store i (fed .held) (frameWithin (st .conn .frame) p (st .conn .frame .gathered) (st .conn .frame .body)) (fed .event)
 
 abbrev pub onTarget : Target → State → List ℕ → List ℕ → Position → Left
 onTarget Target.Skip st store bytes p =
-    reads st store (within (st .conn .frame) p (st .conn .frame .gathered) (st .conn .frame .body)) Event.None
+    reads st store (frameWithin (st .conn .frame) p (st .conn .frame .gathered) (st .conn .frame .body)) Event.None
 onTarget (Target.Begin id) st store bytes p = ofBegin st store id bytes p
 onTarget Target.Query st store bytes p = ofQuery st store bytes p
 onTarget (Target.Params i) st store bytes p = ofRequest st store Due.Params i bytes p
@@ -218,8 +218,8 @@ onTarget (Target.Data i) st store bytes p = ofRequest st store Due.Data i bytes 
 -- The phase of the bytes used: content goes to its target, a whole header is judged, anything else is read in silence.
 abbrev pub onPhase : Phase → State → List ℕ → List ℕ → Position → Left
 onPhase Phase.Content st store bytes p = onTarget (st .conn .frame .target) st store bytes p
-onPhase Phase.Padding st store bytes p = reads st store (moved (st .conn .frame) p) Event.None
-onPhase Phase.Part st store bytes p = reads st store (moved (st .conn .frame) p) Event.None
+onPhase Phase.Padding st store bytes p = reads st store (frameAt (st .conn .frame) p) Event.None
+onPhase Phase.Part st store bytes p = reads st store (frameAt (st .conn .frame) p) Event.None
 onPhase (Phase.Whole h) st store bytes p = judged st store h
 
 pub record Stepped : Type 0 where

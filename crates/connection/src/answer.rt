@@ -2,7 +2,7 @@
 use crate::event::Event;
 use crate::state::Conn;
 
-// When the station says no: 1 to 9.
+// Why a call is refused, in the order of the table of refusals: 1 to 9.
 pub enum Refusal {
     Closed,
     StoreSize,
@@ -21,26 +21,27 @@ pub enum Output {
     Stderr,
 }
 
-// A start that was not refused, or refused.
-pub enum Start {
+// An open connection, or why the start is refused.
+pub enum StartResult {
     Open,
     Refused(Refusal),
 }
 
 pub struct Started {
-    pub start: Start,
+    pub result: StartResult,
     pub conn: Conn,
 }
 
-// A step's event, or its refusal.
-pub enum Told {
+// The event that a step tells, or why the step is refused.
+pub enum StepResult {
     Event(Event),
     Refused(Refusal),
 }
 
+// The bytes of the piece that a step used, what it tells, and the connection afterwards.
 pub struct Stepped {
     pub used: usize,
-    pub told: Told,
+    pub result: StepResult,
     pub conn: Conn,
 }
 

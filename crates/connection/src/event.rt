@@ -7,13 +7,14 @@ pub enum Stream {
     Data,
 }
 
-// Why an opening is refused: end statuses 2 and 3.
+// Why an opening is refused: the protocol status of its END_REQUEST, 2 or 3.
 pub enum Status {
     Overloaded,
     UnknownRole,
 }
 
-// What a request did wrong: faults 21 to 25.
+// What a request did wrong, 21 to 25: a second BEGIN_REQUEST, a stream out of turn, a type that no request has, more
+// parameters than its area holds, a malformed list of parameters.
 pub enum Fault {
     BeginAgain,
     OutOfTurn,
@@ -22,7 +23,8 @@ pub enum Fault {
     Malformed,
 }
 
-// Why a connection closes: 11 to 14.
+// Why a connection closes, 11 to 14: a version other than 1, a BEGIN_REQUEST that has not 8 bytes, a query that is too
+// long or malformed.
 pub enum Close {
     Version,
     BeginLength,
@@ -30,18 +32,58 @@ pub enum Close {
     QueryMalformed,
 }
 
-// Events, the id of their request first. Of `Data` the bytes are the first of the piece that the step was lent, as
-// many as it tells. `Query` says which of FCGI_MAX_CONNS, FCGI_MAX_REQS and FCGI_MPXS_CONNS were named.
+// `id` is the request that an event is about; the last three are about none.
 pub enum Event {
+    // The step has nothing to tell.
     Nothing,
-    Open(u16, Role, bool),
-    Ready(u16, u16),
-    Data(u16, Stream, usize),
-    End(u16, Stream),
-    Abort(u16),
-    Refuse(u16, Status),
-    Fault(u16, Fault),
-    Query(bool, bool, bool),
-    Unknown(u8),
-    Closed(Close),
+    // A request is opened; `keep` says whether the connection outlives it.
+    Open {
+        id: u16,
+        role: Role,
+        keep: bool,
+    },
+    // Its parameters are complete and have so many bytes.
+    Ready {
+        id: u16,
+        length: u16,
+    },
+    // So many bytes of one of its streams: the first of the piece that the step was lent.
+    Data {
+        id: u16,
+        stream: Stream,
+        count: usize,
+    },
+    // One of its streams ends.
+    End {
+        id: u16,
+        stream: Stream,
+    },
+    // The web server aborts it.
+    Abort {
+        id: u16,
+    },
+    // It is not opened. An END_REQUEST is owed.
+    Refuse {
+        id: u16,
+        status: Status,
+    },
+    // It did something wrong, and its parameters are lost.
+    Fault {
+        id: u16,
+        fault: Fault,
+    },
+    // A query, and which of FCGI_MAX_CONNS, FCGI_MAX_REQS and FCGI_MPXS_CONNS it names. Their values are owed.
+    Query {
+        max_conns: bool,
+        max_reqs: bool,
+        mpxs_conns: bool,
+    },
+    // A management record of a type that is not known. An UNKNOWN_TYPE is owed.
+    Unknown {
+        kind: u8,
+    },
+    // The connection closes.
+    Closed {
+        cause: Close,
+    },
 }

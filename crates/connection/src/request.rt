@@ -6,7 +6,7 @@ pub enum Role {
     Filter,
 }
 
-// The input stream whose turn it is.
+// The input stream whose turn it is. Once all have ended it is nobody's.
 pub enum Turn {
     Params,
     Stdin,
@@ -14,31 +14,41 @@ pub enum Turn {
     Done,
 }
 
-// Whether a request is spent: faulted or aborted.
+// A request lives until it is spent, by a fault or an abort. A spent one hears no more of its records, and stays active
+// until it is finished.
 pub enum Life {
     Live,
     Faulted,
     Aborted,
 }
 
-pub struct Mark {
+// The state of a request, apart from its id and its parameters.
+pub struct RequestState {
+    // What the web server asks the application to be.
     pub role: Role,
+    // The input stream that may come next.
     pub turn: Turn,
+    // Whether it is spent.
     pub life: Life,
+    // KEEP_CONN: the connection stays open when it is finished.
     pub keep: bool,
+    // The end of its STDOUT is written.
     pub out_ended: bool,
+    // Data was written to its STDERR, so an end is owed there too.
     pub err_used: bool,
+    // The end of its STDERR is written.
     pub err_ended: bool,
 }
 
-// Its id, the length of its list (the bytes of PARAMS that its area holds), and its marks.
+// A request's id, the length of its list (the bytes of PARAMS that its area holds), and its state.
 pub struct Request {
     pub id: u16,
     pub length: u16,
-    pub mark: Mark,
+    pub state: RequestState,
 }
 
-// Where the content of a request's record goes.
+// What the content of a request's record is due to: nobody, its list of parameters, or the station program, as STDIN or
+// as DATA.
 pub enum Due {
     Skip,
     Params,

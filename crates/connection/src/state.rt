@@ -1,12 +1,12 @@
 // The state of a connection.
-use crate::request::Mark;
-use reader::Position;
+use crate::request::RequestState;
+use record_reader::Position;
 
 // The requests, slot by slot. Bit i of `occupied` says that slot i is taken.
 pub struct Table {
     pub ids: [u16; 16],
     pub lengths: [u16; 16],
-    pub marks: [Mark; 16],
+    pub states: [RequestState; 16],
     pub occupied: u16,
 }
 

@@ -24,13 +24,13 @@ use crate::words::word;
 use crate::write::fill_and_call;
 use crate::write::put_effect;
 use crate::write::put_refused;
-use connection::answer::Start;
+use call_start::start;
+use call_step::step;
+use codes::refusal_number;
+use connection::answer::StartResult;
 use connection::event::Event;
-use numbers::refusal_number;
-use pairs::name::same;
-use receive::step::step;
-use starting::start;
 use wire::least;
+use wire::same;
 
 // An answer of words alone.
 pub fn tell(page: &mut [u8], text: &[u8]) {
@@ -39,10 +39,10 @@ pub fn tell(page: &mut [u8], text: &[u8]) {
 }
 
 // What a start came to.
-fn tell_start(page: &mut [u8], started: Start) {
+fn tell_start(page: &mut [u8], started: StartResult) {
     match started {
-        Start::Open => tell(page, b"open"),
-        Start::Refused(why) => {
+        StartResult::Open => tell(page, b"open"),
+        StartResult::Refused(why) => {
             let at = put_refused(page, 0, refusal_number(why));
             end_line(page, at);
         }

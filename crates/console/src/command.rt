@@ -5,7 +5,7 @@ use crate::form::read_form;
 use crate::poke::TARGET;
 use crate::words::rest;
 use crate::words::word;
-use pairs::name::same;
+use wire::same;
 
 // Questions.
 pub const ACTIVE: u64 = 0;
@@ -95,7 +95,7 @@ fn as_field(target: u64) -> u64 {
     UNKNOWN
 }
 
-// What stands behind the word `poke`.
+// What stands after the word `poke`.
 pub fn read_poke(line: &[u8], bytes: &mut [u8]) -> Form {
     if same(word(line, 0), b"target") {
         let f = read_target(rest(line), bytes);

@@ -8,7 +8,7 @@ use crate::words::choice;
 use crate::words::count_of;
 use crate::words::part;
 use crate::words::word;
-use pairs::name::same;
+use wire::same;
 
 // The kind of a line that is in no table.
 pub const UNKNOWN: u64 = 99;
@@ -41,7 +41,7 @@ fn numeral(kind: u8, w: &[u8]) -> Number {
     }
 }
 
-// An argument of any kind. Bytes in hex are put behind those of the line that were put already.
+// An argument of any kind. Bytes in hex are put after those of the line that were put already.
 fn argument(kind: u8, w: &[u8], bytes: &mut [u8], at: usize) -> Number {
     match kind {
         b'h' => decode(w, 35000, bytes, at),
@@ -56,7 +56,7 @@ fn argument(kind: u8, w: &[u8], bytes: &mut [u8], at: usize) -> Number {
     }
 }
 
-// Where the bytes end behind an argument.
+// Where the bytes end after an argument.
 fn bytes_end(kind: u8, n: u64, before: usize) -> usize {
     if kind == b'h' {
         return n as usize;

@@ -1,6 +1,6 @@
 // Bytes in hex.
 use crate::number::Number;
-use pairs::name::same;
+use wire::same;
 ghost use Prim.Native.Nat.{_≤_};
 
 // What a digit stands for; 16 for any other character.

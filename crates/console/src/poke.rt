@@ -3,7 +3,7 @@ use crate::number::low8;
 use crate::number::low16;
 use crate::words::part;
 use connection::request::Life;
-use connection::request::Mark;
+use connection::request::RequestState;
 use connection::request::Role;
 use connection::request::Turn;
 use connection::sizes::SLOTS;
@@ -11,7 +11,7 @@ use connection::state::Conn;
 use connection::state::Frame;
 use connection::state::Table;
 use connection::state::Target;
-use reader::Position;
+use record_reader::Position;
 use wire::clear;
 use wire::copy_into;
 use wire::least;
@@ -139,11 +139,11 @@ fn eight_if(hit: bool, bytes: &[u8], before: [u8; 8]) -> [u8; 8] {
 }
 
 // The marks with a field set, if it is one of theirs.
-fn mark_with(m: Mark, field: u64, n: u64) -> Mark {
+fn mark_with(m: RequestState, field: u64, n: u64) -> RequestState {
     let role = m.role;
     let turn = m.turn;
     let life = m.life;
-    Mark {
+    RequestState {
         role: role_if(field == ROLE, n, role),
         turn: turn_if(field == TURN, n, turn),
         life: life_if(field == SPENT, n, life),
@@ -168,10 +168,10 @@ fn table_with(t: Table, field: u64, a: u64, b: u64) -> Table {
     let mut table = t;
     table.occupied = number_if(field == OCCUPIED, a, t.occupied);
     if i < SLOTS {
-        let mark = t.marks[i];
+        let mark = t.states[i];
         table.ids[i] = number_if(field == ID, b, t.ids[i]);
         table.lengths[i] = number_if(field == LENGTH, b, t.lengths[i]);
-        table.marks[i] = mark_with(mark, field, b);
+        table.states[i] = mark_with(mark, field, b);
     }
     table
 }

@@ -1,7 +1,7 @@
 // What the console keeps from line to line, beside the buffers.
+use conn_frame::closed;
 use connection::event::Event;
 use connection::state::Conn;
-use starting::closed;
 
 // The connection, the event of the last step that was not refused, and how many bytes of the store are lent.
 pub struct State {

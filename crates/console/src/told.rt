@@ -5,12 +5,12 @@ use crate::page::put_hex;
 use crate::page::put_number;
 use crate::words::part;
 use crate::write::put_refused;
-use connection::answer::Told;
+use codes::refusal_number;
+use connection::answer::StepResult;
 use connection::event::Event;
 use connection::event::Stream;
-use draft::LONGEST;
-use lines::write_line;
-use numbers::refusal_number;
+use event_text::LONGEST;
+use event_text::write_line;
 
 // The name of a stream.
 fn put_stream(page: &mut [u8], at: usize, stream: Stream) -> usize {
@@ -48,15 +48,15 @@ fn put_event(page: &mut [u8], at: usize, e: Event, piece: &[u8]) -> usize {
 }
 
 // How many bytes of the piece a step used, and its event; or its refusal.
-pub fn put_told(page: &mut [u8], used: usize, told: Told, piece: &[u8]) {
+pub fn put_told(page: &mut [u8], used: usize, told: StepResult, piece: &[u8]) {
     match told {
-        Told::Event(e) => {
+        StepResult::Event(e) => {
             let a = put(page, 0, b"used");
             let b = put_number(page, a, b" ", used as u64);
             let d = put_event(page, b, e, piece);
             end_line(page, d);
         }
-        Told::Refused(why) => {
+        StepResult::Refused(why) => {
             let a = put_refused(page, 0, refusal_number(why));
             end_line(page, a);
         }
@@ -64,9 +64,9 @@ pub fn put_told(page: &mut [u8], used: usize, told: Told, piece: &[u8]) {
 }
 
 // The event of the last step that was not refused.
-pub fn last_event(before: Event, told: Told) -> Event {
+pub fn last_event(before: Event, told: StepResult) -> Event {
     match told {
-        Told::Event(e) => e,
-        Told::Refused(_) => before,
+        StepResult::Event(e) => e,
+        StepResult::Refused(_) => before,
     }
 }

@@ -12,19 +12,19 @@ use crate::page::put_number;
 use crate::room::fill;
 use crate::room::touched;
 use crate::words::part;
+use call_finish::FinishResult;
+use call_finish::finish;
+use call_output::end_output;
+use call_output::write_output;
+use call_reply::owed_reply;
+use codes::refusal_number;
 use connection::answer::Output;
 use connection::answer::Refusal;
 use connection::answer::Wrote;
 use connection::event::Event;
 use connection::state::Conn;
-use finish::Finish;
-use finish::end_request;
-use numbers::refusal_number;
-use output::end_output;
-use output::write_output;
-use pair_writer::Wrote as Pairing;
+use pair_writer::PairWrote;
 use pair_writer::write_pair;
-use reply::reply;
 
 // The bytes written, of a finish with the connection left open or closed; or the number of the refusal.
 pub enum Effect {
@@ -34,7 +34,7 @@ pub enum Effect {
     Refused(u8),
 }
 
-// What a call came to, and the connection behind it.
+// What a call came to, and the connection after it.
 pub struct Called {
     pub effect: Effect,
     pub conn: Conn,
@@ -58,11 +58,11 @@ fn of_pairing(wrote: Pairing) -> Effect {
 }
 
 // What a finish came to.
-fn of_finish(finish: Finish) -> Effect {
+fn of_finish(finish: FinishResult) -> Effect {
     match finish {
-        Finish::Open(n) => Effect::Open(n),
-        Finish::Closed(n) => Effect::Closed(n),
-        Finish::Refused(why) => Effect::Refused(refusal_number(why)),
+        FinishResult::Open(n) => Effect::Open(n),
+        FinishResult::Closed(n) => Effect::Closed(n),
+        FinishResult::Refused(why) => Effect::Refused(refusal_number(why)),
     }
 }
 
@@ -170,7 +170,7 @@ fn put_wrote(page: &mut [u8], at: usize, room: &[u8], n: usize, last: &[u8]) -> 
     put(page, d, last)
 }
 
-// ` touched` where a byte behind what was written changed.
+// ` touched` where a byte after what was written changed.
 fn put_touched(page: &mut [u8], at: usize, room: &[u8], n: usize) -> usize {
     if touched(room, n) {
         return put(page, at, b" touched");

@@ -6,9 +6,9 @@ use mathlib.Core.List.{List, [], _∷_, flatten}
 use native.Mathlib.Omega.{arith}
 use lib.ListN.{length}
 use borrow.Author.Tests.{lt-ltb}
-use Rattle.occupancy.specs.Word.{taken, withBit, withSlot}
+use Rattle.slot_word.specs.Word.{taken, withBit, withSlot}
 use Rattle.record.specs.Header.{headerBytes}
-use Rattle.writer.specs.Written.{paddingOf, recordLength, recordBytes, chunksIn, chunks, streamBytes, streamLength}
+use Rattle.record_writer.specs.Written.{paddingOf, recordLength, recordBytes, chunksIn, chunks, streamBytes, streamLength}
 use Rattle.pairs.specs.Length.{lengthBytes}
 use Rattle.pairs.specs.Pair.{pairBytes}
 use Rattle.pair_writer.specs.Write.{pairWritten}
@@ -32,7 +32,7 @@ ended =
     record {
       id = 1;
       length = 0;
-      mark = record { role = Role.Responder; turn = Turn.Done; life = Life.Live; keep = true; «out_ended» = true; «err_used» = false; «err_ended» = false };
+      state = record { role = Role.Responder; turn = Turn.Done; life = Life.Live; keep = true; «out_ended» = true; «err_used» = false; «err_ended» = false };
     }
 
 abbrev talking : Conn
@@ -40,7 +40,7 @@ talking = openWith (takeSlot noRequests 0 ended) noFrame
 
 -- a slot taken by a request with the id 0
 abbrev odd : Bool → Conn
-odd is-open = record { table = takeSlot noRequests 0 (record { id = 0; length = 0; mark = ended .mark }); frame = noFrame; «open» = is-open }
+odd is-open = record { table = takeSlot noRequests 0 (record { id = 0; length = 0; state = ended .state }); frame = noFrame; «open» = is-open }
 
 short-store-out-of-shape : lentRefusal (odd true) [] 1 ≡ 2
 unfolding lentRefusal inShape slotsFit idFits positionFits findFrom holdsId taken takeSlot putRequest withSlot withBit

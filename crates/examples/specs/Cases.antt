@@ -6,13 +6,13 @@ use mathlib.Core.List.{List, [], _∷_, _++_}
 use Rattle.record.specs.Names.{PARAMS, STDIN}
 use Rattle.wire.specs.Number.{number4}
 use Rattle.wire.specs.Buffer.{copied}
-use Rattle.occupancy.specs.Word.{taken, lowestFree, withBit, withSlot}
+use Rattle.slot_word.specs.Word.{taken, lowestFree, withBit, withSlot}
 use Rattle.record.specs.Header.{headerOf}
 use Rattle.record.specs.Body.{beginBodyOf}
-use Rattle.reader.specs.Position.{advanced, inHeader}
+use Rattle.record_reader.specs.Position.{advanced, inHeader}
 use Rattle.pairs.specs.Length.{fourAt, lengthAt}
 use Rattle.pairs.specs.Pair.{pairAt}
-use Rattle.lists.specs.List.{pairsIn, pairsFrom, endingOf, wellFormed}
+use Rattle.pair_list.specs.List.{pairsIn, pairsFrom, endingOf, wellFormed}
 use Rattle.connection.specs.Request.{withTurn, withLife, faulted, turned, paramsFault, paramsEnded, onParams, onInput, onLive, onHeader, opened}
 use Rattle.connection.specs.Slots.{requestAt, areaAt, putRequest, putArea, takeSlot, holdsId, findFrom}
 use Rattle.connection.specs.Shape.{idFits, slotsFit, positionFits, inShape}
@@ -21,7 +21,7 @@ use Rattle.connection.specs.Bytewise.{Note, fed}
 use Rattle.examples.specs.Fed.{told, lastOf, begin, empty, begins}
 use Rattle.pairs.specs.declared.length.Length.{Length}
 use Rattle.pairs.specs.declared.pair.Read.{Read}
-use Rattle.lists.specs.declared.Ending.{Ending}
+use Rattle.pair_list.specs.declared.Ending.{Ending}
 use Rattle.connection.specs.Event.{Event}
 use Rattle.examples.specs.Row.{Row, _gives_, Holds}
 
@@ -32,7 +32,7 @@ portCut = 0x0B ∷ 0x02 ∷ 83 ∷ 69 ∷ 82 ∷ 86 ∷ 69 ∷ 82 ∷ 95 ∷ 80 
 abbrev pub port : List ℕ
 port = portCut ++ (48 ∷ [])
 
--- Lengths and pairs are read at the cursor 0; `Is n k`: the number n, and the cursor k behind it.
+-- Lengths and pairs are read at the cursor 0; `Is n k`: the number n, and the cursor k after it.
 abbrev pub table : List Row
 table =
     (headerOf (0x01 ∷ 0x05 ∷ 0x00 ∷ 0x01 ∷ 0x00 ∷ 0x03 ∷ 0x05 ∷ 0x00 ∷ []) gives record { version = 1; kind = STDIN; id = 1; content = 3; padding = 5 })

@@ -4,16 +4,16 @@ use mathlib.Core.List.{List, [], _∷_, _++_, flatten}
 use mathlib.Core.Option.{Option, none}
 use Rattle.wire.specs.Number.{number4}
 use Rattle.wire.specs.Buffer.{copied, zeros}
-use Rattle.occupancy.specs.Word.{taken, lowestFree, withBit, withSlot, withoutBit, withoutSlot}
+use Rattle.slot_word.specs.Word.{taken, lowestFree, withBit, withSlot, withoutBit, withoutSlot}
 use Rattle.record.specs.Names.{OVERLOADED}
 use Rattle.record.specs.Header.{headerOf, headerBytes}
 use Rattle.record.specs.Body.{beginBodyOf, endBodyBytes}
-use Rattle.reader.specs.Position.{advanced, inHeader}
+use Rattle.record_reader.specs.Position.{advanced, inHeader}
 use Rattle.pairs.specs.Length.{fourAt, lengthAt}
-use Rattle.pairs.specs.Name.{sameBytes}
+use Rattle.wire.specs.Compare.{sameBytes}
 use Rattle.pairs.specs.Pair.{pairAt}
-use Rattle.lists.specs.List.{pairsIn, pairsFrom, endingOf, wellFormed, firstIn, firstNamed}
-use Rattle.writer.specs.Written.{paddingOf, recordBytes, chunksIn, chunks, streamBytes}
+use Rattle.pair_list.specs.List.{pairsIn, pairsFrom, endingOf, wellFormed, firstIn, firstNamed}
+use Rattle.record_writer.specs.Written.{paddingOf, recordBytes, chunksIn, chunks, streamBytes}
 use Rattle.machine.specs.Timeline.{byteItems}
 use Rattle.connection.specs.declared.request.Turn.{Turn}
 use Rattle.connection.specs.Sizes.{AREA}
@@ -25,7 +25,7 @@ use Rattle.connection.specs.Shape.{idFits, slotsFit, positionFits, inShape}
 use Rattle.connection.specs.Step.{closes, onInactive, onActive, judged, opens, begun, ofBegin, ofRequest, advances, stepRefusal, stepped, started}
 use Rattle.connection.specs.Calls as C
 use Rattle.connection.specs.Bytewise.{Note, showing}
-use Rattle.connection.specs.Run.{Operation, StepOver, Observed, Heard, requestOf, called, leftBy, seenIn, itemsOf, finalMemory, allSeen, timeline, startOf, seenOf}
+use Rattle.connection.specs.Run.{Operation, StepOver, Observed, Heard, requestOf, called, memoryAfter, seenIn, itemsOf, finalMemory, allSeen, timeline, startOf, seenOf}
 use Rattle.connection.specs.Runs.RunParts.{fresh, header, begin, finish, one, opened-one}
 
 -- what is told of 1
@@ -54,6 +54,6 @@ pub record Premises : Type 0 where
   stops-early : seenOfOne (header 1 1 8 ∷ []) ≡ []
 
 pub premises : Premises
-unfolding copied taken lowestFree withBit withSlot withoutBit withoutSlot headerOf beginBodyOf headerBytes endBodyBytes advanced inHeader number4 fourAt lengthAt pairAt sameBytes pairsIn pairsFrom endingOf wellFormed firstIn firstNamed paddingOf recordBytes chunksIn chunks streamBytes flatten withTurn withLife faulted aborted turned paramsFault paramsEnded onParams onStdin onData onInput onLive onHeader grown opened Of.valueIn Of.writes Of.saidOn Of.sayIn Of.owesOut Of.owesErr Of.finishBytes Of.finishIn requestAt areaAt putRequest putArea takeSlot freeSlot holdsId findFrom idFits slotsFit positionFits inShape onInactive onActive judged opens begun ofBegin ofRequest advances stepRefusal stepped started showing C.lentRefusal C.callRefusal C.value C.say C.released C.finishes C.finish byteItems requestOf called leftBy seenIn itemsOf finalMemory allSeen timeline startOf seenOf closes
+unfolding copied taken lowestFree withBit withSlot withoutBit withoutSlot headerOf beginBodyOf headerBytes endBodyBytes advanced inHeader number4 fourAt lengthAt pairAt sameBytes pairsIn pairsFrom endingOf wellFormed firstIn firstNamed paddingOf recordBytes chunksIn chunks streamBytes flatten withTurn withLife faulted aborted turned paramsFault paramsEnded onParams onStdin onData onInput onLive onHeader grown opened Of.valueIn Of.writes Of.saidOn Of.sayIn Of.owesOut Of.owesErr Of.finishBytes Of.finishIn requestAt areaAt putRequest putArea takeSlot freeSlot holdsId findFrom idFits slotsFit positionFits inShape onInactive onActive judged opens begun ofBegin ofRequest advances stepRefusal stepped started showing C.lentRefusal C.callRefusal C.value C.say C.released C.finishes C.finish byteItems requestOf called memoryAfter seenIn itemsOf finalMemory allSeen timeline startOf seenOf closes
 premises =
     record { closed-by-another = refl; not-alone = refl; cut-in-header = refl; refused-for-others = refl; opens-alone = refl; stops-early = refl }

@@ -9,16 +9,16 @@ use native.Mathlib.Omega.{arith}
 use lib.ListN.{length, length-replicate}
 use Rattle.wire.specs.Number.{number4}
 use Rattle.wire.specs.Buffer.{copied, zeros}
-use Rattle.occupancy.specs.Word.{taken, lowestFree, withBit, withSlot, withoutBit, withoutSlot}
+use Rattle.slot_word.specs.Word.{taken, lowestFree, withBit, withSlot, withoutBit, withoutSlot}
 use Rattle.record.specs.Names.{STDIN}
 use Rattle.record.specs.Header.{headerOf, headerBytes}
 use Rattle.record.specs.Body.{beginBodyOf, endBodyBytes}
-use Rattle.reader.specs.Position.{advanced, inHeader}
+use Rattle.record_reader.specs.Position.{advanced, inHeader}
 use Rattle.pairs.specs.Length.{fourAt, lengthAt}
-use Rattle.pairs.specs.Name.{sameBytes}
+use Rattle.wire.specs.Compare.{sameBytes}
 use Rattle.pairs.specs.Pair.{pairAt}
-use Rattle.lists.specs.List.{pairsIn, pairsFrom, endingOf, wellFormed, firstIn, firstNamed}
-use Rattle.writer.specs.Written.{paddingOf, recordBytes, chunksIn, chunks, streamBytes}
+use Rattle.pair_list.specs.List.{pairsIn, pairsFrom, endingOf, wellFormed, firstIn, firstNamed}
+use Rattle.record_writer.specs.Written.{paddingOf, recordBytes, chunksIn, chunks, streamBytes}
 use Rattle.machine.specs.Timeline.{byteItems, itemBytes, headerId, headerContent, headerPadding, scanLeft, scanWhole, scanNext, isOwn, isOwnCall, purgeFrom, purge}
 use Rattle.connection.specs.declared.answer.Output.{Output}
 use Rattle.connection.specs.declared.request.Role.{Role}
@@ -34,7 +34,7 @@ use Rattle.connection.specs.Step.{onInactive, onActive, judged, opens, begun, o
 use Rattle.connection.specs.Calls as C
 use Rattle.connection.specs.Bytewise.{Note, showing}
 use Rattle.connection.specs.Arguments.{ForValue, ForSay, ForFinish, ValueIs, Wrote, FinishedWith}
-use Rattle.connection.specs.Run.{Operation, StepOver, CallFor, CountActive, Heard, Answered, requestOf, called, leftBy, seenIn, itemsOf, finalMemory, allSeen, timeline, startOf, WholeRun, ending, timelineOf, observedIn, seenOf, observed}
+use Rattle.connection.specs.Run.{Operation, StepOver, CallFor, CountActive, Heard, Answered, requestOf, called, memoryAfter, seenIn, itemsOf, finalMemory, allSeen, timeline, startOf, WholeRun, ending, timelineOf, observedIn, seenOf, observed}
 use Rattle.connection.specs.Isolation.{EndsBetweenRecords, Isolated}
 use Rattle.connection.specs.Runs.Records.{between-whole}
 use Rattle.connection.specs.Runs.Theorem.{isolation}
@@ -49,7 +49,7 @@ buffer = zeros 40
 abbrev beginBody : List ℕ
 beginBody = 0 ∷ 1 ∷ 1 ∷ 0 ∷ 0 ∷ 0 ∷ 0 ∷ 0 ∷ []
 
--- A: 2 opens, 1 opens; 2 ends PARAMS; 1 gets a pair and ends PARAMS; a value of 1 is looked up and something said for 2; of three STDIN bytes of 1 two come behind the finish of 2; something is said for 1, and 1 is finished within its record, of which the rest comes then; 1 is opened again.
+-- A: 2 opens, 1 opens; 2 ends PARAMS; 1 gets a pair and ends PARAMS; a value of 1 is looked up and something said for 2; of three STDIN bytes of 1 two come after the finish of 2; something is said for 1, and 1 is finished within its record, of which the rest comes then; 1 is opened again.
 abbrev pub both : List Operation
 both =
     StepOver (1 ∷ 1 ∷ 0 ∷ 2 ∷ 0 ∷ 8 ∷ 0 ∷ 0 ∷ [])
@@ -129,11 +129,11 @@ B = fromZeros alone pieces-alone
 abbrev one : ℕ → Turn → Bool → List ℕ → Held
 one n t used area =
     record {
-      request = record { id = 1; length = n; mark = record { role = Role.Responder; turn = t; life = Life.Live; keep = true; «out_ended» = false; «err_used» = used; «err_ended» = false } };
+      request = record { id = 1; length = n; state = record { role = Role.Responder; turn = t; life = Life.Live; keep = true; «out_ended» = false; «err_used» = used; «err_ended» = false } };
       area = area;
     }
 
--- the pair of A and B, and nothing behind it
+-- the pair of A and B, and nothing after it
 abbrev pairArea : List ℕ
 pairArea = 1 ∷ 1 ∷ 65 ∷ 66 ∷ zeros 2044
 
@@ -152,25 +152,25 @@ pub observed-of-one : observed 1 A
     (some (one 4 Turn.Stdin true pairArea)) none
     ∷ Heard (Note.Told (Event.Open 1 1 true))
     ∷ []
-unfolding copied taken lowestFree withBit withSlot withoutBit withoutSlot headerOf beginBodyOf headerBytes endBodyBytes advanced inHeader number4 fourAt lengthAt pairAt sameBytes pairsIn pairsFrom endingOf wellFormed firstIn firstNamed paddingOf recordBytes chunksIn chunks streamBytes flatten withTurn withLife faulted aborted turned paramsFault paramsEnded onParams onStdin onData onInput onLive onHeader grown opened Of.valueIn Of.writes Of.saidOn Of.sayIn Of.owesOut Of.owesErr Of.finishBytes Of.finishIn requestAt areaAt putRequest putArea takeSlot freeSlot holdsId findFrom idFits slotsFit positionFits inShape onInactive onActive judged opens begun ofBegin ofRequest advances stepRefusal stepped started showing C.lentRefusal C.callRefusal C.value C.say C.released C.finishes C.finish byteItems requestOf called leftBy seenIn itemsOf finalMemory allSeen timeline startOf seenOf
+unfolding copied taken lowestFree withBit withSlot withoutBit withoutSlot headerOf beginBodyOf headerBytes endBodyBytes advanced inHeader number4 fourAt lengthAt pairAt sameBytes pairsIn pairsFrom endingOf wellFormed firstIn firstNamed paddingOf recordBytes chunksIn chunks streamBytes flatten withTurn withLife faulted aborted turned paramsFault paramsEnded onParams onStdin onData onInput onLive onHeader grown opened Of.valueIn Of.writes Of.saidOn Of.sayIn Of.owesOut Of.owesErr Of.finishBytes Of.finishIn requestAt areaAt putRequest putArea takeSlot freeSlot holdsId findFrom idFits slotsFit positionFits inShape onInactive onActive judged opens begun ofBegin ofRequest advances stepRefusal stepped started showing C.lentRefusal C.callRefusal C.value C.say C.released C.finishes C.finish byteItems requestOf called memoryAfter seenIn itemsOf finalMemory allSeen timeline startOf seenOf
 observed-of-one = refl
 
 -- At the end it is active anew, with an area of zeros.
 pub one-at-the-end : requestOf 1 (ending A) ≡ some (one 0 Turn.Params false (zeros AREA))
-unfolding copied taken lowestFree withBit withSlot withoutBit withoutSlot headerOf beginBodyOf headerBytes endBodyBytes advanced inHeader number4 fourAt lengthAt pairAt sameBytes pairsIn pairsFrom endingOf wellFormed firstIn firstNamed paddingOf recordBytes chunksIn chunks streamBytes flatten withTurn withLife faulted aborted turned paramsFault paramsEnded onParams onStdin onData onInput onLive onHeader grown opened Of.valueIn Of.writes Of.saidOn Of.sayIn Of.owesOut Of.owesErr Of.finishBytes Of.finishIn requestAt areaAt putRequest putArea takeSlot freeSlot holdsId findFrom idFits slotsFit positionFits inShape onInactive onActive judged opens begun ofBegin ofRequest advances stepRefusal stepped started showing C.lentRefusal C.callRefusal C.value C.say C.released C.finishes C.finish byteItems requestOf called leftBy seenIn itemsOf finalMemory allSeen timeline startOf seenOf
+unfolding copied taken lowestFree withBit withSlot withoutBit withoutSlot headerOf beginBodyOf headerBytes endBodyBytes advanced inHeader number4 fourAt lengthAt pairAt sameBytes pairsIn pairsFrom endingOf wellFormed firstIn firstNamed paddingOf recordBytes chunksIn chunks streamBytes flatten withTurn withLife faulted aborted turned paramsFault paramsEnded onParams onStdin onData onInput onLive onHeader grown opened Of.valueIn Of.writes Of.saidOn Of.sayIn Of.owesOut Of.owesErr Of.finishBytes Of.finishIn requestAt areaAt putRequest putArea takeSlot freeSlot holdsId findFrom idFits slotsFit positionFits inShape onInactive onActive judged opens begun ofBegin ofRequest advances stepRefusal stepped started showing C.lentRefusal C.callRefusal C.value C.say C.released C.finishes C.finish byteItems requestOf called memoryAfter seenIn itemsOf finalMemory allSeen timeline startOf seenOf
 one-at-the-end = refl
 
 -- ---- the premises
 ends-between : EndsBetweenRecords A
-unfolding copied taken lowestFree withBit withSlot withoutBit withoutSlot headerOf beginBodyOf headerBytes endBodyBytes advanced inHeader number4 fourAt lengthAt pairAt sameBytes pairsIn pairsFrom endingOf wellFormed firstIn firstNamed paddingOf recordBytes chunksIn chunks streamBytes flatten withTurn withLife faulted aborted turned paramsFault paramsEnded onParams onStdin onData onInput onLive onHeader grown opened Of.valueIn Of.writes Of.saidOn Of.sayIn Of.owesOut Of.owesErr Of.finishBytes Of.finishIn requestAt areaAt putRequest putArea takeSlot freeSlot holdsId findFrom idFits slotsFit positionFits inShape onInactive onActive judged opens begun ofBegin ofRequest advances stepRefusal stepped started showing C.lentRefusal C.callRefusal C.value C.say C.released C.finishes C.finish byteItems requestOf called leftBy seenIn itemsOf finalMemory allSeen timeline startOf seenOf
+unfolding copied taken lowestFree withBit withSlot withoutBit withoutSlot headerOf beginBodyOf headerBytes endBodyBytes advanced inHeader number4 fourAt lengthAt pairAt sameBytes pairsIn pairsFrom endingOf wellFormed firstIn firstNamed paddingOf recordBytes chunksIn chunks streamBytes flatten withTurn withLife faulted aborted turned paramsFault paramsEnded onParams onStdin onData onInput onLive onHeader grown opened Of.valueIn Of.writes Of.saidOn Of.sayIn Of.owesOut Of.owesErr Of.finishBytes Of.finishIn requestAt areaAt putRequest putArea takeSlot freeSlot holdsId findFrom idFits slotsFit positionFits inShape onInactive onActive judged opens begun ofBegin ofRequest advances stepRefusal stepped started showing C.lentRefusal C.callRefusal C.value C.say C.released C.finishes C.finish byteItems requestOf called memoryAfter seenIn itemsOf finalMemory allSeen timeline startOf seenOf
 ends-between = between-whole A (record { is-open = refl; no-content = refl; no-padding = refl; no-header = refl })
 
 never-overloaded : refusedIn 1 (observedIn A) ≡ false
-unfolding refusedIn copied taken lowestFree withBit withSlot withoutBit withoutSlot headerOf beginBodyOf headerBytes endBodyBytes advanced inHeader number4 fourAt lengthAt pairAt sameBytes pairsIn pairsFrom endingOf wellFormed firstIn firstNamed paddingOf recordBytes chunksIn chunks streamBytes flatten withTurn withLife faulted aborted turned paramsFault paramsEnded onParams onStdin onData onInput onLive onHeader grown opened Of.valueIn Of.writes Of.saidOn Of.sayIn Of.owesOut Of.owesErr Of.finishBytes Of.finishIn requestAt areaAt putRequest putArea takeSlot freeSlot holdsId findFrom idFits slotsFit positionFits inShape onInactive onActive judged opens begun ofBegin ofRequest advances stepRefusal stepped started showing C.lentRefusal C.callRefusal C.value C.say C.released C.finishes C.finish byteItems requestOf called leftBy seenIn itemsOf finalMemory allSeen timeline startOf seenOf
+unfolding refusedIn copied taken lowestFree withBit withSlot withoutBit withoutSlot headerOf beginBodyOf headerBytes endBodyBytes advanced inHeader number4 fourAt lengthAt pairAt sameBytes pairsIn pairsFrom endingOf wellFormed firstIn firstNamed paddingOf recordBytes chunksIn chunks streamBytes flatten withTurn withLife faulted aborted turned paramsFault paramsEnded onParams onStdin onData onInput onLive onHeader grown opened Of.valueIn Of.writes Of.saidOn Of.sayIn Of.owesOut Of.owesErr Of.finishBytes Of.finishIn requestAt areaAt putRequest putArea takeSlot freeSlot holdsId findFrom idFits slotsFit positionFits inShape onInactive onActive judged opens begun ofBegin ofRequest advances stepRefusal stepped started showing C.lentRefusal C.callRefusal C.value C.say C.released C.finishes C.finish byteItems requestOf called memoryAfter seenIn itemsOf finalMemory allSeen timeline startOf seenOf
 never-overloaded = refl
 
 alone-is-purged : timelineOf B ≡ purge 1 (timelineOf A)
-unfolding purgeFrom scanNext scanWhole scanLeft isOwn isOwnCall itemBytes headerId headerContent headerPadding copied taken lowestFree withBit withSlot withoutBit withoutSlot headerOf beginBodyOf headerBytes endBodyBytes advanced inHeader number4 fourAt lengthAt pairAt sameBytes pairsIn pairsFrom endingOf wellFormed firstIn firstNamed paddingOf recordBytes chunksIn chunks streamBytes flatten withTurn withLife faulted aborted turned paramsFault paramsEnded onParams onStdin onData onInput onLive onHeader grown opened Of.valueIn Of.writes Of.saidOn Of.sayIn Of.owesOut Of.owesErr Of.finishBytes Of.finishIn requestAt areaAt putRequest putArea takeSlot freeSlot holdsId findFrom idFits slotsFit positionFits inShape onInactive onActive judged opens begun ofBegin ofRequest advances stepRefusal stepped started showing C.lentRefusal C.callRefusal C.value C.say C.released C.finishes C.finish byteItems requestOf called leftBy seenIn itemsOf finalMemory allSeen timeline startOf seenOf
+unfolding purgeFrom scanNext scanWhole scanLeft isOwn isOwnCall itemBytes headerId headerContent headerPadding copied taken lowestFree withBit withSlot withoutBit withoutSlot headerOf beginBodyOf headerBytes endBodyBytes advanced inHeader number4 fourAt lengthAt pairAt sameBytes pairsIn pairsFrom endingOf wellFormed firstIn firstNamed paddingOf recordBytes chunksIn chunks streamBytes flatten withTurn withLife faulted aborted turned paramsFault paramsEnded onParams onStdin onData onInput onLive onHeader grown opened Of.valueIn Of.writes Of.saidOn Of.sayIn Of.owesOut Of.owesErr Of.finishBytes Of.finishIn requestAt areaAt putRequest putArea takeSlot freeSlot holdsId findFrom idFits slotsFit positionFits inShape onInactive onActive judged opens begun ofBegin ofRequest advances stepRefusal stepped started showing C.lentRefusal C.callRefusal C.value C.say C.released C.finishes C.finish byteItems requestOf called memoryAfter seenIn itemsOf finalMemory allSeen timeline startOf seenOf
 alone-is-purged = refl
 
 -- So what is observed of 1 is the same in B.

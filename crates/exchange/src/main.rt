@@ -1,21 +1,23 @@
 // A station's end of an exchange: what a web server sends comes on standard input, what the station answers goes to
 // standard output. Each request is asked for its reading once its parameters are there; the reading is written to the
 // request's STDOUT, STDOUT is ended, and then the request. Replies that events owe are written as they come.
-use connection::answer::Output;
-use connection::answer::Told;
-use connection::answer::Wrote;
-use connection::event::Event;
-use connection::state::Conn;
-use finish::Finish;
-use finish::end_request;
+use fastcgi::Conn;
+use fastcgi::Event;
+use fastcgi::FinishResult;
+use fastcgi::Output;
+use fastcgi::QUERY;
+use fastcgi::STORE;
+use fastcgi::StepResult;
+use fastcgi::Wrote;
+use fastcgi::end_output;
+use fastcgi::finish;
+use fastcgi::owed_reply;
+use fastcgi::start;
+use fastcgi::step;
+use fastcgi::value;
+use fastcgi::write_output;
 use libc::STDIN_FILENO;
 use libc::STDOUT_FILENO;
-use output::end_output;
-use output::write_output;
-use parameters::value;
-use receive::step::step;
-use reply::reply;
-use starting::start;
 
 // Sends what a call wrote; a refused call wrote nothing.
 fn send(out: &[u8], wrote: Wrote) {
@@ -28,11 +30,11 @@ fn send(out: &[u8], wrote: Wrote) {
 }
 
 // Sends what the end of a request wrote.
-fn send_end(out: &[u8], finish: Finish) {
-    match finish {
-        Finish::Open(n) => send(out, Wrote::Bytes(n)),
-        Finish::Closed(n) => send(out, Wrote::Bytes(n)),
-        Finish::Refused(why) => send(out, Wrote::Refused(why)),
+fn send_end(out: &[u8], last: FinishResult) {
+    match last {
+        FinishResult::Open(n) => send(out, Wrote::Bytes(n)),
+        FinishResult::Closed(n) => send(out, Wrote::Bytes(n)),
+        FinishResult::Refused(why) => send(out, Wrote::Refused(why)),
     }
 }
 
@@ -44,20 +46,20 @@ fn answer(c: Conn, store: &mut [u8], id: u16, out: &mut [u8]) -> Conn {
     send(out, wrote);
     let told = said.conn;
     let ended = end_output(told, id, Output::Stdout, out);
-    let last = ended.wrote;
-    send(out, last);
+    let end = ended.wrote;
+    send(out, end);
     let over = ended.conn;
-    let finished = end_request(over, store, id, 0, out);
-    let finish = finished.finish;
-    send_end(out, finish);
+    let finished = finish(over, store, id, 0, out);
+    let last = finished.result;
+    send_end(out, last);
     finished.conn
 }
 
 // What the station does at an event.
 fn react(c: Conn, store: &mut [u8], e: Event, out: &mut [u8]) -> Conn {
-    let owed = reply(e, out);
+    let owed = owed_reply(e, out);
     send(out, owed);
-    if let Event::Ready(id, _) = e {
+    if let Event::Ready { id, length: _ } = e {
         return answer(c, store, id, out);
     }
     c
@@ -67,7 +69,7 @@ fn react(c: Conn, store: &mut [u8], e: Event, out: &mut [u8]) -> Conn {
 fn exchange_piece(
     c: Conn,
     store: &mut [u8],
-    gathered: &mut [u8; 512],
+    gathered: &mut [u8; QUERY],
     piece: &[u8],
     out: &mut [u8],
 ) -> Conn {
@@ -77,7 +79,7 @@ fn exchange_piece(
         let end = piece.len();
         let s = step(conn, store, gathered, &piece[from..end]);
         let used = s.used;
-        let told = s.told;
+        let told = s.result;
         conn = s.conn;
         if used == 0 {
             return conn;
@@ -86,7 +88,7 @@ fn exchange_piece(
             return conn;
         }
         let next = from + used;
-        if let Told::Event(e) = told {
+        if let StepResult::Event(e) = told {
             conn = react(conn, store, e, out);
         }
         from = next;
@@ -96,7 +98,7 @@ fn exchange_piece(
 
 // A proved loop has to end, and nothing says that the input does: so it counts its turns down, from a number that no
 // run uses up.
-fn exchange(c: Conn, store: &mut [u8], gathered: &mut [u8; 512], out: &mut [u8]) -> Conn {
+fn exchange(c: Conn, store: &mut [u8], gathered: &mut [u8; QUERY], out: &mut [u8]) -> Conn {
     let mut conn = c;
     let mut turns = u64::MAX;
     while turns > 0 {
@@ -114,8 +116,8 @@ fn exchange(c: Conn, store: &mut [u8], gathered: &mut [u8; 512], out: &mut [u8])
 }
 
 fn main() {
-    let mut store = [0u8; 32768];
-    let mut gathered = [0u8; 512];
+    let mut store = [0u8; STORE];
+    let mut gathered = [0u8; QUERY];
     let mut out = io::large_buffer();
     let s = start(&mut store, &mut gathered);
     let c = s.conn;

@@ -39,7 +39,7 @@ unfoldable pub mixed : ℕ → ℕ → Event → ℕ
 mixed sum n e = (sum * 33 + toldWeight n e) % 72057594037927936
 
 -- ---- pieces
--- The end of the piece of which the byte at a place is part, behind the last end.
+-- The end of the piece of which the byte at a place is part, after the last end.
 unfoldable pub nextEnd : ℕ → ℕ → ℕ → ℕ → ℕ
 nextEnd at end piece n = if at <? end then end else if piece <? n - at then at + piece else n
 

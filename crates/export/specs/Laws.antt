@@ -49,13 +49,13 @@ at-end st store input piece at end sum h =
     rw n
 
 -- A step over what is left of a piece: it stays within the input; if it read some, the rest from here is the rest from there; if it read nothing, all ends here.
-pub record Turn (st : State) (store input : List ℕ) (piece at end sum next : ℕ) (s : Stepped) : Type 0 where
+pub record LoopTurn (st : State) (store input : List ℕ) (piece at end sum next : ℕ) (s : Stepped) : Type 0 where
   pub inside : at + s .used ≤ next
   pub onward : (s .used ≡ 0 → ⊥) → restOf st store input piece at end sum ≡ restOf (s .state) (s .store) input piece (at + s .used) next (mixed sum (s .refusal) (s .event))
   pub halted : s .used ≡ 0 → restOf st store input piece at end sum ≡ record { state = s .state; store = s .store; sum = sum }
 
 turn-at : (st : State) (store input : List ℕ) (piece at end sum : ℕ) → at < length input → at ≤ nextEnd at end piece (length input)
-    → Turn st store input piece at end sum (nextEnd at end piece (length input)) (stepped st store (take (nextEnd at end piece (length input) - at) (drop at input)))
+    → LoopTurn st store input piece at end sum (nextEnd at end piece (length input)) (stepped st store (take (nextEnd at end piece (length input) - at) (drop at input)))
 unfolding fedIn
 turn-at st store input piece at end sum l a =
     let next = nextEnd at end piece (length input) in
@@ -74,8 +74,8 @@ turn-at st store input piece at end sum l a =
 
 pub turn : (st : State) (store input : List ℕ) (piece at end sum next : ℕ) (s : Stepped) → at < length input → at ≤ next
     → next ≡ nextEnd at end piece (length input) → s ≡ stepped st store (take (next - at) (drop at input))
-    → Turn st store input piece at end sum next s
+    → LoopTurn st store input piece at end sum next s
 turn st store input piece at end sum next s l a en es =
-    subst (λ (y : Stepped). Turn st store input piece at end sum next y) (sym es)
-    (subst (λ (e : ℕ). Turn st store input piece at end sum e (stepped st store (take (e - at) (drop at input)))) (sym en)
+    subst (λ (y : Stepped). LoopTurn st store input piece at end sum next y) (sym es)
+    (subst (λ (e : ℕ). LoopTurn st store input piece at end sum e (stepped st store (take (e - at) (drop at input)))) (sym en)
     (turn-at st store input piece at end sum l (rw (← en) a)))

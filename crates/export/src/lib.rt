@@ -1,21 +1,22 @@
 // The receiver linked from another language: a whole input is fed to a fresh connection, piece by piece, and all that
 // its steps tell comes back as one number, by which two receivers can be compared and a step's cost be measured.
-use connection::answer::Told;
-use connection::event::Event;
-use connection::state::Conn;
-use numbers::close_number;
-use numbers::fault_number;
-use numbers::refusal_number;
-use numbers::role_number;
-use numbers::status_number;
-use numbers::stream_type;
-use receive::step::step;
-use starting::start;
+use fastcgi::Conn;
+use fastcgi::Event;
+use fastcgi::QUERY;
+use fastcgi::StepResult;
+use fastcgi::close_number;
+use fastcgi::fault_number;
+use fastcgi::refusal_number;
+use fastcgi::role_number;
+use fastcgi::start;
+use fastcgi::status_number;
+use fastcgi::step;
+use fastcgi::stream_type;
 ghost use mathlib.Core.Path.{_≡_};
 ghost use Prim.Native.Nat.{_≤_, _<_};
-ghost use Rattle.receive.specs.Answer.{toldNumber, toldEvent};
+ghost use Rattle.call_step.specs.Answer.{toldNumber, toldEvent};
 ghost use Rattle.connection.specs.Step.{stateOf};
-ghost use Rattle.connection.specs.Numbers.{eventOf};
+ghost use Rattle.connection.specs.Codes.{eventOf};
 ghost use Rattle.export.specs.Digest.{flagNumber, packed, weight, toldWeight, mixed, nextEnd, fedBy, fedAll, digestBy, digest};
 
 fn flag(b: bool) -> u8
@@ -37,35 +38,44 @@ fn event_weight(e: Event) -> u64
 {
     match e {
         Event::Nothing => pack(0, 0, 0, 0),
-        Event::Open(id, role, keep) => pack(1, id, role_number(role), flag(keep) as u16),
-        Event::Ready(id, n) => pack(2, id, 0, n),
-        Event::Data(id, stream, n) => pack(3, id, stream_type(stream), (n % 65536) as u16),
-        Event::End(id, stream) => pack(4, id, stream_type(stream), 0),
-        Event::Abort(id) => pack(5, id, 0, 0),
-        Event::Refuse(id, status) => pack(6, id, status_number(status), 0),
-        Event::Fault(id, fault) => pack(7, id, fault_number(fault), 0),
-        Event::Query(conns, reqs, mpxs) => pack(
-            8,
-            flag(conns) as u16,
-            flag(reqs),
-            flag(mpxs) as u16,
+        Event::Open { id, role, keep } => pack(1, id, role_number(role), flag(keep) as u16),
+        Event::Ready { id, length } => pack(2, id, 0, length),
+        Event::Data { id, stream, count } => pack(
+            3,
+            id,
+            stream_type(stream),
+            (count % 65536) as u16,
         ),
-        Event::Unknown(kind) => pack(9, 0, kind, 0),
-        Event::Closed(close) => pack(10, 0, close_number(close), 0),
+        Event::End { id, stream } => pack(4, id, stream_type(stream), 0),
+        Event::Abort { id } => pack(5, id, 0, 0),
+        Event::Refuse { id, status } => pack(6, id, status_number(status), 0),
+        Event::Fault { id, fault } => pack(7, id, fault_number(fault), 0),
+        Event::Query {
+            max_conns,
+            max_reqs,
+            mpxs_conns,
+        } => pack(
+            8,
+            flag(max_conns) as u16,
+            flag(max_reqs),
+            flag(mpxs_conns) as u16,
+        ),
+        Event::Unknown { kind } => pack(9, 0, kind, 0),
+        Event::Closed { cause } => pack(10, 0, close_number(cause), 0),
     }
 }
 
-fn told_weight(told: Told) -> u64
+fn told_weight(told: StepResult) -> u64
     ensures { λ r. ⌜ (r ≡ toldWeight (toldNumber told) (toldEvent told)) × (r < 281474976710656) ⌝ }
 {
     match told {
-        Told::Event(e) => event_weight(e),
-        Told::Refused(why) => pack(11, 0, refusal_number(why), 0),
+        StepResult::Event(e) => event_weight(e),
+        StepResult::Refused(why) => pack(11, 0, refusal_number(why), 0),
     }
 }
 
 // What was told, mixed into a digest.
-fn mix(sum: u64, told: Told) -> u64
+fn mix(sum: u64, told: StepResult) -> u64
     requires { ⌜ sum < 72057594037927936 ⌝ }
     ensures { λ r. ⌜ (r ≡ mixed sum (toldNumber told) (toldEvent told)) × (r < 72057594037927936) ⌝ }
 {
@@ -73,7 +83,7 @@ fn mix(sum: u64, told: Told) -> u64
     (sum * 33 + x) % 72057594037927936
 }
 
-// Where the piece ends that the byte at place `at` lies in, and behind which `end` was the last.
+// Where the piece ends that the byte at place `at` lies in, and after which `end` was the last.
 fn next_end(at: usize, end: usize, piece: usize, n: usize) -> usize
     requires { ⌜ (at ≤ n) × (end ≤ n) ⌝ }
     ensures { λ r. ⌜ (r ≡ nextEnd at end piece n) × (at ≤ r) × (r ≤ n) ⌝ }
@@ -94,7 +104,13 @@ struct Fed {
 }
 
 // Steps through an input in pieces of so many bytes, to its end or to the first step that reads nothing.
-fn feed_all(c: Conn, store: &mut [u8], gathered: &mut [u8; 512], input: &[u8], piece: usize) -> Fed
+fn feed_all(
+    c: Conn,
+    store: &mut [u8],
+    gathered: &mut [u8; QUERY],
+    input: &[u8],
+    piece: usize,
+) -> Fed
     ensures { λ r. ⌜ fedBy r (now (gathered .exit)) (now (store .exit)) ≡ fedAll (stateOf c (now (gathered .entry))) (now (store .entry)) (now (input .entry)) piece ⌝ }
 {
     let mut conn = c;
@@ -105,7 +121,7 @@ fn feed_all(c: Conn, store: &mut [u8], gathered: &mut [u8; 512], input: &[u8], p
         end = next_end(at, end, piece, input.len());
         let s = step(conn, store, gathered, &input[at..end]);
         let used = s.used;
-        let told = s.told;
+        let told = s.result;
         let next = s.conn;
         conn = next;
         if used == 0 {
@@ -128,7 +144,7 @@ fn feed_all(c: Conn, store: &mut [u8], gathered: &mut [u8; 512], input: &[u8], p
 pub extern "C" fn fastcgi_digest(store: &mut [u8], input: &[u8], piece: usize) -> u64
     ensures { λ r. ⌜ digestBy r (now (store .exit)) ≡ digest (now (store .entry)) (now (input .entry)) piece ⌝ }
 {
-    let mut gathered = [0u8; 512];
+    let mut gathered = [0u8; QUERY];
     let s = start(store, &mut gathered);
     let c = s.conn;
     let fed = feed_all(c, store, &mut gathered, input, piece);

@@ -41,7 +41,7 @@ module _ (M : Machine) where
     pub same-events : (k : Stream) (b : ℕ) (x : List ℕ) (r : Request) → eventsShown eachByte ((onContent k (b ∷ x) r) .1) ≡ eventsDuring k (b ∷ x) r
 
 -- ---- shape
--- the request behind a header is in shape, and so is the content that it takes
+-- the request after a header is in shape, and so is the content that it takes
 abbrev pub HeaderOutcomeOk : {Request Stream Event : Type 0} → (Request → Type 0) → (Stream → ℕ → Request → Type 0) → ℕ → HeaderOutcome Request Stream Event → Type 0
 HeaderOutcomeOk RequestOk StreamOk c (Decided q e none) = RequestOk q
 HeaderOutcomeOk RequestOk StreamOk c (Decided q e (some k)) = RequestOk q × StreamOk k c q

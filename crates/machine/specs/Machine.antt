@@ -9,7 +9,7 @@ use Rattle.machine.specs.Timeline.{RequestCall, CountCall, Item, ByteIte
 use Rattle.machine.specs.Slots.{SlotState, Vacant, HeldBy, Lookup, Absent, FoundAt, Vacancy, NoVacancy, VacancyAt, lookup, firstVacancy, slotAt}
 
 -- ---- what one request decides
--- On a header: the request behind it, the event if any, and the stream that takes the content (none: it is skipped).
+-- On a header: the request after it, the event if any, and the stream that takes the content (none: it is skipped).
 pub data HeaderOutcome (Request Stream Event : Type 0) : Type 0 where
   Decided : Request → Option Event → Option Stream → HeaderOutcome Request Stream Event
 
@@ -183,13 +183,13 @@ module _ (M : Machine) where
   beginWhole (Declined e) id T F = (Open T F, some (RequestEvent id e))
   beginWhole (Accepted r e) id T F = requestSeated (firstVacancy T) id r e T F
 
-  -- a byte for a stream of the request in slot i; c content bytes are left behind it
+  -- a byte for a stream of the request in slot i; c content bytes are left after it
   unfoldable pub streamByte : SlotState Leftover Request → ℕ → Stream → ℕ → ℕ → ℕ → Slots → Effect
   streamByte (Vacant x) i k c p b T = (Open T (withLeft Skip c p), none)
   streamByte (HeldBy id r) i k c p b T =
       (Open (set T i (HeldBy id ((onByte k b r) .0))) (withLeft (ToSlot i k) c p), eventFrom id ((onByte k b r) .1))
 
-  -- one content byte; c are left behind it
+  -- one content byte; c are left after it
   unfoldable pub contentByte : Target → ℕ → ℕ → ℕ → Slots → Effect
   contentByte Skip c p b T = (Open T (withLeft Skip c p), none)
   contentByte (ToBegin id g) zero p b T = beginWhole (onBegin id (g ++ b ∷ [])) id T (withLeft Skip zero p)

@@ -62,12 +62,12 @@ module _ (M : Machine) (U : Bulk M) where
   unfoldable pub asStep : Effect M → StepEffect
   asStep A = (A .0, singly (A .1))
 
-  -- content for a stream of the request in slot i; c bytes are left behind it
+  -- content for a stream of the request in slot i; c bytes are left after it
   unfoldable pub streamContent : SlotState Leftover Request → ℕ → Stream → ℕ → ℕ → List ℕ → Slots M → StepEffect
   streamContent (Vacant y) i k c p x T = (Open T (withLeft M Skip c p), none)
   streamContent (HeldBy id r) i k c p x T = (Open (set T i (HeldBy id ((onContent k x r) .0))) (withLeft M (ToSlot i k) c p), severally id ((onContent k x r) .1))
 
-  -- content for any target; c bytes are left behind it
+  -- content for any target; c bytes are left after it
   unfoldable pub contentBytes : Target M → ℕ → ℕ → List ℕ → Slots M → StepEffect
   contentBytes Skip c p x T = (Open T (withLeft M Skip c p), none)
   contentBytes (ToBegin id g) zero p x T = asStep (beginWhole M (onBegin id (g ++ x)) id T (withLeft M Skip zero p))

@@ -72,7 +72,7 @@ module _ (M : Machine) (U : Bulk M) (L : Laws M) where
   unfolding usedBytes
   used-some T F b x f = some-taken (needed M F) b x (needed-some T F f)
 
-  -- A piece is used up by n steps if it has n bytes at the most, and the connection is open behind it.
+  -- A piece is used up by n steps if it has n bytes at the most, and the connection is open after it.
   pub stepped-through : (n : ℕ) (s : Connection M) (x : List ℕ) → WellShaped M L s → BytesOk x → length x ≤ n → (stateAfter M s (byteItems x) ≡ Closed → ⊥)
       → timeline M U s (steppedThrough n s x) ≡ byteItems x
   unfolding steppedThrough timeline byteItems
@@ -104,7 +104,7 @@ module _ (M : Machine) (U : Bulk M) (L : Laws M) where
       ap (λ l. byteItems (usedBytes M s x) ++ l) (timeline-append ((onPiece M U s x) .0) os ps) ∙ sym (append-assoc (byteItems (usedBytes M s x)) _ _)
   timeline-append s (MakeCall c ∷ os) ps = ap (λ l. CallItem c ∷ l) (timeline-append ((onItem M s (CallItem c)) .0) os ps)
 
-  -- where a state is closed behind some items, it is closed behind more
+  -- where a state is closed after some items, it is closed after more
   open-before : (s : Connection M) (t u : List (Item (M .Argument))) → (stateAfter M s (t ++ u) ≡ Closed → ⊥) → stateAfter M s t ≡ Closed → ⊥
   open-before s t u a e = a (state-append M s t u ∙ ap (λ w. stateAfter M w u) e ∙ closed-stays M u)
 

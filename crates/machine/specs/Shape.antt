@@ -9,7 +9,7 @@ use Rattle.machine.specs.Timeline.{Item, ByteItem, CallItem}
 use Rattle.machine.specs.Machine.{Machine, Target, Skip, ToBegin, ToQuery, ToSlot, Reading, AtHeader, PastHeader, Slots, Connection, Open, Closed, Effect}
 use Rattle.machine.specs.Laws.{Laws}
 
--- every element is a byte (behind the end of a list there stands 0)
+-- every element is a byte (after the end of a list there stands 0)
 abbrev pub BytesOk : List ℕ → Type 0
 BytesOk h = (i : ℕ) → byteAt h i < 256
 

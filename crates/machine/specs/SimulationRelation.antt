@@ -57,7 +57,7 @@ module _ (M : Machine) (R : ℕ) where
     CallLeaves : {r : Request} {n : Answer} (a : Argument) → onCall a r ≡ Leaves n → LifeStep (some r) (some (CallAnswer R a n (some r) none)) none
 
   -- ---- one item in both runs
-  -- The effects A in the whole run and B in the purged run: the states still go together, and the same of R is observed. v₀ is R before the item, m where the whole run stands behind it.
+  -- The effects A in the whole run and B in the purged run: the states still go together, and the same of R is observed. v₀ is R before the item, m where the whole run stands after it.
   pub record StepTogether (v₀ : Option Request) (n : ℕ) (l : List ℕ) (m : Scan) (A B : Effect M) : Type 0 where
     pub slots : Slots M
     pub reading : Reading M

@@ -25,12 +25,12 @@ pub data Vacancy (Leftover : Type 0) : Type 0 where
   NoVacancy : Vacancy Leftover
   VacancyAt : ℕ → Leftover → Vacancy Leftover
 
--- found in the slots behind the first: the numbers are one more
+-- found in the slots after the first: the numbers are one more
 unfoldable pub lookupFurther : {Request : Type 0} → Lookup Request → Lookup Request
 lookupFurther Absent = Absent
 lookupFurther (FoundAt i r) = FoundAt (suc i) r
 
--- free among the slots behind the first
+-- free among the slots after the first
 unfoldable pub vacancyFurther : {Leftover : Type 0} → Vacancy Leftover → Vacancy Leftover
 vacancyFurther NoVacancy = NoVacancy
 vacancyFurther (VacancyAt i x) = VacancyAt (suc i) x

@@ -61,12 +61,12 @@ scanLeft k zero zero = ScanHeader []
 scanLeft k zero (suc p) = ScanRest k zero (suc p)
 scanLeft k (suc c) p = ScanRest k (suc c) p
 
--- behind a header byte: are they fewer than eight still?
+-- after a header byte: are they fewer than eight still?
 unfoldable pub scanWhole : Bool → ℕ → List ℕ → Scan
 scanWhole true R h = ScanHeader h
 scanWhole false R h = scanLeft (headerId h =? R) (headerContent h) (headerPadding h)
 
--- behind any byte
+-- after any byte
 unfoldable pub scanNext : ℕ → Scan → ℕ → Scan
 scanNext R (ScanHeader h) b = scanWhole (length (h ++ b ∷ []) <? 8) R (h ++ b ∷ [])
 scanNext R (ScanRest k (suc c) p) b = scanLeft k c p

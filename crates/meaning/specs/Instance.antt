@@ -4,11 +4,11 @@ use mathlib.Core.Path.{_≡_, refl}
 use mathlib.Core.Bool.{true}
 use mathlib.Core.List.{List, [], _∷_, _++_}
 use Rattle.wire.specs.Buffer.{zeros, copied}
-use Rattle.occupancy.specs.Word.{taken, lowestFree, withBit, withSlot}
+use Rattle.slot_word.specs.Word.{taken, lowestFree, withBit, withSlot}
 use Rattle.record.specs.Header.{headerOf}
 use Rattle.record.specs.Body.{beginBodyOf}
 use Rattle.record.specs.Split.{frontLength, wholeFront, front, splitIn, split}
-use Rattle.lists.specs.List.{pairsIn, pairsFrom, endingOf, wellFormed}
+use Rattle.pair_list.specs.List.{pairsIn, pairsFrom, endingOf, wellFormed}
 use Rattle.connection.specs.Sizes.{QUERY, STORE}
 use Rattle.connection.specs.Event.{Event}
 use Rattle.connection.specs.Request.{withTurn, withLife, faulted, turned, paramsFault, paramsEnded, onParams, onStdin, onInput, onLive, onHeader, opened}
@@ -18,7 +18,7 @@ use Rattle.connection.specs.Bytewise.{Note, showing}
 use Rattle.meaning.specs.Meaning.{contentMeans, headerMeans, restMeans, recordsMean, means}
 
 -- BEGIN_REQUEST of a responder with KEEP_CONN, its content of eight bytes and two of padding; the end of PARAMS; two bytes of STDIN and one of padding; and a
--- record of STDIN that is cut behind the first of its three bytes
+-- record of STDIN that is cut after the first of its three bytes
 abbrev pub some : List ℕ
 some =
     (1 ∷ 1 ∷ 0 ∷ 1 ∷ 0 ∷ 8 ∷ 2 ∷ 0 ∷ 0 ∷ 1 ∷ 1 ∷ 0 ∷ 0 ∷ 0 ∷ 0 ∷ 0 ∷ 7 ∷ 7 ∷ [])

@@ -8,17 +8,17 @@ use Rattle.record.specs.Names.{HEADER-LEN}
 use Rattle.record.specs.Header.{headerOf}
 use Rattle.record.specs.declared.header.Header.{Header}
 use Rattle.record.specs.Split.{Record, split}
-use Rattle.reader.specs.Position.{noHeader}
-use Rattle.reader.specs.declared.Position.{Position}
+use Rattle.record_reader.specs.Position.{noHeader}
+use Rattle.record_reader.specs.declared.Position.{Position}
 use Rattle.connection.specs.Event.{Event}
-use Rattle.connection.specs.Step.{State, Left, stateOf, moved, reads, judged, onTarget}
+use Rattle.connection.specs.Step.{State, Left, stateOf, frameAt, reads, judged, onTarget}
 use Rattle.connection.specs.Bytewise.{Run, notes, resting, _then-run_}
 
 -- a run that is what one rule leaves, told of these bytes
 abbrev pub ran : Left → List ℕ → Run
 ran l bytes = record { state = stateOf (l .conn) (l .gathered); store = l .store; notes = notes (l .event) bytes }
 
--- behind a header and some of what follows it: so much content and so much padding is yet to come
+-- after a header and some of what follows it: so much content and so much padding is yet to come
 abbrev pub toCome : ℕ → ℕ → Position
 toCome content padding = record { content = content; padding = padding; held = 0; header = noHeader }
 
@@ -48,7 +48,7 @@ recordMeans st store r = headerMeans st store (headerFor r) (r .content) 0 0
 unfoldable pub restMeans : State → List ℕ → List ℕ → Run
 restMeans st store b =
     if length b <? HEADER-LEN then
-    ran (reads st store (moved (st .conn .frame) (record { content = 0; padding = 0; held = length b; header = putAt noHeader 0 b })) Event.None) []
+    ran (reads st store (frameAt (st .conn .frame) (record { content = 0; padding = 0; held = length b; header = putAt noHeader 0 b })) Event.None) []
     else let c = headerOf b .content in
     headerMeans st store (headerOf b) (take c (drop HEADER-LEN b)) (c - (length b - HEADER-LEN)) (headerOf b .padding - (length b - HEADER-LEN - c))
 

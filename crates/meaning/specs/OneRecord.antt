@@ -13,7 +13,7 @@ use Rattle.record.specs.declared.header.Header.{Header}
 use Rattle.connection.specs.declared.state.Table.{Table}
 use Rattle.connection.specs.declared.state.Frame.{Frame}
 use Rattle.connection.specs.Shape.{inShape}
-use Rattle.connection.specs.Step.{State, Left, stateOf, noFrame, behind, openWith, closedConn, judged, onTarget}
+use Rattle.connection.specs.Step.{State, Left, stateOf, noFrame, frameAfter, openWith, closedConn, judged, onTarget}
 use Rattle.connection.specs.Bytewise.{Note, notes, Run, resting, _then-run_, byByte}
 use Rattle.connection.specs.Laws.PieceLaws.{AllBytes, zeros-bytes, append-bytes}
 use Rattle.connection.specs.Laws.StateShape.{Arrays}
@@ -67,8 +67,8 @@ content-read st store h (b ∷ x) room sound =
     → reading (b ∷ x) (ran l [] .state) (ran l [] .store) ≡ contentMeans (h .content - suc (length x)) (h .padding) (b ∷ x) (ran l [] .state) (ran l [] .store))
     (λ g s e k. by-byte-closed (b ∷ x) (stateOf closedConn g) s refl)
     (λ t target g s e k.
-    content-bytes (stateOf (openWith t (behind h target)) g) s (b ∷ x) (record { size = k .sizes .full; shape = k .shape; is-open = refl }) (k .sizes) (omega arith) room
-    ∙ sym (content-some (h .content - suc (length x)) (h .padding) (b ∷ x) (stateOf (openWith t (behind h target)) g) s refl (omega arith)))
+    content-bytes (stateOf (openWith t (frameAfter h target)) g) s (b ∷ x) (record { size = k .sizes .full; shape = k .shape; is-open = refl }) (k .sizes) (omega arith) room
+    ∙ sym (content-some (h .content - suc (length x)) (h .padding) (b ∷ x) (stateOf (openWith t (frameAfter h target)) g) s refl (omega arith)))
     sound
 
 pub header-content : (st : State) (store h x : List ℕ) → Between st store → AllBytes h → length h ≡ 8 → length x ≤ headerOf h .content
@@ -130,7 +130,7 @@ padding-read t g s p [] k room = let z : p ≡ p - 0 = omega arith in ap (λ (n 
 padding-read t g s p (b ∷ y) k room =
     padding-bytes (stateOf (openWith t (endsFrame p)) g) s (b ∷ y) (record { size = k .sizes .full; shape = k .shape; is-open = refl }) (k .sizes) refl (omega arith) room
 
--- Padding, or a part of it, behind whole content.
+-- Padding, or a part of it, after whole content.
 pub then-padding : (st : State) (store : List ℕ) (h : Header) (x y : List ℕ) → h .content ≡ length x → length y ≤ h .padding
     → Sound (headerMeans st store h x 0 (h .padding))
     → headerMeans st store h x 0 (h .padding) then-run reading y ≡ headerMeans st store h x 0 (h .padding - length y)

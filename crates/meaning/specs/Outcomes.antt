@@ -6,7 +6,7 @@ use Rattle.wire.specs.Test.{if_then_else_, _<?_, _=?_}
 use Rattle.record.specs.Names.{VERSION, BEGIN-REQUEST, GET-VALUES, RESPONDER, AUTHORIZER, FILTER}
 use Rattle.record.specs.declared.header.Header.{Header}
 use Rattle.record.specs.declared.body.BeginBody.{BeginBody}
-use Rattle.lists.specs.List.{wellFormed}
+use Rattle.pair_list.specs.List.{wellFormed}
 use Rattle.connection.specs.declared.request.Role.{Role}
 use Rattle.connection.specs.declared.request.Due.{Due}
 use Rattle.connection.specs.declared.state.Slot.{Slot}
@@ -17,7 +17,7 @@ use Rattle.connection.specs.Sizes.{SLOTS, QUERY}
 use Rattle.connection.specs.Event.{Event}
 use Rattle.connection.specs.Request.{onHeader}
 use Rattle.connection.specs.Slots.{heldAt, find, onSlot, freeSlotOf}
-use Rattle.connection.specs.Step.{State, Left, noBody, behind, openWith, closedConn, closes, dueTo, queryOf, queried, onManagement, onInactive, onActive, judged, opens, begun, ofBegin, ofQuery, ofRequest, onTarget}
+use Rattle.connection.specs.Step.{State, Left, noBody, frameAfter, openWith, closedConn, closes, dueTo, queryOf, queried, onManagement, onInactive, onActive, judged, opens, begun, ofBegin, ofQuery, ofRequest, onTarget}
 use Rattle.meaning.specs.Meaning.{toCome, withPadding}
 
 -- closed, and open with a frame
@@ -35,7 +35,7 @@ both P false x y x′ y′ p q = q
 -- A header, and the same with another padding length.
 module _ (st : State) (store : List ℕ) (h : Header) (n : ℕ) (P : Left → Left → Type 0)
     (shut : (g s : List ℕ) (e : Event) → P (shutWith g s e) (shutWith g s e))
-    (goes : (t : Table) (target : Target) (g s : List ℕ) (e : Event) → P (goesWith t (behind h target) g s e) (goesWith t (behind (withPadding h n) target) g s e)) where
+    (goes : (t : Table) (target : Target) (g s : List ℕ) (e : Event) → P (goesWith t (frameAfter h target) g s e) (goesWith t (frameAfter (withPadding h n) target) g s e)) where
   abbrev other : Header
   other = withPadding h n
 
@@ -43,10 +43,10 @@ module _ (st : State) (store : List ℕ) (h : Header) (n : ℕ) (P : Left → Le
   unfolding closes
   close k = shut _ _ _
 
-  read : (target : Target) (e : Event) → P (goesWith (st .conn .table) (behind h target) (st .gathered) store e) (goesWith (st .conn .table) (behind other target) (st .gathered) store e)
+  read : (target : Target) (e : Event) → P (goesWith (st .conn .table) (frameAfter h target) (st .gathered) store e) (goesWith (st .conn .table) (frameAfter other target) (st .gathered) store e)
   read target e = goes (st .conn .table) target (st .gathered) store e
 
-  by-queried : P (queried st store [] (behind h Target.Skip)) (queried st store [] (behind other Target.Skip))
+  by-queried : P (queried st store [] (frameAfter h Target.Skip)) (queried st store [] (frameAfter other Target.Skip))
   unfolding queried
   by-queried = both P (wellFormed []) _ _ _ _ (read Target.Skip (queryOf [])) (close 14)
 
@@ -77,14 +77,14 @@ module _ (st : State) (store : List ℕ) (h : Header) (n : ℕ) (P : Left → Le
   by-judged =
       both P (h .version =? VERSION) _ _ _ _ (both P (h .id =? 0) _ _ _ _ by-management (by-slot (find (st .conn .table) (h .id)))) (close 11)
 
--- within content that nothing of is in yet, and behind content, with so much padding to come
+-- within content that nothing of is in yet, and after content, with so much padding to come
 abbrev pub startsFrame : ℕ → ℕ → Target → Frame
 startsFrame content padding target = record { position = toCome content padding; target = target; gathered = 0; body = noBody }
 
 abbrev pub endsFrame : ℕ → Frame
 endsFrame padding = record { position = toCome 0 padding; target = Target.Skip; gathered = 0; body = noBody }
 
--- Whole content, with one or another length of padding behind it.
+-- Whole content, with one or another length of padding after it.
 module _ (t : Table) (gathered store : List ℕ) (c p n : ℕ) (x : List ℕ) (P : Left → Left → Type 0)
     (shut : (g s : List ℕ) (e : Event) → P (shutWith g s e) (shutWith g s e))
     (goes : (t : Table) (g s : List ℕ) (e : Event) → P (goesWith t (endsFrame p) g s e) (goesWith t (endsFrame n) g s e)) where

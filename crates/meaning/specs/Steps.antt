@@ -8,14 +8,14 @@ use lib.ListN.{length, take, drop}
 use lib.Seq.{take-all}
 use Rattle.wire.specs.Buffer.{putAt}
 use Rattle.record.specs.Header.{headerOf}
-use Rattle.reader.specs.Position.{noHeader, advanced}
-use Rattle.reader.specs.declared.Position.{Position}
-use Rattle.reader.specs.declared.Phase.{Phase}
-use Rattle.reader.specs.PositionLaws.{at}
+use Rattle.record_reader.specs.Position.{noHeader, advanced}
+use Rattle.record_reader.specs.declared.Position.{Position}
+use Rattle.record_reader.specs.declared.Phase.{Phase}
+use Rattle.record_reader.specs.PositionLaws.{at}
 use Rattle.connection.specs.declared.state.Frame.{Frame}
 use Rattle.connection.specs.Event.{Event}
 use Rattle.connection.specs.Shape.{inShape}
-use Rattle.connection.specs.Step.{State, Left, Stepped, noFrame, leaves, reads, moved, judged, onTarget, advances, stepped}
+use Rattle.connection.specs.Step.{State, Left, Stepped, noFrame, leaves, reads, frameAt, judged, onTarget, advances, stepped}
 use Rattle.connection.specs.Bytewise.{single, byByte}
 use Rattle.connection.specs.Laws.PlainEvents.{plain-judged}
 use Rattle.connection.specs.Laws.Progress.{Fits, fits-admitted, lessContent, lessPadding, in-content, in-padding, in-header, in-part, in-whole, step-advances}
@@ -55,7 +55,7 @@ content-bytes st store x f sizes some room =
 -- Padding, or a part of it.
 pub padding-bytes : (st : State) (store x : List ℕ) → Fits (st .conn) store → Sizes st store → st .conn .frame .position .content ≡ 0 → 0 < length x
     → length x ≤ st .conn .frame .position .padding
-    → byByte st store x ≡ ran (reads st store (moved (st .conn .frame) (lessPadding (st .conn .frame .position) (length x))) Event.None) []
+    → byByte st store x ≡ ran (reads st store (frameAt (st .conn .frame) (lessPadding (st .conn .frame .position) (length x))) Event.None) []
 unfolding advances
 padding-bytes st store x f sizes none some room =
     let p = st .conn .frame .position in
@@ -63,11 +63,11 @@ padding-bytes st store x f sizes none some room =
     all-by-byte st store x _ sizes
     (step-advances st store x (fits-admitted (st .conn) store f) some
     ∙ ap (advances st store x) (in-padding p x none (omega arith))
-    ∙ ap (λ (n : ℕ). leaves n (reads st store (moved (st .conn .frame) (lessPadding p n)) Event.None)) m)
+    ∙ ap (λ (n : ℕ). leaves n (reads st store (frameAt (st .conn .frame) (lessPadding p n)) Event.None)) m)
 
 -- A part of a header.
 pub part-bytes : (st : State) (store x : List ℕ) → Between st store → 0 < length x → length x < 8
-    → byByte st store x ≡ ran (reads st store (moved (st .conn .frame) (at 0 0 (length x) (putAt noHeader 0 x))) Event.None) []
+    → byByte st store x ≡ ran (reads st store (frameAt (st .conn .frame) (at 0 0 (length x) (putAt noHeader 0 x))) Event.None) []
 unfolding advances
 part-bytes st store x b some room =
     let p = st .conn .frame .position in

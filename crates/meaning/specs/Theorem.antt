@@ -15,7 +15,7 @@ use Rattle.record.specs.Split.{Record, Split, frontLength, wholeFront, front, s
 use Rattle.record.specs.SplitLaws.{whole-front, front-whole, header-front, by-records, split-whole, split-cut}
 use Rattle.connection.specs.declared.state.Frame.{Frame}
 use Rattle.connection.specs.Sizes.{QUERY, STORE}
-use Rattle.connection.specs.Step.{State, stateOf, noFrame, moved, started}
+use Rattle.connection.specs.Step.{State, stateOf, noFrame, frameAt, started}
 use Rattle.connection.specs.Bytewise.{Run, resting, _then-run_, byByte, fed, fedPieces, joined}
 use Rattle.connection.specs.Laws.PieceLaws.{AllBytes, take-bytes, drop-bytes, append-bytes}
 use Rattle.connection.specs.Laws.StepShape.{start-in-shape}
@@ -48,7 +48,7 @@ first-says b l = sym (header-front (take 8 b) (drop 8 b) (omega (arith, length-t
 rest-part : (st : State) (store b : List ℕ) → Between st store → length b < 8 → byByte st store b ≡ restMeans st store b
 unfolding restMeans byByte
 rest-part st store [] k l =
-    let same : st .conn .frame ≡ moved (st .conn .frame) (noFrame .position) = k .frame ∙ sym (ap (λ (f : Frame). moved f (noFrame .position)) (k .frame)) in
+    let same : st .conn .frame ≡ frameAt (st .conn .frame) (noFrame .position) = k .frame ∙ sym (ap (λ (f : Frame). frameAt f (noFrame .position)) (k .frame)) in
     ap₂ (λ (f : Frame) (o : Bool). resting (stateOf (record { table = st .conn .table; frame = f; «open» = o }) (st .gathered)) store) same (k .is-open)
 rest-part st store (b ∷ x) k l = simp (lt-ltb (length (b ∷ x)) 8 l) (part-bytes st store (b ∷ x) k (omega arith) l)
 

@@ -5,8 +5,8 @@ use mathlib.Core.List.{List}
 use lib.ListN.{length}
 use Rattle.wire.specs.Test.{if_then_else_, _<?_}
 use Rattle.wire.specs.Buffer.{putAt}
-use Rattle.pair_writer.specs.declared.Wrote.{Wrote}
-use Rattle.pair_writer.specs.declared.Wrote.the-variants.{Bytes, TooLong, NoRoom}
+use Rattle.pair_writer.specs.declared.PairWrote.{PairWrote}
+use Rattle.pair_writer.specs.declared.PairWrote.the-variants.{Bytes, TooLong, NoRoom}
 
 -- The most bytes of a name or a value that is written.
 abbrev pub MAX-WRITTEN : ℕ
@@ -19,7 +19,7 @@ pub record Written : Type 0 where
   pub buffer : List ℕ
 
 -- The number of each answer in the table of refusals, and the bytes written.
-abbrev pub answered : Wrote → List ℕ → Written
+abbrev pub answered : PairWrote → List ℕ → Written
 answered (Bytes n) buffer = record { refusal = 0; bytes = n; buffer = buffer }
 answered TooLong buffer = record { refusal = 8; bytes = 0; buffer = buffer }
 answered NoRoom buffer = record { refusal = 6; bytes = 0; buffer = buffer }

@@ -12,8 +12,8 @@ use Rattle.wire.specs.Buffer.{putAt, copied}
 use Rattle.wire.specs.BufferLaws.{put-length, put-put, copied-room}
 use Rattle.pairs.specs.Length.{lengthBytes}
 use Rattle.pair_writer.specs.Write.{Written, MAX-WRITTEN, answered, pairWritten}
-use Rattle.pair_writer.specs.declared.Wrote.{Wrote}
-use Rattle.pair_writer.specs.declared.Wrote.the-variants.{Bytes, TooLong, NoRoom}
+use Rattle.pair_writer.specs.declared.PairWrote.{PairWrote}
+use Rattle.pair_writer.specs.declared.PairWrote.the-variants.{Bytes, TooLong, NoRoom}
 
 -- a length below 128 is one byte
 pub length-short : (n : ℕ) → n < 128 → lengthBytes n ≡ n ∷ []
@@ -41,7 +41,7 @@ pub pair-size : (name value : List ℕ)
 unfolding pairBytes
 pair-size name value = simp length-append
 
--- both lengths, name and value, put one behind the other, are the pair put at the start
+-- both lengths, name and value, put one after the other, are the pair put at the start
 pub pair-put : (out name value : List ℕ) (a b c : ℕ) {l1 l2 l3 l4 : List ℕ}
     → a ≡ 0 + length (lengthBytes (length name))
     → b ≡ a + length (lengthBytes (length value))
@@ -74,23 +74,23 @@ pair-written out name value {size} {l} hn hv e h put =
     simp (le-ltb _ _ hn, le-ltb _ _ hv, le-ltb _ _ room, e, put)
 
 -- the answer that a call came to
-abbrev answerOf : Written → Wrote
+abbrev answerOf : Written → PairWrote
 answerOf w = if w .refusal =? 8 then TooLong else if w .refusal =? 6 then NoRoom else Bytes (w .bytes)
 
 -- it is found again
-answer-back : (r : Wrote) (l : List ℕ) → answerOf (answered r l) ≡ r
+answer-back : (r : PairWrote) (l : List ℕ) → answerOf (answered r l) ≡ r
 answer-back (Bytes n) l = refl
 answer-back TooLong l = refl
 answer-back NoRoom l = refl
 
 -- and so is the buffer
-buffer-back : (r : Wrote) (l : List ℕ) → answered r l .buffer ≡ l
+buffer-back : (r : PairWrote) (l : List ℕ) → answered r l .buffer ≡ l
 buffer-back (Bytes n) l = refl
 buffer-back TooLong l = refl
 buffer-back NoRoom l = refl
 
 -- two calls that come to the same have the same answer and the same buffer
-pub answered-once : (r r′ : Wrote) (l l′ : List ℕ) → answered r l ≡ answered r′ l′ → (r ≡ r′) × (l ≡ l′)
+pub answered-once : (r r′ : PairWrote) (l l′ : List ℕ) → answered r l ≡ answered r′ l′ → (r ≡ r′) × (l ≡ l′)
 answered-once r r′ l l′ e = (
   sym (answer-back r l) ∙ ap answerOf e ∙ answer-back r′ l′,
   sym (buffer-back r l) ∙ ap (λ (w : Written). w .buffer) e ∙ buffer-back r′ l′,

@@ -8,7 +8,7 @@ ghost use Rattle.pairs.specs.Length.{lengthBytes};
 ghost use Rattle.pair_writer.specs.Write.{answered, pairWritten};
 
 // The bytes written; or the refusals 8, name or value over 65,535 bytes, and 6, the buffer too short.
-pub enum Wrote {
+pub enum PairWrote {
     Bytes(usize),
     TooLong,
     NoRoom,
@@ -21,7 +21,7 @@ fn length_size(n: usize) -> usize
     if n < 128 { 1 } else { 4 }
 }
 
-// Writes a length at a place, and answers the place behind it.
+// Writes a length at a place, and answers the place after it.
 fn put_length(out: &mut [u8], at: usize, n: usize) -> usize
     requires { ⌜ (n ≤ 65535) × (at + length (lengthBytes n) ≤ length (now out)) ⌝ }
     ensures { λ r. ⌜ (r ≡ at + length (lengthBytes n)) × (now (out .exit) ≡ putAt (now (out .entry)) at (lengthBytes n)) ⌝ }
@@ -42,21 +42,21 @@ fn put_length(out: &mut [u8], at: usize, n: usize) -> usize
     at + 4
 }
 
-// Writes a pair at the start of out, each length in its shorter form. What lies behind it stays.
-pub fn write_pair(out: &mut [u8], name: &[u8], value: &[u8]) -> Wrote
+// Writes a pair at the start of out, each length in its shorter form. What lies after it stays.
+pub fn write_pair(out: &mut [u8], name: &[u8], value: &[u8]) -> PairWrote
     ensures { λ r. ⌜ answered r (now (out .exit)) ≡ pairWritten (now (out .entry)) (now (name .entry)) (now (value .entry)) ⌝ }
 {
     let n = name.len();
     let v = value.len();
     if 65535 < n {
-        return Wrote::TooLong;
+        return PairWrote::TooLong;
     }
     if 65535 < v {
-        return Wrote::TooLong;
+        return PairWrote::TooLong;
     }
     let size = length_size(n) + length_size(v) + n + v;
     if out.len() < size {
-        return Wrote::NoRoom;
+        return PairWrote::NoRoom;
     }
     let z: usize = 0;
     let a = put_length(out, z, n);
@@ -64,5 +64,5 @@ pub fn write_pair(out: &mut [u8], name: &[u8], value: &[u8]) -> Wrote
     copy_into(out, b, name);
     let c = b + n;
     copy_into(out, c, value);
-    Wrote::Bytes(size)
+    PairWrote::Bytes(size)
 }

@@ -33,7 +33,7 @@ top-set b3 b2 b1 b0 h = omega arith
 high-bit : (n : ℕ) → n < 2147483648 → 128 ≤ (n + 2147483648) / 16777216 % 256
 high-bit n h = omega arith
 
--- A length of one byte, and one of four, read behind other bytes.
+-- A length of one byte, and one of four, read after other bytes.
 one-read : (front : List ℕ) (b : ℕ) (rest : List ℕ) → b < 128 → lengthAt (front ++ b ∷ rest) (length front) ≡ Is b (length front + 1)
 unfolding lengthAt
 one-read front b rest h =
@@ -99,7 +99,7 @@ pair-length : (name value : List ℕ)
 unfolding pairBytes
 pair-length name value = simp length-append
 
--- A pair that was written is read back: it lies where it was written, and the cursor stands behind it.
+-- A pair that was written is read back: it lies where it was written, and the cursor stands after it.
 pub pair-read-back : (name value front rest : List ℕ) → length name < 2147483648 → length value < 2147483648
     → pairAt (front ++ (pairBytes name value ++ rest)) (length front)
     ≡ Read.Pair (writtenPair (length front) name value) (length front + length (pairBytes name value))
@@ -257,7 +257,7 @@ lengths s at p next e =
     first (Is n a) q e = second n a q (lengthAt s a) refl e
     first Malformed q e = let z : _≡_ {A = ℕ} 0 1 = cc in absurd (omega arith)
 
--- A part of a list, and the rest behind it.
+-- A part of a list, and the rest after it.
 part-then : (s : List ℕ) (at n next : ℕ) → at + n ≡ next → drop at s ≡ take n (drop at s) ++ drop next s
 part-then s at n next e = rw (← e, ← drop-drop n at s) (sym (take-append-drop n (drop at s)))
 

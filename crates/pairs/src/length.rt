@@ -5,7 +5,7 @@ ghost use Prim.Native.Nat.{_+_, _≤_};
 ghost use lib.ListN.{length, getD};
 ghost use Rattle.pairs.specs.Length.{fourAt, lengthAt};
 
-// A length and the cursor behind it, or none that can be read.
+// A length and the cursor after it, or none that can be read.
 pub enum Length {
     Is(usize, usize),
     Malformed,

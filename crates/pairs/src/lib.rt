@@ -1,4 +1,3 @@
-// A name-value pair: lengths, names compared, a pair read at a cursor. Nothing here knows of connections.
+// A name-value pair: its lengths, and a pair read at a cursor. Nothing here knows of connections.
 pub mod length;
-pub mod name;
 pub mod pair;

@@ -12,7 +12,7 @@ pub struct Pair {
     pub value_len: usize,
 }
 
-// What is read at a cursor: a pair and the cursor behind it; the end of the list; or a pair that cannot be
+// What is read at a cursor: a pair and the cursor after it; the end of the list; or a pair that cannot be
 // read, and the place where it starts.
 pub enum Read {
     Pair(Pair, usize),

@@ -68,7 +68,7 @@ pub split-cut : (b : List ℕ) → wholeFront b ≡ false → split b ≡ allRes
 unfolding split splitIn
 split-cut b t = enough (length b) (suc (length b)) b (omega arith) (omega arith) ∙ simp t
 
--- What holds of a list with no whole record at its front, and of one with such a record if it holds behind it, holds of all lists.
+-- What holds of a list with no whole record at its front, and of one with such a record if it holds after it, holds of all lists.
 pub by-records : (P : List ℕ → Type 0) → ((b : List ℕ) → wholeFront b ≡ false → P b)
     → ((b : List ℕ) → wholeFront b ≡ true → P (drop (frontLength b) b) → P b) → (b : List ℕ) → P b
 by-records P cut whole b = go (length b) b (omega arith)

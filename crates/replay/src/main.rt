@@ -1,15 +1,17 @@
 // Replays a captured connection from standard input: a line for each event and for each byte of data.
-use connection::answer::Told;
-use connection::event::Event;
-use connection::event::Stream;
-use connection::state::Conn;
-use draft::LONGEST;
+use event_text::LONGEST;
+use event_text::write_byte_line;
+use event_text::write_line;
+use fastcgi::Conn;
+use fastcgi::Event;
+use fastcgi::QUERY;
+use fastcgi::STORE;
+use fastcgi::StepResult;
+use fastcgi::Stream;
+use fastcgi::start;
+use fastcgi::step;
 use libc::STDIN_FILENO;
 use libc::STDOUT_FILENO;
-use lines::write_byte_line;
-use lines::write_line;
-use receive::step::step;
-use starting::start;
 
 // Writes out what the buffer holds, and answers where the next line goes: at its start.
 fn flush(out: &[u8], at: usize) -> usize {
@@ -44,7 +46,11 @@ fn show_bytes(out: &mut [u8], at: usize, id: u16, stream: Stream, bytes: &[u8]) 
 
 // The lines of an event; the bytes are those that its step used.
 fn show(out: &mut [u8], at: usize, e: Event, bytes: &[u8]) -> usize {
-    if let Event::Data(id, stream, _) = e {
+    if let Event::Data {
+        id,
+        stream,
+        count: _,
+    } = e {
         return show_bytes(out, at, id, stream, bytes);
     }
     let room = with_room(out, at);
@@ -61,7 +67,7 @@ struct Replay {
 fn replay_piece(
     r: Replay,
     store: &mut [u8],
-    gathered: &mut [u8; 512],
+    gathered: &mut [u8; QUERY],
     piece: &[u8],
     out: &mut [u8],
 ) -> Replay {
@@ -72,7 +78,7 @@ fn replay_piece(
         let end = piece.len();
         let s = step(conn, store, gathered, &piece[from..end]);
         let used = s.used;
-        let told = s.told;
+        let told = s.result;
         conn = s.conn;
         if used == 0 {
             return Replay { conn: conn, at: at };
@@ -81,7 +87,7 @@ fn replay_piece(
             return Replay { conn: conn, at: at };
         }
         let next = from + used;
-        if let Told::Event(e) = told {
+        if let StepResult::Event(e) = told {
             at = show(out, at, e, &piece[from..next]);
         }
         from = next;
@@ -105,17 +111,17 @@ fn stop(c: Conn) {
 }
 
 // A replay, and whether there may be more to read.
-struct Turn {
+struct ReadOn {
     replay: Replay,
     more: bool,
 }
 
 // Reads a piece of at most 64 KiB and steps through it. At the end of the input or after a close there is no more.
-fn read_on(r: Replay, store: &mut [u8], gathered: &mut [u8; 512], out: &mut [u8]) -> Turn {
+fn read_on(r: Replay, store: &mut [u8], gathered: &mut [u8; QUERY], out: &mut [u8]) -> ReadOn {
     let mut piece = io::large_buffer();
     let got = libc::read(STDIN_FILENO, &mut piece);
     if got <= 0 {
-        return Turn {
+        return ReadOn {
             replay: r,
             more: false,
         };
@@ -124,7 +130,7 @@ fn read_on(r: Replay, store: &mut [u8], gathered: &mut [u8; 512], out: &mut [u8]
     let start: usize = 0;
     let after = replay_piece(r, store, gathered, &piece[start..n], out);
     let c = after.conn;
-    Turn {
+    ReadOn {
         replay: after,
         more: c.open,
     }
@@ -132,7 +138,7 @@ fn read_on(r: Replay, store: &mut [u8], gathered: &mut [u8; 512], out: &mut [u8]
 
 // Reads to the end. A proved loop has to end, and nothing says that the input does: so it counts its turns down, from
 // a number that no run uses up.
-fn replay_all(r: Replay, store: &mut [u8], gathered: &mut [u8; 512], out: &mut [u8]) -> Replay {
+fn replay_all(r: Replay, store: &mut [u8], gathered: &mut [u8; QUERY], out: &mut [u8]) -> Replay {
     let mut replay = r;
     let mut turns = u64::MAX;
     while turns > 0 {
@@ -147,8 +153,8 @@ fn replay_all(r: Replay, store: &mut [u8], gathered: &mut [u8; 512], out: &mut [
 }
 
 fn main() {
-    let mut store = [0u8; 32768];
-    let mut gathered = [0u8; 512];
+    let mut store = [0u8; STORE];
+    let mut gathered = [0u8; QUERY];
     let mut out = io::large_buffer();
     let s = start(&mut store, &mut gathered);
     let c = s.conn;

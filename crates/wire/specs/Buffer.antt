@@ -13,7 +13,7 @@ byteAt bytes k = getD bytes k 0
 abbrev pub zeros : ℕ → List ℕ
 zeros n = replicate n 0
 
--- the buffer with these bytes from place `at` on; what lies before and behind them stays
+-- the buffer with these bytes from place `at` on; what lies before and after them stays
 abbrev pub putAt : List ℕ → ℕ → List ℕ → List ℕ
 putAt buffer at bytes = take at buffer ++ bytes ++ drop (at + length bytes) buffer
 

@@ -23,7 +23,7 @@ pub put-none : (l : List ℕ) (at : ℕ) → putAt l at [] ≡ l
 put-none l at =
     ap (λ (k : ℕ). take at l ++ [] ++ drop k l) (add-zero at) ∙ ap (λ (u : List ℕ). u ++ drop at l) (append-nil (take at l)) ∙ take-append-drop at l
 
--- bytes put behind bytes just put are both put at once
+-- bytes put after bytes just put are both put at once
 pub put-put : (l : List ℕ) (a b : ℕ) (x y : List ℕ) → b ≡ a + length x → b + length y ≤ length l → putAt (putAt l a x) b y ≡ putAt l a (x ++ y)
 put-put l a b x y e h =
     let p : length (take a l ++ x) ≡ b = simp (length-append, length-take) (omega arith) in
@@ -62,7 +62,7 @@ copy-end l at x = ap (λ (y : List ℕ). take at l ++ y ++ drop (at + length x) 
 pub zeroed : (l : List ℕ) (i : ℕ) {m : List ℕ} → m ≡ zeros i ++ drop i l → i ≡ length l → m ≡ zeros (length l)
 zeroed l i e h = e ∙ rw (h, drop-length l) (append-nil (zeros (length l)))
 
--- room behind a place, tested without a sum that could overflow
+-- room after a place, tested without a sum that could overflow
 pub room-left : (at n room : ℕ) → at ≤ room → leb n (room - at) ≡ leb (at + n) room
 room-left at n room h = byTest (leb n (room - at)) fits not-fits
   where

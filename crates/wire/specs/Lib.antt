@@ -2,3 +2,5 @@ pub mod Test
 pub mod Number
 pub mod Buffer
 pub mod BufferLaws
+pub mod Compare
+pub mod CompareLaws

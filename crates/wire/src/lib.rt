@@ -1,15 +1,16 @@
-// Bytes on the wire: numbers of two and four bytes, and bytes put into a lent buffer.
+// Bytes: numbers of two and four bytes, bytes put into a lent buffer, bytes compared.
 ghost use mathlib.Core.Path.{_≡_};
 ghost use Prim.Native.Nat.{_+_, _≤_, _<_, min};
 ghost use lib.ListN.{length};
 ghost use Rattle.wire.specs.Number.{number2, number4};
 ghost use Rattle.wire.specs.Buffer.{putAt, copied, zeros};
+ghost use Rattle.wire.specs.Compare.{sameBytes, comparedBytes};
 
-// A byte as a wider number.
-pub fn wide(b: u8) -> usize
-    ensures { λ r. ⌜ (r ≡ b) × (r < 256) ⌝ }
+// A number of two bytes as a wider one. (A cast of an array's element asks that the element fits; this asks nothing.)
+pub fn widen(n: u16) -> usize
+    ensures { λ r. ⌜ r ≡ n ⌝ }
 {
-    b as usize
+    n as usize
 }
 
 // The number of two bytes, the high one first.
@@ -66,4 +67,37 @@ pub fn least(a: usize, b: usize) -> usize
     ensures { λ r. ⌜ r ≡ min a b ⌝ }
 {
     if a < b { a } else { b }
+}
+
+// What a comparison finds.
+pub enum Compared {
+    Equal,
+    Different,
+}
+
+// Lengths first, then byte by byte up to the first that differs.
+pub fn compare(a: &[u8], b: &[u8]) -> Compared
+    ensures { λ r. ⌜ r ≡ comparedBytes (now (a .entry)) (now (b .entry)) ⌝ }
+{
+    if a.len() != b.len() {
+        return Compared::Different;
+    }
+    let mut i: usize = 0;
+    while i < a.len() {
+        if a[i] != b[i] {
+            return Compared::Different;
+        }
+        i += 1;
+    }
+    Compared::Equal
+}
+
+pub fn same(a: &[u8], b: &[u8]) -> bool
+    ensures { λ r. ⌜ r ≡ sameBytes (now (a .entry)) (now (b .entry)) ⌝ }
+{
+    let c = compare(a, b);
+    match c {
+        Compared::Equal => true,
+        Compared::Different => false,
+    }
 }

@@ -13,10 +13,10 @@ use Rattle.wire.specs.Buffer.{copied}
 use Rattle.record.specs.Names.{VERSION, BEGIN-REQUEST, GET-VALUES, RESPONDER, AUTHORIZER, FILTER}
 use Rattle.record.specs.declared.body.BeginBody.{BeginBody}
 use Rattle.record.specs.declared.header.Header.{Header}
-use Rattle.reader.specs.Position.{advanced}
-use Rattle.reader.specs.declared.Position.{Position}
-use Rattle.reader.specs.declared.Phase.{Phase}
-use Rattle.lists.specs.List.{wellFormed}
+use Rattle.record_reader.specs.Position.{advanced}
+use Rattle.record_reader.specs.declared.Position.{Position}
+use Rattle.record_reader.specs.declared.Phase.{Phase}
+use Rattle.pair_list.specs.List.{wellFormed}
 use Rattle.connection.specs.declared.request.Role.{Role}
 use Rattle.connection.specs.declared.state.Slot.{Slot}
 use Rattle.connection.specs.declared.state.Target.{Target}

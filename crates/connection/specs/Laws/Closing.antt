@@ -123,7 +123,7 @@ pub closed-refuses : (store : List ℕ) → length store ≡ STORE → stepRefus
 unfolding stepRefusal
 closed-refuses store full = simp (eq-eqb (length store) STORE full, closed-in-shape)
 
--- So every step behind a close is refused by 1.
+-- So every step after a close is refused by 1.
 pub closing-lasts : (st : State) (store piece : List ℕ) (n : ℕ) → length store ≡ STORE → stepped st store piece .event ≡ Event.Closed n
     → stepRefusal (stepped st store piece .state .conn) (stepped st store piece .store) ≡ 1
 closing-lasts st store piece n full e =

@@ -11,8 +11,8 @@ use Rattle.wire.specs.Buffer.{copied}
 use Rattle.wire.specs.BufferLaws.{put-length, copied-room, copied-none}
 use Rattle.record.specs.Names.{RESPONDER, AUTHORIZER, FILTER}
 use Rattle.record.specs.declared.body.BeginBody.{BeginBody}
-use Rattle.reader.specs.PositionLaws.{at}
-use Rattle.reader.specs.declared.Position.{Position}
+use Rattle.record_reader.specs.PositionLaws.{at}
+use Rattle.record_reader.specs.declared.Position.{Position}
 use Rattle.connection.specs.declared.request.Role.{Role}
 use Rattle.connection.specs.declared.request.Due.{Due}
 use Rattle.connection.specs.declared.state.Table.{Table}
@@ -27,7 +27,7 @@ use Rattle.connection.specs.Laws.ShapeLaws.{InUse, Begins, Grows, Aimed}
 use Rattle.connection.specs.Laws.TableShape.{tidy-take, length-of, use-put, length-put}
 use Rattle.connection.specs.Laws.RequestShape.{grows}
 use Rattle.connection.specs.Laws.StateShape.{GoodFrame, Good, aimed-if, either, good-reads, good-back, good-queried}
-use Rattle.connection.specs.Step.{State, noBody, within, openWith, opens, begun, ofBegin, ofQuery, ofRequest, onTarget}
+use Rattle.connection.specs.Step.{State, noBody, frameWithin, openWith, opens, begun, ofBegin, ofQuery, ofRequest, onTarget}
 
 -- bytes copied into a buffer keep its length, whether they fit or not
 copied-length : (l : List ℕ) (at : ℕ) (x : List ℕ) → length (copied l at x) ≡ length l
@@ -36,7 +36,7 @@ copied-length l at x =
     (λ t. let h : at + length x ≤ length l = leb-true (at + length x) (length l) t in rw (copied-room l at x h) (put-length l at x h))
     (λ t. rw (copied-none l at x (leb-false (at + length x) (length l) t)))
 
--- The position behind some content bytes, with so many left.
+-- The position after some content bytes, with so many left.
 abbrev pub used-up : State → ℕ → Position
 used-up st left = at left (st .conn .frame .position .padding) (st .conn .frame .position .held) (st .conn .frame .position .header)
 
@@ -63,10 +63,10 @@ module _ (st : State) (store : List ℕ) (before : Good (st .conn)) where
         (λ y. good-opens Role.Authorizer)
         (λ y. either (eqb (b .role) FILTER) _ _ (λ z. good-opens Role.Filter) (λ z. good-reads (st .conn) before f (idle _))))
 
-  -- some content bytes, and how many are left behind them
+  -- some content bytes, and how many are left after them
   module _ (bytes : List ℕ) (left : ℕ) (sum : length bytes + left ≡ st .conn .frame .position .content) where
     good-within : (t : Table) (n : ℕ) (body : List ℕ) → length body ≡ 8 → (0 < left → Aimed (st .conn .frame .target) t n left)
-        → GoodFrame t (within (st .conn .frame) (used-up st left) n body)
+        → GoodFrame t (frameWithin (st .conn .frame) (used-up st left) n body)
     good-within t n body eight f =
         record {
           header = before .frame .header;
@@ -96,7 +96,7 @@ module _ (st : State) (store : List ℕ) (before : Good (st .conn)) where
 
     -- content that is shown: the request stays as it is
     good-shown : (i : ℕ) → InUse (st .conn .table) i → ((t : Table) → InUse t i → Aimed (st .conn .frame .target) t (st .conn .frame .gathered) left)
-        → Good (openWith (putRequest (st .conn .table) i (requestAt (st .conn .table) i)) (within (st .conn .frame) (used-up st left) (st .conn .frame .gathered) (st .conn .frame .body)))
+        → Good (openWith (putRequest (st .conn .table) i (requestAt (st .conn .table) i)) (frameWithin (st .conn .frame) (used-up st left) (st .conn .frame .gathered) (st .conn .frame .body)))
     good-shown i u f =
         good-back (st .conn) before i (requestAt (st .conn .table) i) _ refl (rw (length-of (st .conn .table) i) (before .tidy .lengths i (u .low)))
         (good-within _ (st .conn .frame .gathered) (st .conn .frame .body) (before .frame .body) (λ more. f _ (use-put (st .conn .table) i i _ u)))

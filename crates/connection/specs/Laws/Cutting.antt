@@ -13,17 +13,17 @@ use Rattle.wire.specs.Buffer.{putAt}
 use Rattle.wire.specs.BufferLaws.{put-put}
 use Rattle.record.specs.Header.{headerOf}
 use Rattle.record.specs.declared.header.Header.{Header}
-use Rattle.reader.specs.Position.{advanced, heldAnd}
-use Rattle.reader.specs.PositionLaws.{at}
-use Rattle.reader.specs.declared.Position.{Position}
-use Rattle.reader.specs.declared.Advanced.{Advanced}
+use Rattle.record_reader.specs.Position.{advanced, heldAnd}
+use Rattle.record_reader.specs.PositionLaws.{at}
+use Rattle.record_reader.specs.declared.Position.{Position}
+use Rattle.record_reader.specs.declared.Advanced.{Advanced}
 use Rattle.connection.specs.Event.{Event}
 use Rattle.connection.specs.Shape.{inShape}
 use Rattle.connection.specs.Laws.ShapeLaws.{Aimed, shaped, in-shape}
 use Rattle.connection.specs.Laws.PieceLaws.{AllBytes, take-bytes}
 use Rattle.connection.specs.Laws.StateShape.{Arrays}
 use Rattle.connection.specs.Laws.StepShape.{step-in-shape, step-keeps-arrays}
-use Rattle.connection.specs.Step.{State, Stepped, leaves, reads, moved, openWith, closes, queried, onManagement, onInactive, onActive, judged, advances, stepRefusal, stepped}
+use Rattle.connection.specs.Step.{State, Stepped, leaves, reads, frameAt, openWith, closes, queried, onManagement, onInactive, onActive, judged, advances, stepRefusal, stepped}
 use Rattle.connection.specs.Bytewise.{Note, notes, Run, resting, single, _then-run_, byByte, fed, leftOf, fedPieces, joined}
 use Rattle.connection.specs.Laws.Progress.{Fits, fits-admitted, admitted-fits, lessPadding, in-content, in-padding, in-header, in-part, in-whole, by-position, by-header, step-advances, step-refused, step-nothing, less-left, step-uses-no-more, used-only, fed-refused, steps-enough}
 use Rattle.connection.specs.Laws.StepSizes.{Sizes, sizes-stay}
@@ -34,7 +34,7 @@ use Rattle.connection.specs.Laws.CuttingRequest.{cut-content}
 -- ---- padding and headers, a byte and more
 -- a state with another position, within no content
 abbrev at-position : State → Position → State
-at-position st q = record { conn = openWith (st .conn .table) (moved (st .conn .frame) q); gathered = st .gathered }
+at-position st q = record { conn = openWith (st .conn .table) (frameAt (st .conn .frame) q); gathered = st .gathered }
 
 moved-fits : (st : State) (store : List ℕ) (q : Position) → Fits (st .conn) store → st .conn .frame .position .content ≡ 0 → q .content ≡ 0 → q .padding ≤ 255 → q .held ≤ 7
     → Fits (at-position st q .conn) store
@@ -54,20 +54,20 @@ moved-fits st store q f none z padding held =
 
 module _ (st : State) (store : List ℕ) (fits : Fits (st .conn) store) (none : st .conn .frame .position .content ≡ 0) where
   step-padding : (x : List ℕ) → 0 < length x → length x ≤ st .conn .frame .position .padding
-      → stepped st store x ≡ leaves (length x) (reads st store (moved (st .conn .frame) (lessPadding (st .conn .frame .position) (length x))) Event.None)
+      → stepped st store x ≡ leaves (length x) (reads st store (frameAt (st .conn .frame) (lessPadding (st .conn .frame .position) (length x))) Event.None)
   unfolding advances
   step-padding x some room =
       let p = st .conn .frame .position in
       let m : min (p .padding) (length x) ≡ length x = omega arith in
       step-advances st store x (fits-admitted (st .conn) store fits) some
       ∙ ap (advances st store x) (in-padding p x none (omega arith))
-      ∙ ap (λ (n : ℕ). leaves n (reads st store (moved (st .conn .frame) (lessPadding p n)) Event.None)) m
+      ∙ ap (λ (n : ℕ). leaves n (reads st store (frameAt (st .conn .frame) (lessPadding p n)) Event.None)) m
 
   step-part : (x : List ℕ) → st .conn .frame .position .padding ≡ 0 → 0 < length x → st .conn .frame .position .held + length x < 8
       → stepped st store x
       ≡ leaves (length x)
       (reads st store
-      (moved (st .conn .frame) (at 0 0 (st .conn .frame .position .held + length x) (putAt (st .conn .frame .position .header) (st .conn .frame .position .held) x))) Event.None)
+      (frameAt (st .conn .frame) (at 0 0 (st .conn .frame .position .held + length x) (putAt (st .conn .frame .position .header) (st .conn .frame .position .held) x))) Event.None)
   unfolding advances
   step-part x z some room =
       let p = st .conn .frame .position in
@@ -97,9 +97,9 @@ module _ (st : State) (store : List ℕ) (b : ℕ) (x : List ℕ) (fits : Fits (
       let s = shaped (st .conn) (fits .shape) .position in
       let later = moved-fits st store q fits none refl (omega (arith, s .padding)) (s .held) in
       let e : p .padding - suc (length x) ≡ p .padding - 1 - length x = omega arith in
-      cuts st store b x (reads st store (moved (st .conn .frame) (lessPadding p (suc (length x)))) Event.None)
-      (reads st store (moved (st .conn .frame) q) Event.None)
-      (reads st store (moved (st .conn .frame) (lessPadding q (length x))) Event.None)
+      cuts st store b x (reads st store (frameAt (st .conn .frame) (lessPadding p (suc (length x)))) Event.None)
+      (reads st store (frameAt (st .conn .frame) q) Event.None)
+      (reads st store (frameAt (st .conn .frame) (lessPadding q (length x))) Event.None)
       (step-padding st store fits none (b ∷ x) (omega arith) room)
       (step-padding st store fits none (b ∷ []) (omega arith) (omega arith))
       (step-padding (at-position st q) store later refl x some (omega arith))
@@ -112,9 +112,9 @@ module _ (st : State) (store : List ℕ) (b : ℕ) (x : List ℕ) (fits : Fits (
       let later = moved-fits st store q fits none refl (omega arith) (omega arith) in
       let e : p .held + suc (length x) ≡ p .held + 1 + length x = omega arith in
       let j = put-put (p .header) (p .held) (p .held + 1) (b ∷ []) x refl (omega arith) in
-      cuts st store b x (reads st store (moved (st .conn .frame) (at 0 0 (p .held + suc (length x)) (putAt (p .header) (p .held) (b ∷ x)))) Event.None)
-      (reads st store (moved (st .conn .frame) q) Event.None)
-      (reads st store (moved (st .conn .frame) (at 0 0 (p .held + 1 + length x) (putAt (q .header) (p .held + 1) x))) Event.None)
+      cuts st store b x (reads st store (frameAt (st .conn .frame) (at 0 0 (p .held + suc (length x)) (putAt (p .header) (p .held) (b ∷ x)))) Event.None)
+      (reads st store (frameAt (st .conn .frame) q) Event.None)
+      (reads st store (frameAt (st .conn .frame) (at 0 0 (p .held + 1 + length x) (putAt (q .header) (p .held + 1) x))) Event.None)
       (step-part st store fits none (b ∷ x) z (omega arith) room)
       (step-part st store fits none (b ∷ []) z (omega arith) (omega arith))
       (step-part (at-position st q) store later refl x refl some (omega arith))
@@ -128,7 +128,7 @@ module _ (st : State) (store : List ℕ) (b : ℕ) (x : List ℕ) (fits : Fits (
       let j = put-put (p .header) (p .held) (p .held + 1) (b ∷ []) x refl (omega arith) in
       let l = judged st store (headerOf (putAt (p .header) (p .held) (b ∷ x))) in
       cuts st store b x l
-      (reads st store (moved (st .conn .frame) q) Event.None)
+      (reads st store (frameAt (st .conn .frame) q) Event.None)
       l
       (step-whole st store fits none (b ∷ x) z (omega arith) room)
       (step-part st store fits none (b ∷ []) z (omega arith) (omega arith))
@@ -292,7 +292,7 @@ by-byte-in-shape (b ∷ x) st store arrays all shape =
     let one = take-bytes 1 (b ∷ x) all in
     by-byte-in-shape x (s .state) (s .store) (step-keeps-arrays st store (b ∷ []) arrays one) (λ i. all (suc i)) (step-in-shape st store (b ∷ []) arrays one shape)
 
--- From a state in shape n bytes are read in n steps at most, if the connection is open behind them.
+-- From a state in shape n bytes are read in n steps at most, if the connection is open after them.
 pub all-read : (k : ℕ) (st : State) (store x : List ℕ) → Sizes st store → Arrays (st .conn) → AllBytes x → inShape (st .conn) ≡ true → length x ≤ k
     → fed k st store x .state .conn .«open» ≡ true → leftOf k st store x ≡ []
 all-read k st store x sizes arrays all shape l o =

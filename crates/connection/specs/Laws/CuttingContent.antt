@@ -10,7 +10,7 @@ use lib.Dec.{eqb}
 use borrow.Author.Tests.{le-leb, ne-eqb}
 use Rattle.wire.specs.Buffer.{putAt, copied}
 use Rattle.wire.specs.BufferLaws.{copied-room, put-put, put-length}
-use Rattle.reader.specs.declared.Position.{Position}
+use Rattle.record_reader.specs.declared.Position.{Position}
 use Rattle.connection.specs.declared.request.Request.{Request}
 use Rattle.connection.specs.declared.state.Table.{Table}
 use Rattle.connection.specs.declared.state.Target.{Target}
@@ -64,7 +64,7 @@ copied-copied l a b x y e h =
 -- a list that grows within its area
 pub grown-room : (h : Held) (x : List ℕ) → h .request .length + length x ≤ AREA
     → grown h x
-    ≡ record { request = record { id = h .request .id; length = h .request .length + length x; mark = h .request .mark }; area = copied (h .area) (h .request .length) x }
+    ≡ record { request = record { id = h .request .id; length = h .request .length + length x; state = h .request .state }; area = copied (h .area) (h .request .length) x }
 unfolding grown
 grown-room h x l = simp (le-leb (h .request .length + length x) AREA l)
 
@@ -74,15 +74,15 @@ grown-grown h x y l a =
     let n = h .request .length in
     let s : n + length x + length y ≡ n + length (x ++ y) = omega (arith, length-append x y) in
     rw (grown-room h x (omega arith))
-    (grown-room (record { request = record { id = h .request .id; length = n + length x; mark = h .request .mark }; area = copied (h .area) n x }) y (omega arith)
-    ∙ ap₂ (λ (m : ℕ) (u : List ℕ). record { request = record { id = h .request .id; length = m; mark = h .request .mark }; area = u }) s
+    (grown-room (record { request = record { id = h .request .id; length = n + length x; state = h .request .state }; area = copied (h .area) n x }) y (omega arith)
+    ∙ ap₂ (λ (m : ℕ) (u : List ℕ). record { request = record { id = h .request .id; length = m; state = h .request .state }; area = u }) s
     (copied-copied (h .area) n (n + length x) x y refl (omega arith))
     ∙ sym (grown-room h (x ++ y) (omega (arith, length-append x y))))
 
 -- a request put twice
 pub put-twice : (t : Table) (i : ℕ) (r q : Request) → putRequest (putRequest t i r) i q ≡ putRequest t i q
 unfolding putRequest
-put-twice t i r q = rw (set-set (t .ids) i (r .id) (q .id), set-set (t .lengths) i (r .length) (q .length), set-set (t .marks) i (r .mark) (q .mark))
+put-twice t i r q = rw (set-set (t .ids) i (r .id) (q .id), set-set (t .lengths) i (r .length) (q .length), set-set (t .states) i (r .state) (q .state))
 
 -- an area put twice
 pub area-twice : (store : List ℕ) (i : ℕ) (a c : List ℕ) → length store ≡ STORE → i < SLOTS → length a ≡ AREA → putArea (putArea store i a) i c ≡ putArea store i c
@@ -116,7 +116,7 @@ step-content st store x f some room =
 pub keeps-target : (n : ℕ) (target : Target) → 0 < n → targetIf n target ≡ target
 keeps-target n target l = simp (ne-eqb n 0 (λ z. omega arith))
 
--- the position behind both parts
+-- the position after both parts
 less-twice : (p : Position) (x : List ℕ) → lessContent (lessContent p 1) (length x) ≡ lessContent p (suc (length x))
 less-twice p x = let e : p .content - 1 - length x ≡ p .content - suc (length x) = omega arith in rw e
 
@@ -134,7 +134,7 @@ later-fits t gathered p target n body store placed tidy aimed full =
 -- ---- a byte of content, and more
 module _ (target : Target) (t : Table) (gathered : List ℕ) (p : Position) (n : ℕ) (body store : List ℕ) (b : ℕ) (x : List ℕ)
     (fits : Fits (standing t gathered p target n body .conn) store) (some : 0 < length x) (room : suc (length x) ≤ p .content) where
-  -- the state before, and the position behind all of the bytes
+  -- the state before, and the position after all of the bytes
   abbrev pub before : State
   before = standing t gathered p target n body
 

@@ -32,7 +32,7 @@ unread-first : (st : State) (store : List ℕ) (b : ℕ) (x : List ℕ) → step
 unfolding unread
 unread-first st store b x a = simp (eq-eqb (stepRefusal (st .conn) store) 0 a)
 
--- behind the bytes of a step
+-- after the bytes of a step
 unread-step : (x : List ℕ) (st : State) (store y : List ℕ) → Sizes st store → stepped st store x .used ≡ length x
     → unread st store (x ++ y) ≡ unread (stepped st store x .state) (stepped st store x .store) y
 unread-step [] st store y sizes all = ap (λ (s : Stepped). unread (s .state) (s .store) y) (sym (step-nothing st store))

@@ -5,7 +5,7 @@ use mathlib.Core.Bool.{Bool, true, false}
 use mathlib.Core.List.{List, [], _∷_, _++_}
 use native.Mathlib.Omega.{arith}
 use lib.ListN.{length, getD}
-use Rattle.reader.specs.declared.Position.{Position}
+use Rattle.record_reader.specs.declared.Position.{Position}
 use Rattle.connection.specs.declared.request.Request.{Request}
 use Rattle.connection.specs.declared.request.Due.{Due}
 use Rattle.connection.specs.declared.state.Table.{Table}

@@ -8,10 +8,10 @@ use lib.ListN.{length, length-replicate}
 use lib.Dec.{eqb}
 use Rattle.wire.specs.Test.{byTest}
 use Rattle.wire.specs.Buffer.{zeros}
-use Rattle.occupancy.specs.Word.{taken}
+use Rattle.slot_word.specs.Word.{taken}
 use Rattle.record.specs.declared.header.Header.{Header}
 use Rattle.connection.specs.declared.request.Life.{Life}
-use Rattle.connection.specs.declared.request.Mark.{Mark}
+use Rattle.connection.specs.declared.request.RequestState.{RequestState}
 use Rattle.connection.specs.declared.request.Due.{Due}
 use Rattle.connection.specs.declared.request.Request.{Request}
 use Rattle.connection.specs.declared.state.Table.{Table}
@@ -151,7 +151,7 @@ abort-rule kind m h id =
     kind m
 
 -- Of a request's marks its life changes alone: role, turn, flag and output marks stay.
-pub life-alone : (m : Mark) (l : Life)
+pub life-alone : (m : RequestState) (l : Life)
     → (withLife m l .life ≡ l) × (withLife m l .role ≡ m .role) × (withLife m l .turn ≡ m .turn) × (withLife m l .keep ≡ m .keep)
     × (withLife m l .«out_ended» ≡ m .«out_ended») × (withLife m l .«err_used» ≡ m .«err_used») × (withLife m l .«err_ended» ≡ m .«err_ended»)
 unfolding withLife
@@ -161,7 +161,7 @@ life-alone m l = (refl, refl, refl, refl, refl, refl, refl)
 abbrev pub FaultAlone : State → List ℕ → ℕ → ℕ → Stepped → Type 0
 FaultAlone st store id n s =
     (i : ℕ) × (find (st .conn .table) id ≡ Slot.At i) × (21 ≤ n) × (n ≤ 25)
-    × Only st store i (record { id = id; length = 0; mark = withLife (requestAt (st .conn .table) i .mark) Life.Faulted }) (zeros AREA) s
+    × Only st store i (record { id = id; length = 0; state = withLife (requestAt (st .conn .table) i .state) Life.Faulted }) (zeros AREA) s
 
 -- Where a step tells a fault, it is one of its own request alone.
 pub fault-own-request : (st : State) (store piece : List ℕ) (id n : ℕ) → Sized (st .conn .table) → stepped st store piece .event ≡ Event.Fault id n
@@ -180,7 +180,7 @@ fault-own-request st store piece id n sized e =
       r .0,
       r .1,
       only-rules st store h i used sized full found (faulted held n) (r .3) refl (length-replicate (length (held .area)) 0 ∙ size) _ _
-          (ap (λ (k : ℕ). record { id = k; length = 0; mark = withLife (requestAt t i .mark) Life.Faulted }) (r .2)) (ap zeros size),
+          (ap (λ (k : ℕ). record { id = k; length = 0; state = withLife (requestAt t i .state) Life.Faulted }) (r .2)) (ap zeros size),
     ))
     (rw e refl) (rw e refl) e
 
@@ -188,7 +188,7 @@ fault-own-request st store piece id n sized e =
 abbrev pub AbortAlone : State → List ℕ → ℕ → Stepped → Type 0
 AbortAlone st store id s =
     (i : ℕ) × (find (st .conn .table) id ≡ Slot.At i)
-    × Only st store i (record { id = id; length = requestAt (st .conn .table) i .length; mark = withLife (requestAt (st .conn .table) i .mark) Life.Aborted })
+    × Only st store i (record { id = id; length = requestAt (st .conn .table) i .length; state = withLife (requestAt (st .conn .table) i .state) Life.Aborted })
     (areaAt store i) s
 
 -- Where a step tells an abort, it is one of its own request alone.
@@ -205,6 +205,6 @@ abort-own-request st store piece id sized e =
       i,
       rw same at found,
       only-rules st store h i used sized full found (aborted held) (r .1) refl (area-length store i full (find-at t (h .id) i found .low)) _ _
-          (ap (λ (k : ℕ). record { id = k; length = requestAt t i .length; mark = withLife (requestAt t i .mark) Life.Aborted }) (r .0)) refl,
+          (ap (λ (k : ℕ). record { id = k; length = requestAt t i .length; state = withLife (requestAt t i .state) Life.Aborted }) (r .0)) refl,
     ))
     (rw e refl) (rw e refl) e

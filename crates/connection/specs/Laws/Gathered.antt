@@ -15,10 +15,10 @@ use Rattle.record.specs.Names.{VERSION, BEGIN-REQUEST, GET-VALUES, RESPONDER, A
 use Rattle.record.specs.Header.{headerOf}
 use Rattle.record.specs.declared.header.Header.{Header}
 use Rattle.record.specs.declared.body.BeginBody.{BeginBody}
-use Rattle.reader.specs.Position.{heldAnd}
-use Rattle.reader.specs.declared.Position.{Position}
-use Rattle.reader.specs.declared.Advanced.{Advanced}
-use Rattle.lists.specs.List.{wellFormed}
+use Rattle.record_reader.specs.Position.{heldAnd}
+use Rattle.record_reader.specs.declared.Position.{Position}
+use Rattle.record_reader.specs.declared.Advanced.{Advanced}
+use Rattle.pair_list.specs.List.{wellFormed}
 use Rattle.connection.specs.declared.request.Role.{Role}
 use Rattle.connection.specs.declared.request.Due.{Due}
 use Rattle.connection.specs.declared.state.Slot.{Slot}
@@ -31,7 +31,7 @@ use Rattle.connection.specs.Slots.{freeSlotOf, find, onSlot}
 use Rattle.connection.specs.Laws.ShapeLaws.{Aimed, shaped}
 use Rattle.connection.specs.Laws.PieceLaws.{by-step}
 use Rattle.connection.specs.Laws.StepSizes.{copied-length}
-use Rattle.connection.specs.Step.{State, Left, targetIf, behind, within, reads, closes, queried, onManagement, onInactive, onActive, judged, opens, begun, ofBegin, ofQuery, ofRequest, onTarget, Stepped, stays, leaves, advances, stepRefusal, stepped}
+use Rattle.connection.specs.Step.{State, Left, targetIf, frameAfter, frameWithin, reads, closes, queried, onManagement, onInactive, onActive, judged, opens, begun, ofBegin, ofQuery, ofRequest, onTarget, Stepped, stays, leaves, advances, stepRefusal, stepped}
 use Rattle.connection.specs.Laws.Progress.{admitted-fits}
 
 -- ---- the bytes that count
@@ -69,7 +69,7 @@ alike-none target g g′ = alike-up-to target 0 g g′ refl
 alike-if : (left : ℕ) (target : Target) (n : ℕ) (g g′ : List ℕ) → Alike (countFor target n) g g′ → Alike (countFor (targetIf left target) n) g g′
 alike-if left target n g g′ a = byTest (eqb left 0) (λ t. simp t) (λ t. simp t a)
 
--- a query's list is what was gathered, and the bytes behind it
+-- a query's list is what was gathered, and the bytes after it
 put-count : (g : List ℕ) (n : ℕ) (x : List ℕ) → n + length x ≤ length g → take (n + length x) (copied g n x) ≡ take n g ++ x
 put-count g n x room =
     let l : length (take n g ++ x) ≡ n + length x = omega (arith, length-append (take n g) x, length-take-le n g (omega arith)) in
@@ -110,8 +110,8 @@ module _ (c : Conn) (g g′ store : List ℕ) where
   queried-agree list f a = both (wellFormed list) (reads-agree f _ a) (closes-agree 14)
 
   -- ---- a header
-  behind-agree : (h : Header) (target : Target) (e : Event) → Agree g g′ (reads one store (behind h target) e) (reads two store (behind h target) e)
-  behind-agree h target e = reads-agree (behind h target) e (alike-none (targetIf (h .content) target) g g′)
+  behind-agree : (h : Header) (target : Target) (e : Event) → Agree g g′ (reads one store (frameAfter h target) e) (reads two store (frameAfter h target) e)
+  behind-agree h target e = reads-agree (frameAfter h target) e (alike-none (targetIf (h .content) target) g g′)
 
   management-agree : (h : Header) → Agree g g′ (onManagement one store h) (onManagement two store h)
   unfolding onManagement
@@ -160,7 +160,7 @@ module _ (c : Conn) (g g′ store : List ℕ) where
   request-agree due i bytes p a =
       record { conn = refl; store = refl; event = refl; alike = alike-if (p .content) (c .frame .target) (c .frame .gathered) g g′ a; long = refl; long′ = refl }
 
--- of a query: the bytes in so far agree, and with the same bytes behind them they agree again
+-- of a query: the bytes in so far agree, and with the same bytes after them they agree again
 query-agree : (c : Conn) (g g′ store bytes : List ℕ) (p : Position) → c .frame .target ≡ Target.Query → c .frame .gathered + length bytes ≤ length g
     → c .frame .gathered + length bytes ≤ length g′ → Alike (countOf (c .frame)) g g′
     → Agree g g′ (ofQuery (record { conn = c; gathered = g }) store bytes p) (ofQuery (record { conn = c; gathered = g′ }) store bytes p)
@@ -172,10 +172,10 @@ query-agree c g g′ store bytes p e room room′ a =
     let x′ = copied g′ n bytes in
     let before : take n g ≡ take n g′ = rw e at a in
     let lists : take m x ≡ take m x′ = put-count g n bytes room ∙ ap (λ (l : List ℕ). l ++ bytes) before ∙ sym (put-count g′ n bytes room′) in
-    let f = within (c .frame) p 0 (c .frame .body) in
+    let f = frameWithin (c .frame) p 0 (c .frame .body) in
     let asked : Agree x x′ (queried (record { conn = c; gathered = x }) store (take m x) f) (queried (record { conn = c; gathered = x′ }) store (take m x′) f) =
     rw (← lists) (queried-agree c x x′ store (take m x) f (alike-none (targetIf (p .content) (c .frame .target)) x x′)) in
-    let more = reads-agree c x x′ store (within (c .frame) p m (c .frame .body)) Event.None (alike-if (p .content) (c .frame .target) m x x′ (rw e lists)) in
+    let more = reads-agree c x x′ store (frameWithin (c .frame) p m (c .frame .body)) Event.None (alike-if (p .content) (c .frame .target) m x x′ (rw e lists)) in
     keep (both (eqb (p .content) 0) asked more)
   where
     keep : {l l′ : Left} → Agree (copied g (c .frame .gathered) bytes) (copied g′ (c .frame .gathered) bytes) l l′ → Agree g g′ l l′

@@ -22,10 +22,10 @@ use Rattle.connection.specs.Laws.TableShape.{length-of, use-put, length-
 use Rattle.connection.specs.Laws.RequestShape.{Room, keeps-header}
 use Rattle.connection.specs.Laws.PieceLaws.{zeros-bytes, HeaderFits}
 use Rattle.connection.specs.Laws.StateShape.{GoodFrame, Good, aimed-if, either, good-closes, good-reads, good-back, good-queried}
-use Rattle.connection.specs.Step.{State, behind, onManagement, onInactive, dueTo, onActive, judged}
+use Rattle.connection.specs.Step.{State, frameAfter, onManagement, onInactive, dueTo, onActive, judged}
 
--- a frame behind a header
-good-behind : (t : Table) (h : Header) (target : Target) → HeaderFits h → (0 < h .content → Aimed target t 0 (h .content)) → GoodFrame t (behind h target)
+-- a frame after a header
+good-behind : (t : Table) (h : Header) (target : Target) → HeaderFits h → (0 < h .content → Aimed target t 0 (h .content)) → GoodFrame t (frameAfter h target)
 good-behind t h target fits f =
     record {
       header = refl;
@@ -44,19 +44,19 @@ module _ (st : State) (store : List ℕ) (before : Good (st .conn)) (h : Header)
       (λ a. either (ltb QUERY (h .content)) _ _
       (λ b. good-closes st store 13)
       (λ b. either (eqb (h .content) 0) _ _
-      (λ c. good-queried (st .conn) before (st .gathered) store [] (behind h Target.Skip) (good-behind _ h Target.Skip fits (λ _. tt)))
-      (λ c. good-reads (st .conn) before (behind h Target.Query) (good-behind _ h Target.Query fits (λ _. omega (arith, ltb-false QUERY (h .content) b))))))
-      (λ a. good-reads (st .conn) before (behind h Target.Skip) (good-behind _ h Target.Skip fits (λ _. tt)))
+      (λ c. good-queried (st .conn) before (st .gathered) store [] (frameAfter h Target.Skip) (good-behind _ h Target.Skip fits (λ _. tt)))
+      (λ c. good-reads (st .conn) before (frameAfter h Target.Query) (good-behind _ h Target.Query fits (λ _. omega (arith, ltb-false QUERY (h .content) b))))))
+      (λ a. good-reads (st .conn) before (frameAfter h Target.Skip) (good-behind _ h Target.Skip fits (λ _. tt)))
 
   good-inactive : (h .id ≡ 0 → ⊥) → find (st .conn .table) (h .id) ≡ Slot.Nowhere → Good (onInactive st store h .conn)
   unfolding onInactive
   good-inactive some inactive =
       either (eqb (h .kind) BEGIN-REQUEST) _ _
       (λ a. either (eqb (h .content) 8) _ _
-      (λ b. good-reads (st .conn) before (behind h (Target.Begin (h .id)))
+      (λ b. good-reads (st .conn) before (frameAfter h (Target.Begin (h .id)))
       (good-behind _ h (Target.Begin (h .id)) fits (λ _. record { eight = omega (arith, eqb-true (h .content) 8 b); some = some; inactive = inactive })))
       (λ b. good-closes st store 12))
-      (λ a. good-reads (st .conn) before (behind h Target.Skip) (good-behind _ h Target.Skip fits (λ _. tt)))
+      (λ a. good-reads (st .conn) before (frameAfter h Target.Skip) (good-behind _ h Target.Skip fits (λ _. tt)))
 
   -- where the content of a request's record goes, it may
   aimed-due : (d : Due) (i : ℕ) (r : Request) → InUse (st .conn .table) i → Room d (r .length) (h .content)
@@ -73,7 +73,7 @@ module _ (st : State) (store : List ℕ) (before : Good (st .conn)) (h : Header)
       let r = onHeader (h .kind) (h .content) (heldAt (st .conn .table) store i) in
       let short : requestAt (st .conn .table) i .length ≤ AREA = rw (length-of (st .conn .table) i) (before .tidy .lengths i (u .low)) in
       let k = keeps-header (h .content) (heldAt (st .conn .table) store i) short (h .kind) in
-      good-back (st .conn) before i (r .held .request) (behind h (dueTo (r .due) i)) (k .id) (k .short)
+      good-back (st .conn) before i (r .held .request) (frameAfter h (dueTo (r .due) i)) (k .id) (k .short)
       (good-behind _ h (dueTo (r .due) i) fits (λ _. aimed-due (r .due) i (r .held .request) (record { low = u .low; is-taken = u .is-taken }) (k .room)))
 
   -- Whatever the header, the state that it leaves is good.

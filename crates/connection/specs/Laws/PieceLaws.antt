@@ -11,11 +11,11 @@ use Rattle.wire.specs.Test.{byTest}
 use Rattle.wire.specs.Buffer.{putAt, zeros}
 use Rattle.record.specs.Header.{headerOf}
 use Rattle.record.specs.declared.header.Header.{Header}
-use Rattle.reader.specs.Position.{behindHeader, heldAnd, inHeader, advanced}
-use Rattle.reader.specs.PositionLaws.{at}
-use Rattle.reader.specs.declared.Position.{Position}
-use Rattle.reader.specs.declared.Phase.{Phase}
-use Rattle.reader.specs.declared.Advanced.{Advanced}
+use Rattle.record_reader.specs.Position.{afterHeader, heldAnd, inHeader, advanced}
+use Rattle.record_reader.specs.PositionLaws.{at}
+use Rattle.record_reader.specs.declared.Position.{Position}
+use Rattle.record_reader.specs.declared.Phase.{Phase}
+use Rattle.record_reader.specs.declared.Advanced.{Advanced}
 
 -- ---- bytes
 -- Every element is a byte.
@@ -35,7 +35,7 @@ take-bytes n s a i =
     (λ t. rw (getD-take n s i 0 (ltb-true i n t)) (a i))
     (λ t. let out : getD (take n s) i 0 ≡ 0 = List·getD-eq-default (take n s) 0 (omega (arith, ltb-false i n t, length-take n s)) in omega arith)
 
--- And those behind them.
+-- And those after them.
 pub drop-bytes : (n : ℕ) (s : List ℕ) → AllBytes s → AllBytes (drop n s)
 drop-bytes n s a i = rw (getD-drop n s i 0) (a (n + i))
 
@@ -70,7 +70,7 @@ pub by-step : (P : Advanced → Type 0) (p : Position) (piece : List ℕ) → p 
     → (p .content ≡ 0 → (n : ℕ) → n ≤ length piece → p .held + n < 8
     → P (record { used = n; phase = Phase.Part; position = at 0 0 (p .held + n) (heldAnd (p .held) (p .header) n piece) }))
     → (p .content ≡ 0 → (n : ℕ) → n ≤ length piece → p .held + n ≡ 8
-    → P (record { used = n; phase = Phase.Whole (headerOf (heldAnd (p .held) (p .header) n piece)); position = behindHeader (headerOf (heldAnd (p .held) (p .header) n piece)) }))
+    → P (record { used = n; phase = Phase.Whole (headerOf (heldAnd (p .held) (p .header) n piece)); position = afterHeader (headerOf (heldAnd (p .held) (p .header) n piece)) }))
     → P (advanced p piece)
 unfolding advanced inHeader
 by-step P p piece held content padding part whole =

@@ -7,8 +7,8 @@ use Rattle.wire.specs.Test.{byTest}
 use Rattle.record.specs.Names.{VERSION, BEGIN-REQUEST, ABORT-REQUEST, GET-VALUES, RESPONDER, AUTHORIZER, FILTER}
 use Rattle.record.specs.declared.header.Header.{Header}
 use Rattle.record.specs.declared.body.BeginBody.{BeginBody}
-use Rattle.reader.specs.declared.Position.{Position}
-use Rattle.lists.specs.List.{wellFormed}
+use Rattle.record_reader.specs.declared.Position.{Position}
+use Rattle.pair_list.specs.List.{wellFormed}
 use Rattle.connection.specs.declared.request.Role.{Role}
 use Rattle.connection.specs.declared.request.Turn.{Turn}
 use Rattle.connection.specs.declared.state.Slot.{Slot}
@@ -56,14 +56,14 @@ plain-live kind n h x y =
     (λ s.
     byTest (isInput kind)
     (λ i.
-    byTest (eqb kind (turnType (h .request .mark .turn)))
-    (λ r. simp (t, s, i, r) (plain-turn (h .request .mark .turn) n h x y))
+    byTest (eqb kind (turnType (h .request .state .turn)))
+    (λ r. simp (t, s, i, r) (plain-turn (h .request .state .turn) n h x y))
     (λ r. simp (t, s, i, r) (plain-faulted h 22 x y)))
     (λ i. simp (t, s, i) (plain-faulted h 23 x y))))
 
 plain-header : (kind n : ℕ) (h : Held) → Plain (onHeader kind n h .event)
 unfolding onHeader
-plain-header kind n h x y = byTest (isSpent (h .request .mark .life)) (λ t. simp t) (λ t. simp t (plain-live kind n h x y))
+plain-header kind n h x y = byTest (isSpent (h .request .state .life)) (λ t. simp t) (λ t. simp t (plain-live kind n h x y))
 
 -- ---- queries, headers, BEGIN bodies
 plain-queried : (st : State) (store list : List ℕ) (f : Frame) → Plain (queried st store list f .event)

@@ -10,11 +10,11 @@ use lib.Dec.{ltb, eqb}
 use borrow.Author.Tests.{lt-ltb, le-ltb, lt-leb, le-leb, ltb-true, ltb-false, eqb-true, eqb-false, eq-eqb, ne-eqb}
 use Rattle.wire.specs.Test.{byTest}
 use Rattle.wire.specs.Buffer.{putAt}
-use Rattle.reader.specs.Position.{heldAnd, behindHeader, inHeader, advanced}
-use Rattle.reader.specs.PositionLaws.{at}
+use Rattle.record_reader.specs.Position.{heldAnd, afterHeader, inHeader, advanced}
+use Rattle.record_reader.specs.PositionLaws.{at}
 use Rattle.record.specs.Header.{headerOf}
-use Rattle.reader.specs.declared.Position.{Position}
-use Rattle.reader.specs.declared.Phase.{Phase}
+use Rattle.record_reader.specs.declared.Position.{Position}
+use Rattle.record_reader.specs.declared.Phase.{Phase}
 use Rattle.connection.specs.declared.state.Conn.{Conn}
 use Rattle.connection.specs.Sizes.{STORE}
 use Rattle.connection.specs.Shape.{inShape}
@@ -85,7 +85,7 @@ in-part k h x l =
 -- bytes that make it whole
 pub in-whole : (k : ℕ) (h x : List ℕ) → k < 8 → 8 ≤ k + length x
     → inHeader k h x
-    ≡ record { used = 8 - k; phase = Phase.Whole (headerOf (heldAnd k h (8 - k) x)); position = behindHeader (headerOf (heldAnd k h (8 - k) x)) }
+    ≡ record { used = 8 - k; phase = Phase.Whole (headerOf (heldAnd k h (8 - k) x)); position = afterHeader (headerOf (heldAnd k h (8 - k) x)) }
 unfolding inHeader
 in-whole k h x l g =
     let m : min (8 - k) (length x) ≡ 8 - k = omega arith in

@@ -69,8 +69,8 @@ module _ (n : ℕ) (h : Held) (fits : h .request .length ≤ AREA) where
   keeps-input : (kind : ℕ) → Kept n h (onInput kind n h)
   unfolding onInput
   keeps-input kind =
-      byTest (eqb kind (turnType (h .request .mark .turn)))
-      (λ e. simp e (keeps-in-turn (h .request .mark .turn)))
+      byTest (eqb kind (turnType (h .request .state .turn)))
+      (λ e. simp e (keeps-in-turn (h .request .state .turn)))
       (λ e. simp e (keeps-faulted 22))
 
   keeps-live : (kind : ℕ) → Kept n h (onLive kind n h)
@@ -86,7 +86,7 @@ module _ (n : ℕ) (h : Held) (fits : h .request .length ≤ AREA) where
   pub keeps-header : (kind : ℕ) → Kept n h (onHeader kind n h)
   unfolding onHeader
   keeps-header kind =
-      byTest (isSpent (h .request .mark .life))
+      byTest (isSpent (h .request .state .life))
       (λ e. simp e (record { id = refl; short = fits; room = tt }))
       (λ e. simp e (keeps-live kind))
 

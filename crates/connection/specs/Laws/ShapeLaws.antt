@@ -8,8 +8,8 @@ use lib.ListN.{getD}
 use lib.Dec.{eqb}
 use borrow.Author.Tests.{leb-true, ltb-true, eqb-true, eqb-false, not-true, le-leb, lt-ltb, eq-eqb, ne-eqb}
 use Rattle.wire.specs.Test.{byTest, _≤?_, _<?_, _=?_}
-use Rattle.occupancy.specs.Word.{taken}
-use Rattle.reader.specs.declared.Position.{Position}
+use Rattle.slot_word.specs.Word.{taken}
+use Rattle.record_reader.specs.declared.Position.{Position}
 use Rattle.connection.specs.declared.state.Table.{Table}
 use Rattle.connection.specs.declared.state.Slot.{Slot}
 use Rattle.connection.specs.declared.state.Target.{Target}
@@ -102,20 +102,20 @@ unfolding idFits
 fit-id n ids occupied i f =
     byTest (taken i occupied) (λ t. simp (t, ne-eqb (getD ids i 0) 0 (f .some t), f .alone t)) (λ t. simp t)
 
--- the first of n + 1 slots, and those behind it
+-- the first of n + 1 slots, and those after it
 module _ (n : ℕ) (ids : List ℕ) (occupied i : ℕ) where
-  -- a slot among them is the first, or behind it
+  -- a slot among them is the first, or after it
   first-or : (id k : ℕ) {P : Type 0} → HoldsFrom (suc n) ids occupied id i k → (i ≡ k → P) → (HoldsFrom n ids occupied id (i + 1) k → P) → P
   first-or id k h first behind =
       byTest (eqb i k)
       (λ t. first (eqb-true i k t))
       (λ t. let q = eqb-false i k t in behind (record { low = omega arith; high = omega arith; is-taken = h .is-taken; has-id = h .has-id }))
 
-  -- a slot behind it is among them
+  -- a slot after it is among them
   wider : (id k : ℕ) → HoldsFrom n ids occupied id (i + 1) k → HoldsFrom (suc n) ids occupied id i k
   wider id k h = record { low = omega arith; high = omega arith; is-taken = h .is-taken; has-id = h .has-id }
 
-  -- the first slot does not share its id with one behind it
+  -- the first slot does not share its id with one after it
   alone : IdFit n ids occupied i → (id k l : ℕ) → i ≡ k → HoldsFrom (suc n) ids occupied id i k → HoldsFrom n ids occupied id (i + 1) l → ⊥
   alone f id k l e h g =
       let t : taken i occupied ≡ true = rw e (h .is-taken) in

@@ -9,25 +9,25 @@ use lib.Seq.{set-getD, getD-set-same, getD-set-other, drop-drop, length-take-le,
 use lib.Dec.{ltb, eqb}
 use borrow.Author.Tests.{lt-ltb, ltb-true, ltb-false, eqb-true, eqb-false, eq-eqb}
 use Rattle.wire.specs.Test.{byTest}
-use Rattle.occupancy.specs.Word.{taken, withSlot, withoutSlot}
-use Rattle.occupancy.specs.WordLaws.{with-taken, with-other, without-free, without-other}
+use Rattle.slot_word.specs.Word.{taken, withSlot, withoutSlot}
+use Rattle.slot_word.specs.WordLaws.{with-taken, with-other, without-free, without-other}
 use Rattle.connection.specs.declared.request.Request.{Request}
 use Rattle.connection.specs.declared.state.Table.{Table}
 use Rattle.connection.specs.declared.state.Slot.{Slot}
 use Rattle.connection.specs.Sizes.{SLOTS, AREA, STORE}
-use Rattle.connection.specs.Slots.{noMark, noRequest, requestAt, areaAt, putRequest, putArea, takeSlot, freeSlot, holdsId, findFrom, find, isFound}
+use Rattle.connection.specs.Slots.{noState, noRequest, requestAt, areaAt, putRequest, putArea, takeSlot, freeSlot, holdsId, findFrom, find, isFound}
 
 -- The arrays of a table have a place for each slot.
 pub record Sized (t : Table) : Type 0 where
   pub ids : length (t .ids) ≡ SLOTS
   pub lengths : length (t .lengths) ≡ SLOTS
-  pub marks : length (t .marks) ≡ SLOTS
+  pub states : length (t .states) ≡ SLOTS
 
 -- ---- requests
 -- A request put back where it came from changes nothing.
 pub put-same : (t : Table) (i : ℕ) → putRequest t i (requestAt t i) ≡ t
 unfolding putRequest requestAt
-put-same t i = rw (set-getD (t .ids) i 0, set-getD (t .lengths) i 0, set-getD (t .marks) i noMark)
+put-same t i = rw (set-getD (t .ids) i 0, set-getD (t .lengths) i 0, set-getD (t .states) i noState)
 
 -- The request put is read back.
 pub request-of-put : (t : Table) (i : ℕ) (r : Request) → Sized t → i < SLOTS → requestAt (putRequest t i r) i ≡ r
@@ -35,14 +35,14 @@ unfolding putRequest requestAt
 request-of-put t i r s h =
     let a : i < length (t .ids) = omega arith in
     let b : i < length (t .lengths) = omega arith in
-    let c : i < length (t .marks) = omega arith in
-    rw (getD-set-same (t .ids) i (r .id) 0 a, getD-set-same (t .lengths) i (r .length) 0 b, getD-set-same (t .marks) i (r .mark) noMark c)
+    let c : i < length (t .states) = omega arith in
+    rw (getD-set-same (t .ids) i (r .id) 0 a, getD-set-same (t .lengths) i (r .length) 0 b, getD-set-same (t .states) i (r .state) noState c)
 
 -- Another slot's request stays.
 pub request-of-other : (t : Table) (i j : ℕ) (r : Request) → (j ≡ i → ⊥) → requestAt (putRequest t i r) j ≡ requestAt t j
 unfolding putRequest requestAt
 request-of-other t i j r h =
-    rw (getD-set-other (t .ids) i j (r .id) 0 h, getD-set-other (t .lengths) i j (r .length) 0 h, getD-set-other (t .marks) i j (r .mark) noMark h)
+    rw (getD-set-other (t .ids) i j (r .id) 0 h, getD-set-other (t .lengths) i j (r .length) 0 h, getD-set-other (t .states) i j (r .state) noState h)
 
 -- The arrays keep their lengths.
 pub put-sized : (t : Table) (i : ℕ) (r : Request) → Sized t → Sized (putRequest t i r)
@@ -51,7 +51,7 @@ put-sized t i r s =
     record {
       ids = length-set (t .ids) i (r .id) ∙ s .ids;
       lengths = length-set (t .lengths) i (r .length) ∙ s .lengths;
-      marks = length-set (t .marks) i (r .mark) ∙ s .marks;
+      states = length-set (t .states) i (r .state) ∙ s .states;
     }
 
 -- No slot is taken or freed by a request that is put.
@@ -92,7 +92,7 @@ taken-of-take-other t i j r h = byTest (ltb i SLOTS) (λ e. simp e (with-other i
 -- The arrays keep their lengths.
 pub take-sized : (t : Table) (i : ℕ) (r : Request) → Sized t → Sized (takeSlot t i r)
 unfolding takeSlot
-take-sized t i r s = let p = put-sized t i r s in record { ids = p .ids; lengths = p .lengths; marks = p .marks }
+take-sized t i r s = let p = put-sized t i r s in record { ids = p .ids; lengths = p .lengths; states = p .states }
 
 -- A slot freed holds no request.
 pub request-of-free : (t : Table) (i : ℕ) → Sized t → i < SLOTS → requestAt (freeSlot t i) i ≡ noRequest
@@ -117,7 +117,7 @@ taken-of-free-other t i j h = byTest (ltb i SLOTS) (λ e. simp e (without-other 
 -- The arrays keep their lengths.
 pub free-sized : (t : Table) (i : ℕ) → Sized t → Sized (freeSlot t i)
 unfolding freeSlot
-free-sized t i s = let p = put-sized t i noRequest s in record { ids = p .ids; lengths = p .lengths; marks = p .marks }
+free-sized t i s = let p = put-sized t i noRequest s in record { ids = p .ids; lengths = p .lengths; states = p .states }
 
 -- ---- areas
 -- An area put back where it came from changes nothing.
@@ -133,7 +133,7 @@ pub area-length : (store : List ℕ) (i : ℕ) → length store ≡ STORE → i 
 unfolding areaAt
 area-length store i s h = simp (length-take, length-drop) (omega arith)
 
--- an area in the first of two lists, and one behind it
+-- an area in the first of two lists, and one after it
 area-front : (p q : List ℕ) (j : ℕ) → j * AREA + AREA ≤ length p → areaAt (p ++ q) j ≡ areaAt p j
 unfolding areaAt
 area-front p q j h =

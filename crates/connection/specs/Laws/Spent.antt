@@ -31,7 +31,7 @@ rule-names kind n h R r =
     by-rule (λ (x : Ruled). eventId (x .event) ≡ R → h .request .id ≡ R) h (λ d e. absurd (omega arith)) (λ k low high e. e) (λ e. e) (λ t e. e) (λ t s e. e) kind n
 
 -- and of a spent one it tells nothing
-spent-rule : (kind n : ℕ) (h : Held) → isSpent (h .request .mark .life) ≡ true → onHeader kind n h .event ≡ Event.None
+spent-rule : (kind n : ℕ) (h : Held) → isSpent (h .request .state .life) ≡ true → onHeader kind n h .event ≡ Event.None
 unfolding onHeader
 spent-rule kind n h e = simp e
 
@@ -46,10 +46,10 @@ due-use Due.Data i t n left f a = a
 abbrev pub DueLive : State → ℕ → Type 0
 DueLive st i =
     (due : Due) → InUse (st .conn .table) i → st .conn .frame .target ≡ dueTo due i → 0 < st .conn .frame .position .content → (due ≡ Due.Skip → ⊥)
-    → isSpent (requestAt (st .conn .table) i .mark .life) ≡ false
+    → isSpent (requestAt (st .conn .table) i .state .life) ≡ false
 
 -- Where R is spent, and content is due to it only if it were not, a step tells nothing of R.
-pub spent-step : (st : State) (store piece : List ℕ) (R i : ℕ) → 0 < R → find (st .conn .table) R ≡ Slot.At i → isSpent (requestAt (st .conn .table) i .mark .life) ≡ true → DueLive st i
+pub spent-step : (st : State) (store piece : List ℕ) (R i : ℕ) → 0 < R → find (st .conn .table) R ≡ Slot.At i → isSpent (requestAt (st .conn .table) i .state .life) ≡ true → DueLive st i
     → eventId (stepped st store piece .event) ≡ R → ⊥
 unfolding closes onActive ofRequest requestAt
 spent-step st store piece R i r found spent live = by-way (λ (s : Stepped). eventId (s .event) ≡ R → ⊥) st store piece (λ n e. omega arith) go
@@ -77,8 +77,8 @@ spent-step st store piece R i r found spent live = by-way (λ (s : Stepped). eve
         let own = rule-names (h .kind) (h .content) (heldAt (st .conn .table) store j) R r d in
         let same : h .id ≡ R = sym (find-at (st .conn .table) (h .id) j e .has-id) ∙ own in
         let at-i = same-slot j (rw same at e) in
-        let quiet = spent-rule (h .kind) (h .content) (heldAt (st .conn .table) store j) (rw at-i spent) in
-        let y : eventId Event.None ≡ R = ap eventId (sym quiet) ∙ d in
+        let only-frame = spent-rule (h .kind) (h .content) (heldAt (st .conn .table) store j) (rw at-i spent) in
+        let y : eventId Event.None ≡ R = ap eventId (sym only-frame) ∙ d in
         omega arith
     go fits used _ (Way.Feeds Due.Skip j bytes p k low aim some) d = omega arith
     go fits used _ (Way.Feeds Due.Params j bytes p k low aim some) d = omega arith

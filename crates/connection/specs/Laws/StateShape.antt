@@ -8,7 +8,7 @@ use lib.ListN.{length}
 use lib.Dec.{eqb}
 use borrow.Author.Tests.{eqb-false}
 use Rattle.wire.specs.Test.{if_then_else_, byTest}
-use Rattle.lists.specs.List.{wellFormed}
+use Rattle.pair_list.specs.List.{wellFormed}
 use Rattle.connection.specs.declared.request.Request.{Request}
 use Rattle.connection.specs.declared.state.Table.{Table}
 use Rattle.connection.specs.declared.state.Target.{Target}
@@ -63,7 +63,7 @@ good-shape c g = in-shape c (record { table = g .tidy; position = g .frame .posi
 
 -- The arrays of a connection with no requests, open or closed.
 pub fresh-arrays : (is-open : Bool) → Arrays (record { table = noRequests; frame = noFrame; «open» = is-open })
-fresh-arrays is-open = record { table = record { ids = refl; lengths = refl; marks = refl }; header = refl; bytes = zeros-bytes 8; body = refl }
+fresh-arrays is-open = record { table = record { ids = refl; lengths = refl; states = refl }; header = refl; bytes = zeros-bytes 8; body = refl }
 
 -- The closed one is good.
 pub good-closed : Good closedConn

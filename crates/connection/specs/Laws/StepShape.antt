@@ -10,9 +10,9 @@ use lib.Dec.{eqb}
 use Rattle.wire.specs.Test.{byTest}
 use Rattle.wire.specs.BufferLaws.{put-length}
 use Rattle.record.specs.Header.{headerOf}
-use Rattle.reader.specs.Position.{heldAnd, advanced}
-use Rattle.reader.specs.declared.Position.{Position}
-use Rattle.reader.specs.declared.Advanced.{Advanced}
+use Rattle.record_reader.specs.Position.{heldAnd, advanced}
+use Rattle.record_reader.specs.declared.Position.{Position}
+use Rattle.record_reader.specs.declared.Advanced.{Advanced}
 use Rattle.connection.specs.Sizes.{STORE}
 use Rattle.connection.specs.Shape.{inShape}
 use Rattle.connection.specs.Laws.ShapeLaws.{Placed, shaped, fresh-in-shape, closed-in-shape}
@@ -20,13 +20,13 @@ use Rattle.connection.specs.Laws.PieceLaws.{AllBytes, take-bytes, put-by
 use Rattle.connection.specs.Laws.StateShape.{Arrays, Good, good, good-arrays, good-shape, fresh-arrays, good-reads}
 use Rattle.connection.specs.Laws.HeaderShape.{good-judged}
 use Rattle.connection.specs.Laws.ContentShape.{good-target}
-use Rattle.connection.specs.Step.{State, moved, openWith, advances, stepRefusal, stepped, started}
+use Rattle.connection.specs.Step.{State, frameAt, openWith, advances, stepRefusal, stepped, started}
 
 -- ---- a step that is not refused
 module _ (st : State) (store : List ℕ) (before : Good (st .conn)) where
-  -- padding, or header bytes that do not make a header: the frame moves, with no content left before and behind
+  -- padding, or header bytes that do not make a header: the frame moves, with no content left before and after
   good-moved : (p : Position) → length (p .header) ≡ 8 → AllBytes (p .header) → Placed p → p .content ≡ st .conn .frame .position .content
-      → Good (openWith (st .conn .table) (moved (st .conn .frame) p))
+      → Good (openWith (st .conn .table) (frameAt (st .conn .frame) p))
   good-moved p eight bytes placed same =
       good-reads (st .conn) before _ (record { header = eight; bytes = bytes; body = before .frame .body; position = placed; target = rw same (before .frame .target) })
 

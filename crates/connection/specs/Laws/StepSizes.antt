@@ -13,11 +13,11 @@ use Rattle.wire.specs.BufferLaws.{put-length}
 use Rattle.record.specs.Names.{VERSION, BEGIN-REQUEST, ABORT-REQUEST, GET-VALUES, RESPONDER, AUTHORIZER, FILTER}
 use Rattle.record.specs.declared.header.Header.{Header}
 use Rattle.record.specs.declared.body.BeginBody.{BeginBody}
-use Rattle.reader.specs.Position.{advanced}
-use Rattle.reader.specs.PositionLaws.{stays-proper}
-use Rattle.reader.specs.declared.Position.{Position}
-use Rattle.reader.specs.declared.Phase.{Phase}
-use Rattle.lists.specs.List.{wellFormed}
+use Rattle.record_reader.specs.Position.{advanced}
+use Rattle.record_reader.specs.PositionLaws.{stays-proper}
+use Rattle.record_reader.specs.declared.Position.{Position}
+use Rattle.record_reader.specs.declared.Phase.{Phase}
+use Rattle.pair_list.specs.List.{wellFormed}
 use Rattle.connection.specs.declared.request.Role.{Role}
 use Rattle.connection.specs.declared.request.Turn.{Turn}
 use Rattle.connection.specs.declared.request.Due.{Due}
@@ -91,14 +91,14 @@ live-area kind n h =
     (λ s.
     byTest (isInput kind)
     (λ i.
-    byTest (eqb kind (turnType (h .request .mark .turn)))
-    (λ r. simp (t, s, i, r) (turn-area (h .request .mark .turn) n h))
+    byTest (eqb kind (turnType (h .request .state .turn)))
+    (λ r. simp (t, s, i, r) (turn-area (h .request .state .turn) n h))
     (λ r. simp (t, s, i, r) (faulted-area h 22)))
     (λ i. simp (t, s, i) (faulted-area h 23))))
 
 header-area : (kind n : ℕ) (h : Held) → length (onHeader kind n h .held .area) ≡ length (h .area)
 unfolding onHeader
-header-area kind n h = byTest (isSpent (h .request .mark .life)) (λ t. simp t) (λ t. simp t (live-area kind n h))
+header-area kind n h = byTest (isSpent (h .request .state .life)) (λ t. simp t) (λ t. simp t (live-area kind n h))
 
 -- content: grown or as it was
 pub content-area : (due : Due) (x : List ℕ) (h : Held) → length (onContent due x h .held .area) ≡ length (h .area)
@@ -118,7 +118,7 @@ module _ (st : State) (store : List ℕ) (s : Sizes st store) where
   unfolding closes
   closes-keeps n =
       record {
-        table = record { ids = refl; lengths = refl; marks = refl };
+        table = record { ids = refl; lengths = refl; states = refl };
         header = refl;
         body = refl;
         gathered = s .gathered;
@@ -248,7 +248,7 @@ unfolding started
 start-sizes gathered store g f =
     simp (eq-eqb (length store) STORE f)
     (record {
-      table = record { ids = refl; lengths = refl; marks = refl };
+      table = record { ids = refl; lengths = refl; states = refl };
       header = refl;
       body = refl;
       gathered = length-replicate (length gathered) 0 ∙ g;

@@ -11,10 +11,10 @@ use Rattle.wire.specs.Test.{if_then_else_, byTest, _=?_}
 use Rattle.record.specs.Names.{VERSION, BEGIN-REQUEST, ABORT-REQUEST, GET-VALUES, RESPONDER, AUTHORIZER, FILTER, STDIN, DATA}
 use Rattle.record.specs.declared.header.Header.{Header}
 use Rattle.record.specs.declared.body.BeginBody.{BeginBody}
-use Rattle.reader.specs.Position.{inHeader, advanced}
-use Rattle.reader.specs.declared.Position.{Position}
-use Rattle.reader.specs.declared.Phase.{Phase}
-use Rattle.lists.specs.List.{wellFormed}
+use Rattle.record_reader.specs.Position.{inHeader, advanced}
+use Rattle.record_reader.specs.declared.Position.{Position}
+use Rattle.record_reader.specs.declared.Phase.{Phase}
+use Rattle.pair_list.specs.List.{wellFormed}
 use Rattle.connection.specs.declared.request.Role.{Role}
 use Rattle.connection.specs.declared.request.Turn.{Turn}
 use Rattle.connection.specs.declared.request.Due.{Due}
@@ -25,7 +25,7 @@ use Rattle.connection.specs.declared.state.Frame.{Frame}
 use Rattle.connection.specs.declared.state.Conn.{Conn}
 use Rattle.connection.specs.Sizes.{SLOTS, AREA, QUERY}
 use Rattle.connection.specs.Event.{Event}
-use Rattle.connection.specs.Numbers.{roleNumber}
+use Rattle.connection.specs.Codes.{roleNumber}
 use Rattle.connection.specs.Request.{Held, Ruled, ruled, listOf, isSpent, faulted, aborted, turned, paramsFault, paramsEnded, onParams, onStdin, onData, inTurn, isInput, turnType, onInput, onLive, onHeader, opened}
 use Rattle.connection.specs.Slots.{takeSlot, freeSlotOf, find, onSlot}
 use Rattle.connection.specs.Laws.ShapeLaws.{Aimed, shaped}
@@ -61,15 +61,15 @@ module _ (P : Ruled → Type 0) (h : Held) (waits : (d : Due) → P (ruled h d E
       (λ s.
       byTest (isInput kind)
       (λ i.
-      byTest (eqb kind (turnType (h .request .mark .turn)))
-      (λ r. simp (t, s, i, r) (rule-turn (h .request .mark .turn) n))
+      byTest (eqb kind (turnType (h .request .state .turn)))
+      (λ r. simp (t, s, i, r) (rule-turn (h .request .state .turn) n))
       (λ r. simp (t, s, i, r) (faults 22 (omega arith) (omega arith))))
       (λ i. simp (t, s, i) (faults 23 (omega arith) (omega arith)))))
 
   -- What holds of a request left alone, of faults 21 to 25, of an abort and of a stream's end holds of what any header does to it.
   pub by-rule : (kind n : ℕ) → P (onHeader kind n h)
   unfolding onHeader
-  by-rule kind n = byTest (isSpent (h .request .mark .life)) (λ t. simp t (waits Due.Skip)) (λ t. simp t (rule-live kind n))
+  by-rule kind n = byTest (isSpent (h .request .state .life)) (λ t. simp t (waits Due.Skip)) (λ t. simp t (rule-live kind n))
 
 -- ---- the ways
 -- an event that ends a connection or spends a request: a close, a fault, an abort

@@ -34,10 +34,10 @@ released-in-shape c i sized e =
 pub finish-in-shape : (c : Conn) (store : List ℕ) (id status : ℕ) (buffer : List ℕ) → Sized (c .table) → inShape c ≡ true → inShape (C.finish c store id status buffer .conn) ≡ true
 unfolding C.finish C.finishes
 finish-in-shape c store id status buffer sized e =
-    byTest (eqb (C.lentRefusal c store id) 0) (λ t. simp t (go (C.slotOf c id) (requestAt (c .table) (C.slotOf c id) .mark .keep) (Of.finishIn (requestAt (c .table) (C.slotOf c id)) status buffer)))
+    byTest (eqb (C.lentRefusal c store id) 0) (λ t. simp t (go (C.slotOf c id) (requestAt (c .table) (C.slotOf c id) .state .keep) (Of.finishIn (requestAt (c .table) (C.slotOf c id)) status buffer)))
     (λ t. simp t e)
   where
-    go : (i : ℕ) (keep : Bool) (w : Of.Wrote) → inShape (C.finishes c store i keep w .conn) ≡ true
+    go : (i : ℕ) (keep : Bool) (w : Of.Writing) → inShape (C.finishes c store i keep w .conn) ≡ true
     go i keep w =
         byTest (eqb (w .refusal) 0)
         (λ a. byTest keep (λ k. rw (a, k) (released-in-shape c i sized e)) (λ k. rw (a, k) closed-in-shape))
@@ -46,7 +46,7 @@ finish-in-shape c store id status buffer sized e =
 -- ---- closing
 -- A finish of a request without KEEP_CONN.
 pub data ClosesBy (m : Memory) (id : ℕ) : Argument → Type 0 where
-  FinishedWithoutKeep : (status : ℕ) (buffer : List ℕ) → requestAt (m .state .conn .table) (C.slotOf (m .state .conn) id) .mark .keep ≡ false → ClosesBy m id (ForFinish status buffer)
+  FinishedWithoutKeep : (status : ℕ) (buffer : List ℕ) → requestAt (m .state .conn .table) (C.slotOf (m .state .conn) id) .state .keep ≡ false → ClosesBy m id (ForFinish status buffer)
 
 -- The only call that closes a connection.
 pub call-closes : (m : Memory) (id : ℕ) (a : Argument) → m .state .conn .«open» ≡ true → called m id a .memory .state .conn .«open» ≡ false → ClosesBy m id a
@@ -63,7 +63,7 @@ call-closes m id (ForFinish status buffer) o e =
     let i = C.slotOf (m .state .conn) id in
     let r = requestAt (m .state .conn .table) i in
     let w = Of.finishIn r status buffer in
-    byTest (r .mark .keep)
+    byTest (r .state .keep)
     (λ k.
     byTest (eqb (C.lentRefusal (m .state .conn) (m .store) id) 0)
     (λ t.

@@ -9,7 +9,7 @@ use lib.Dec.{eqb}
 use borrow.Author.Tests.{eqb-true, eqb-false}
 use Rattle.wire.specs.Test.{byTest}
 use Rattle.wire.specs.Buffer.{zeros}
-use Rattle.occupancy.specs.Word.{taken}
+use Rattle.slot_word.specs.Word.{taken}
 use Rattle.connection.specs.declared.request.Request.{Request}
 use Rattle.connection.specs.declared.state.Table.{Table}
 use Rattle.connection.specs.declared.state.Target.{Target as Aim}

@@ -7,12 +7,12 @@ use native.Mathlib.Omega.{arith}
 use Rattle.machine.specs.Isolation as Generic
 use Rattle.connection.specs.Calls as C
 use Rattle.connection.specs.Laws.Progress.{admitted-fits, step-refused}
-use Rattle.connection.specs.Run.{Memory, Operation, StepOver, CallFor, CountActive, memoryOf, leftBy, finalMemory}
+use Rattle.connection.specs.Run.{Memory, Operation, StepOver, CallFor, CountActive, memoryOf, memoryAfter, finalMemory}
 use Rattle.connection.specs.Runs.LinkingStep.{Steady}
 use Rattle.connection.specs.Runs.LinkingCalls.{lent-closed, call-closed, refused-call}
 
-closed-operation : (m : Memory) (o : Operation) → Steady m → m .state .conn .«open» ≡ false → leftBy m o ≡ m
-unfolding leftBy
+closed-operation : (m : Memory) (o : Operation) → Steady m → m .state .conn .«open» ≡ false → memoryAfter m o ≡ m
+unfolding memoryAfter
 closed-operation m (StepOver piece) z e =
     ap memoryOf
     (step-refused (m .state) (m .store) piece

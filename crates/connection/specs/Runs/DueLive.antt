@@ -31,7 +31,7 @@ target-of Due.Params i n body gathered f = refl
 target-of Due.Stdin i n body gathered f = refl
 target-of Due.Data i n body gathered f = refl
 
-live-of : (due : Due) (n : ℕ) (h : Held) → (due ≡ Due.Skip → ⊥) → InTurn due n h → isSpent (h .request .mark .life) ≡ false
+live-of : (due : Due) (n : ℕ) (h : Held) → (due ≡ Due.Skip → ⊥) → InTurn due n h → isSpent (h .request .state .life) ≡ false
 live-of Due.Skip n h f r = absurd (f refl)
 live-of Due.Params n h f r = r .1
 live-of Due.Stdin n h f r = r
@@ -43,7 +43,7 @@ aimed-at T (suc c) p header s some r = r .target-ok
 
 -- In a run, content that is due to a slot is due to a request that is not spent.
 pub due-live : (r : WholeRun) (due : Due) (i : ℕ) → InUse (ending r .state .conn .table) i → ending r .state .conn .«open» ≡ true → ending r .state .conn .frame .target ≡ dueTo due i
-    → 0 < ending r .state .conn .frame .position .content → (due ≡ Due.Skip → ⊥) → isSpent (requestAt (ending r .state .conn .table) i .mark .life) ≡ false
+    → 0 < ending r .state .conn .frame .position .content → (due ≡ Due.Skip → ⊥) → isSpent (requestAt (ending r .state .conn .table) i .state .life) ≡ false
 due-live r due i u is-open aim some skip =
     let m = ending r in
     let t = m .state .conn .table in
@@ -53,4 +53,4 @@ due-live r due i u is-open aim some skip =
     let ok = aimed-at T (f .position .content) (f .position .padding) (take (f .position .held) (f .position .header)) (loadedTarget (f .target) (f .gathered) (f .body) (m .state .gathered)) some (k .1) in
     let there = subst (λ s. TargetOk receiver list-laws T s (f .position .content)) (ap (λ a. loadedTarget a (f .gathered) (f .body) (m .state .gathered)) aim ∙ target-of due i (f .gathered) (f .body) (m .state .gathered) skip) ok in
     let same : there .1 ≡ heldAt t (m .store) i = cc (there .2, held-there t (m .store) i u) in
-    subst (λ (h : Held). isSpent (h .request .mark .life) ≡ false) same (live-of due (f .position .content) (there .1) skip (there .3))
+    subst (λ (h : Held). isSpent (h .request .state .life) ≡ false) same (live-of due (f .position .content) (there .1) skip (there .3))

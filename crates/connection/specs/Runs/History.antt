@@ -76,19 +76,19 @@ emptiesAny R (some o) = empties R o
 abbrev pub isParamsHeader : ℕ → List ℕ → Bool
 isParamsHeader R h = if headerId h =? R then headerType h =? PARAMS else false
 
--- behind a header byte: are they fewer than eight still?
+-- after a header byte: are they fewer than eight still?
 unfoldable pub scanWholeParams : Bool → ℕ → List ℕ → Scan
 scanWholeParams true R h = ScanHeader h
 scanWholeParams false R h = scanLeft (isParamsHeader R h) (headerContent h) (headerPadding h)
 
--- Where the byte behind b stands: in a header, or past one, with whether it is of a PARAMS record of R, and the content and padding left.
+-- Where the byte after b stands: in a header, or past one, with whether it is of a PARAMS record of R, and the content and padding left.
 unfoldable pub scanParams : ℕ → Scan → ℕ → Scan
 scanParams R (ScanHeader h) b = scanWholeParams (length (h ++ b ∷ []) <? 8) R (h ++ b ∷ [])
 scanParams R (ScanRest own (suc c) p) b = scanLeft own c p
 scanParams R (ScanRest own zero (suc p)) b = scanLeft own zero p
 scanParams R (ScanRest own zero zero) b = ScanHeader []
 
--- behind an item
+-- after an item
 abbrev pub scanItem : ℕ → Scan → Item Argument → Scan
 scanItem R m (ByteItem b) = scanParams R m b
 scanItem R m (CallItem c) = m

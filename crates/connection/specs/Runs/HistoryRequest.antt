@@ -70,12 +70,12 @@ module _ (n : ℕ) (h : Held) where
       (λ a. byTest (eqb kind ABORT-REQUEST)
       (λ b. simp (a, b) refl)
       (λ b. byTest (isInput kind)
-      (λ i. byTest (eqb kind (turnType (h .request .mark .turn))) (λ e. simp (a, b, i, e) (list-turn (h .request .mark .turn))) (λ e. simp (a, b, i, e) (list-faulted 22)))
+      (λ i. byTest (eqb kind (turnType (h .request .state .turn))) (λ e. simp (a, b, i, e) (list-turn (h .request .state .turn))) (λ e. simp (a, b, i, e) (list-faulted 22)))
       (λ i. simp (a, b, i) (list-faulted 23))))
 
   pub list-header : (kind : ℕ) → KeepsList h (onHeader kind n h)
   unfolding onHeader
-  list-header kind = byTest (isSpent (h .request .mark .life)) (λ e. simp e refl) (λ e. simp e (list-live kind))
+  list-header kind = byTest (isSpent (h .request .state .life)) (λ e. simp e refl) (λ e. simp e (list-live kind))
 
 -- PARAMS content is added to the list
 pub list-grown : (h : Held) (b : ℕ) → h .request .length + 1 ≤ AREA → length (h .area) ≡ AREA → listOf (grown h (b ∷ [])) ≡ listOf h ++ b ∷ []
@@ -107,7 +107,7 @@ CallKeeps h (Stays q n) = (isFinish n ≡ false) × (listOf q ≡ listOf h)
 CallKeeps h (Leaves n) = (isFinish n ≡ true) × (isClose n ≡ false)
 CallKeeps h (Closes n) = (isFinish n ≡ true) × (isClose n ≡ true)
 
-finish-keeps : (keep : Bool) (h : Held) (w : Of.Wrote) → CallKeeps h (finishedAs keep h w)
+finish-keeps : (keep : Bool) (h : Held) (w : Of.Writing) → CallKeeps h (finishedAs keep h w)
 unfolding finishedAs
 finish-keeps keep h w = go (eqb (w .refusal) 0) refl keep
   where
@@ -127,7 +127,7 @@ call-keeps (ForPair k) h = (refl, refl)
 call-keeps ForWalk h = (refl, refl)
 call-keeps (ForSay output bytes buffer) h = (refl, ap (λ n. take n (h .area)) (say-same (h .request) output bytes buffer .length))
 call-keeps (ForEnd output buffer) h = (refl, ap (λ n. take n (h .area)) (end-same (h .request) output buffer .length))
-call-keeps (ForFinish status buffer) h = finish-keeps (h .request .mark .keep) h (Of.finishIn (h .request) status buffer)
+call-keeps (ForFinish status buffer) h = finish-keeps (h .request .state .keep) h (Of.finishIn (h .request) status buffer)
 
 pub refused-keeps : (n : ℕ) (a : Argument) → eqb n 0 ≡ false → isFinish (refused n a) ≡ false
 unfolding refused
@@ -142,7 +142,7 @@ refused-keeps n (ForFinish status buffer) e = e
 -- ---- whether it takes PARAMS
 -- it takes PARAMS: it is not spent, and it is their turn
 abbrev pub takes : Held → Bool
-takes h = if isSpent (h .request .mark .life) then false else inParams (h .request .mark .turn)
+takes h = if isSpent (h .request .state .life) then false else inParams (h .request .state .turn)
 
 abbrev pub takesFound : Option Held → Bool
 takesFound none = false
@@ -169,7 +169,7 @@ module _ (kind n : ℕ) (h : Held) where
   unfolding faulted withLife
   takes-faulted k = record { told = refl; due = λ z. off (eqb kind PARAMS) }
 
-  module _ (live : isSpent (h .request .mark .life) ≡ false) where
+  module _ (live : isSpent (h .request .state .life) ≡ false) where
     past-params : (t : Role) → inParams (afterParams t) ≡ false
     past-params Role.Responder = refl
     past-params Role.Authorizer = refl
@@ -184,22 +184,22 @@ module _ (kind n : ℕ) (h : Held) where
     unfolding paramsEnded turned withTurn
     takes-ended z =
         byTest (eqb (paramsFault (listOf h)) 0)
-        (λ e. simp e (record { told = rw (live, past-params (h .request .mark .role)); due = λ k. absurd (omega arith) }))
+        (λ e. simp e (record { told = rw (live, past-params (h .request .state .role)); due = λ k. absurd (omega arith) }))
         (λ e. simp e (takes-faulted _))
 
-    takes-params : h .request .mark .turn ≡ Turn.Params → kind ≡ PARAMS → TakesBy h kind n (onParams n h)
+    takes-params : h .request .state .turn ≡ Turn.Params → kind ≡ PARAMS → TakesBy h kind n (onParams n h)
     unfolding onParams
     takes-params t q =
         byTest (ltb AREA (h .request .length + n))
         (λ e. simp e (takes-faulted 24))
         (λ e. byTest (eqb n 0) (λ z. simp (e, z) (takes-ended (eqb-true n 0 z))) (λ z. simp (e, z) (record { told = refl; due = λ k. rw (eq-eqb kind PARAMS q, live, t) })))
 
-    takes-turn : (t : Turn) → h .request .mark .turn ≡ t → kind ≡ turnType t → TakesBy h kind n (inTurn t n h)
+    takes-turn : (t : Turn) → h .request .state .turn ≡ t → kind ≡ turnType t → TakesBy h kind n (inTurn t n h)
     unfolding onStdin onData turned withTurn
     takes-turn Turn.Params t q = takes-params t q
     takes-turn Turn.Stdin t q =
         byTest (eqb n 0)
-        (λ z. simp z (record { told = rw (live, t, past-stdin (h .request .mark .role)); due = λ k. rw q }))
+        (λ z. simp z (record { told = rw (live, t, past-stdin (h .request .state .role)); due = λ k. rw q }))
         (λ z. simp z (record { told = refl; due = λ k. rw q }))
     takes-turn Turn.Data t q =
         byTest (eqb n 0)
@@ -219,12 +219,12 @@ module _ (kind n : ℕ) (h : Held) where
         (λ a. byTest (eqb kind ABORT-REQUEST)
         (λ b. simp (a, b) takes-abort)
         (λ b. byTest (isInput kind)
-        (λ i. byTest (eqb kind (turnType (h .request .mark .turn))) (λ e. simp (a, b, i, e) (takes-turn (h .request .mark .turn) refl (eqb-true kind (turnType (h .request .mark .turn)) e))) (λ e. simp (a, b, i, e) (takes-faulted 22)))
+        (λ i. byTest (eqb kind (turnType (h .request .state .turn))) (λ e. simp (a, b, i, e) (takes-turn (h .request .state .turn) refl (eqb-true kind (turnType (h .request .state .turn)) e))) (λ e. simp (a, b, i, e) (takes-faulted 22)))
         (λ i. simp (a, b, i) (takes-faulted 23))))
 
   pub takes-header : TakesBy h kind n (onHeader kind n h)
   unfolding onHeader
-  takes-header = byTest (isSpent (h .request .mark .life)) (λ e. simp e (record { told = refl; due = λ z. rw e (off (eqb kind PARAMS)) })) (λ e. simp e (takes-live e))
+  takes-header = byTest (isSpent (h .request .state .life)) (λ e. simp e (record { told = refl; due = λ z. rw e (off (eqb kind PARAMS)) })) (λ e. simp e (takes-live e))
 
 -- PARAMS content
 pub takes-grown : (h : Held) (x : List ℕ) → takes (grown h x) ≡ takes h
@@ -258,7 +258,7 @@ takes-writes : (n : ℕ) (bytes : List ℕ) (after r : Request) (buffer area : L
 unfolding Of.writes
 takes-writes n bytes after r buffer area s = byTest (eqb n 0) (λ e. simp e s) (λ e. simp e)
 
-takes-finished : (keep : Bool) (h : Held) (w : Of.Wrote) → CallTakes h (finishedAs keep h w)
+takes-finished : (keep : Bool) (h : Held) (w : Of.Writing) → CallTakes h (finishedAs keep h w)
 unfolding finishedAs
 takes-finished keep h w = go (eqb (w .refusal) 0) keep
   where
@@ -278,4 +278,4 @@ takes-call (ForPair k) h = refl
 takes-call ForWalk h = refl
 takes-call (ForSay output bytes buffer) h = takes-writes _ _ _ (h .request) buffer (h .area) refl
 takes-call (ForEnd output buffer) h = takes-writes _ _ _ (h .request) buffer (h .area) refl
-takes-call (ForFinish status buffer) h = takes-finished (h .request .mark .keep) h (Of.finishIn (h .request) status buffer)
+takes-call (ForFinish status buffer) h = takes-finished (h .request .state .keep) h (Of.finishIn (h .request) status buffer)

@@ -10,7 +10,7 @@ use lib.Dec.{eqb}
 use borrow.Author.Tests.{eq-eqb}
 use Rattle.wire.specs.Test.{byTest}
 use Rattle.wire.specs.Buffer.{zeros}
-use Rattle.occupancy.specs.Word.{taken}
+use Rattle.slot_word.specs.Word.{taken}
 use Rattle.machine.specs.Timeline.{Item}
 use Rattle.machine.specs.Shape.{ItemsOk, ItemsEnd, ItemsMore, SlotOk, WellShaped}
 use Rattle.machine.specs.ShapeKept.{shape-after, shape-fresh, items-all}
@@ -28,7 +28,7 @@ use Rattle.connection.specs.Runs.Receiver.{cleanArea, receiver}
 use Rattle.connection.specs.Runs.ReceiverLaws.{receiver-laws}
 use Rattle.connection.specs.Runs.Loading.{loadedSlot, slotOf}
 use Rattle.connection.specs.Runs.LoadingLaws.{slot-loaded}
-use Rattle.connection.specs.Run.{Memory, Operation, StepOver, CallFor, CountActive, CallResult, finishedBy, called, stepOf, memoryOf, usedOf, leftBy, itemsOf, finalMemory, timeline, startOf, PiecesOk, WholeRun, beginning, ending}
+use Rattle.connection.specs.Run.{Memory, Operation, StepOver, CallFor, CountActive, CallResult, finishedBy, called, stepOf, memoryOf, usedOf, memoryAfter, itemsOf, finalMemory, timeline, startOf, PiecesOk, WholeRun, beginning, ending}
 use Rattle.connection.specs.Runs.LinkingStep.{loadedOf, open-loaded, Steady, step-linked}
 use Rattle.connection.specs.Runs.LinkingCalls.{lent-closed, call-closed, lent-absent, call-absent, lent-found, call-found, refused-call, resultAt, slot-found, found-result, call-linked}
 use Rattle.connection.specs.Runs.LinkingRuns.{run-linked, start-loaded, start-steady}
@@ -43,10 +43,10 @@ pub timeline-ok : (os : List Operation) (m : Memory) → PiecesOk os → ItemsOk
 unfolding timeline itemsOf
 timeline-ok [] m p = ItemsEnd
 timeline-ok (StepOver piece ∷ os) m p =
-    items-append (itemsOf m (StepOver piece)) (timeline (leftBy m (StepOver piece)) os) (items-all receiver (usedOf m piece) (take-bytes (stepOf m piece .used) piece (p .0)))
-    (timeline-ok os (leftBy m (StepOver piece)) (p .1))
-timeline-ok (CallFor id a ∷ os) m p = ItemsMore tt (timeline-ok os (leftBy m (CallFor id a)) p)
-timeline-ok (CountActive ∷ os) m p = ItemsMore tt (timeline-ok os (leftBy m CountActive) p)
+    items-append (itemsOf m (StepOver piece)) (timeline (memoryAfter m (StepOver piece)) os) (items-all receiver (usedOf m piece) (take-bytes (stepOf m piece .used) piece (p .0)))
+    (timeline-ok os (memoryAfter m (StepOver piece)) (p .1))
+timeline-ok (CallFor id a ∷ os) m p = ItemsMore tt (timeline-ok os (memoryAfter m (CallFor id a)) p)
+timeline-ok (CountActive ∷ os) m p = ItemsMore tt (timeline-ok os (memoryAfter m CountActive) p)
 
 -- ---- areas
 -- Of a connection that is open: a free slot's area is all zero, and an active request's area is zero beyond its list.
@@ -96,7 +96,7 @@ closed-step m piece z c = byTest (m .state .conn .«open») when-open when-close
         let r = step-refused (m .state) (m .store) piece (λ a. true-false (sym (admitted-fits (m .state .conn) (m .store) a .is-open) ∙ o)) in
         subst (λ (s : Stepped). ClosedClean (memoryOf s)) (sym r) c
 
-closed-finish : (m : Memory) (i : ℕ) (keep : Bool) (w : Of.Wrote) → m .state .conn .«open» ≡ true → Steady m
+closed-finish : (m : Memory) (i : ℕ) (keep : Bool) (w : Of.Writing) → m .state .conn .«open» ≡ true → Steady m
     → ClosedClean (finishedBy m (C.finishes (m .state .conn) (m .store) i keep w) .memory)
 unfolding C.finishes C.released
 closed-finish m i keep w o z =
@@ -131,11 +131,11 @@ closed-call m id a z c = byTest (m .state .conn .«open») (λ o. when-open o (f
         subst (λ (r : CallResult). ClosedClean (r .memory)) (sym (refused-call m id 0 a (lent-closed m z id o) (call-closed m z id o))) c
 
 closed-run : (os : List Operation) (m : Memory) → Steady m → PiecesOk os → ClosedClean m → ClosedClean (finalMemory m os)
-unfolding finalMemory leftBy
+unfolding finalMemory memoryAfter
 closed-run [] m z p c = c
 closed-run (StepOver piece ∷ os) m z p c =
-    closed-run os (leftBy m (StepOver piece)) (step-linked m piece z (p .0) .steady) (p .1) (closed-step m piece z c)
-closed-run (CallFor id a ∷ os) m z p c = closed-run os (leftBy m (CallFor id a)) (call-linked m id a z .steady) p (closed-call m id a z c)
+    closed-run os (memoryAfter m (StepOver piece)) (step-linked m piece z (p .0) .steady) (p .1) (closed-step m piece z c)
+closed-run (CallFor id a ∷ os) m z p c = closed-run os (memoryAfter m (CallFor id a)) (call-linked m id a z .steady) p (closed-call m id a z c)
 closed-run (CountActive ∷ os) m z p c = closed-run os m z p c
 
 -- ---- refusals

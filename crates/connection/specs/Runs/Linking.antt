@@ -14,9 +14,9 @@ use Rattle.wire.specs.Number.{number2}
 use Rattle.record.specs.Names.{VERSION, BEGIN-REQUEST, GET-VALUES}
 use Rattle.record.specs.Header.{headerOf}
 use Rattle.record.specs.declared.header.Header.{Header}
-use Rattle.reader.specs.Position.{noHeader}
-use Rattle.reader.specs.declared.Position.{Position}
-use Rattle.lists.specs.List.{wellFormed}
+use Rattle.record_reader.specs.Position.{noHeader}
+use Rattle.record_reader.specs.declared.Position.{Position}
+use Rattle.pair_list.specs.List.{wellFormed}
 use Rattle.machine.specs.Slots.{HeldBy}
 use Rattle.machine.specs.Timeline.{headerVersion, headerType, headerId, headerContent, headerPadding}
 use Rattle.machine.specs.Machine.{WrongBegin, NewBegin, PassedOver, QueryTooLong, Notices, Gathers, Skip, Reading, Open, Closed, Observation, NoticeEvent, CloseEvent, Effect, withLeft, queryWhole, queryHeader, managementHeader, inactiveHeader, targetAt, headerDecided, headerFound, headerRouted, headerVersioned, asList}
@@ -29,7 +29,7 @@ use Rattle.connection.specs.Sizes.{AREA, STORE, QUERY}
 use Rattle.connection.specs.Event.{Event}
 use Rattle.connection.specs.Request.{onHeader}
 use Rattle.connection.specs.Slots.{requestAt, heldAt, find, onSlot}
-use Rattle.connection.specs.Step.{State, Left, noBody, openWith, targetIf, behind, reads, closes, queryOf, queried, onManagement, onInactive, dueTo, onActive, judged}
+use Rattle.connection.specs.Step.{State, Left, noBody, openWith, targetIf, frameAfter, reads, closes, queryOf, queried, onManagement, onInactive, dueTo, onActive, judged}
 use Rattle.connection.specs.Bytewise.{notes}
 use Rattle.connection.specs.Laws.SlotsLaws.{Sized, Holds, area-length, find-at}
 use Rattle.connection.specs.Laws.ShapeLaws.{Tidy, InUse}
@@ -113,23 +113,23 @@ module _ (t : Table) (f : Frame) (gathered store : List ℕ) (b : ℕ) where
   abbrev headerAs : ℕ → ℕ → ℕ → ℕ → ℕ → Header
   headerAs v k id n p = record { version = v; kind = k; id = id; content = n; padding = p }
 
-  behind-reading : (v k id n p : ℕ) (target : Aim) → loadedReading (behind (headerAs v k id n p) target) gathered ≡ withLeft receiver (loadedTarget target 0 noBody gathered) n p
+  behind-reading : (v k id n p : ℕ) (target : Aim) → loadedReading (frameAfter (headerAs v k id n p) target) gathered ≡ withLeft receiver (loadedTarget target 0 noBody gathered) n p
   behind-reading v k id n p target = reading-left n p target 0 noBody gathered noHeader 0 refl
 
   -- what is read in silence, or told of nobody
   links-behind : (v k id n p : ℕ) (target : Aim) (e : Event) (o : Option (Observation receiver)) → map Heard (notes e (b ∷ [])) ≡ toldAll (asList receiver o)
-      → Links (reads openAt store (behind (headerAs v k id n p) target) e) b (Open (loadedSlots t store) (withLeft receiver (loadedTarget target 0 noBody gathered) n p), o)
-  links-behind v k id n p target e o h = links-reads (behind (headerAs v k id n p) target) e _ o (behind-reading v k id n p target) h (λ w. refl)
+      → Links (reads openAt store (frameAfter (headerAs v k id n p) target) e) b (Open (loadedSlots t store) (withLeft receiver (loadedTarget target 0 noBody gathered) n p), o)
+  links-behind v k id n p target e o h = links-reads (frameAfter (headerAs v k id n p) target) e _ o (behind-reading v k id n p target) h (λ w. refl)
 
   links-gathering : (v k id n p : ℕ)
-      → Links (if n =? 0 then queried openAt store [] (behind (headerAs v k id n p) Aim.Skip) else reads openAt store (behind (headerAs v k id n p) Aim.Query) Event.None) b
+      → Links (if n =? 0 then queried openAt store [] (frameAfter (headerAs v k id n p) Aim.Skip) else reads openAt store (frameAfter (headerAs v k id n p) Aim.Query) Event.None) b
       (queryHeader receiver n (loadedSlots t store) p)
   unfolding queryHeader withLeft toldAll asList
-  links-gathering v k id zero p = links-queried [] (behind (headerAs v k id 0 p) Aim.Skip) (withLeft receiver Skip 0 p) (behind-reading v k id 0 p Aim.Skip) (λ w. refl)
+  links-gathering v k id zero p = links-queried [] (frameAfter (headerAs v k id 0 p) Aim.Skip) (withLeft receiver Skip 0 p) (behind-reading v k id 0 p Aim.Skip) (λ w. refl)
   links-gathering v k id (suc n) p =
       subst
       (λ (w : Bool).
-      Links (if w then queried openAt store [] (behind (headerAs v k id (suc n) p) Aim.Skip) else reads openAt store (behind (headerAs v k id (suc n) p) Aim.Query) Event.None) b
+      Links (if w then queried openAt store [] (frameAfter (headerAs v k id (suc n) p) Aim.Skip) else reads openAt store (frameAfter (headerAs v k id (suc n) p) Aim.Query) Event.None) b
       (queryHeader receiver (suc n) (loadedSlots t store) p))
       (sym (ne-eqb (suc n) 0 (λ z. omega arith))) (links-behind v k id (suc n) p Aim.Query Event.None none refl)
 
@@ -162,9 +162,9 @@ module _ (t : Table) (f : Frame) (gathered store : List ℕ) (b : ℕ) where
             → Links
             (if a then
             (if c then closes openAt store 13
-            else if n =? 0 then queried openAt store [] (behind (headerAs v kind id n p) Aim.Skip)
-            else reads openAt store (behind (headerAs v kind id n p) Aim.Query) Event.None)
-            else reads openAt store (behind (headerAs v kind id n p) Aim.Skip) (Event.Unknown kind)) b
+            else if n =? 0 then queried openAt store [] (frameAfter (headerAs v kind id n p) Aim.Skip)
+            else reads openAt store (frameAfter (headerAs v kind id n p) Aim.Query) Event.None)
+            else reads openAt store (frameAfter (headerAs v kind id n p) Aim.Skip) (Event.Unknown kind)) b
             (managementHeader receiver (if a then (if c then QueryTooLong else Gathers) else Notices (UnknownType kind)) (loadedSlots t store) h)
         go true true = links-closes 13
         go true false = links-gathering v kind id n p
@@ -176,8 +176,8 @@ module _ (t : Table) (f : Frame) (gathered store : List ℕ) (b : ℕ) where
       where
         go : (a c : Bool)
             → Links
-            (if a then (if c then reads openAt store (behind (headerAs v kind id n p) (Aim.Begin id)) Event.None else closes openAt store 12)
-            else reads openAt store (behind (headerAs v kind id n p) Aim.Skip) Event.None) b
+            (if a then (if c then reads openAt store (frameAfter (headerAs v kind id n p) (Aim.Begin id)) Event.None else closes openAt store 12)
+            else reads openAt store (frameAfter (headerAs v kind id n p) Aim.Skip) Event.None) b
             (inactiveHeader receiver (if a then (if c then NewBegin else WrongBegin) else PassedOver) (loadedSlots t store) h)
         go true true = links-behind v kind id n p (Aim.Begin id) Event.None none refl
         go true false = links-closes 12

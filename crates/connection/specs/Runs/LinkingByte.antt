@@ -11,15 +11,15 @@ use borrow.Author.Tests.{lt-ltb, le-ltb}
 use Rattle.wire.specs.Buffer.{putAt}
 use Rattle.wire.specs.BufferLaws.{put-length}
 use Rattle.record.specs.Header.{headerOf}
-use Rattle.reader.specs.Position.{heldAnd}
-use Rattle.reader.specs.declared.Position.{Position}
+use Rattle.record_reader.specs.Position.{heldAnd}
+use Rattle.record_reader.specs.declared.Position.{Position}
 use Rattle.machine.specs.Timeline.{ByteItem}
 use Rattle.machine.specs.Machine.{Skip, AtHeader, withLeft, headerByte, recordByte, onItem, asList}
 use Rattle.connection.specs.declared.state.Table.{Table}
 use Rattle.connection.specs.declared.state.Target.{Target as Aim}
 use Rattle.connection.specs.declared.state.Frame.{Frame}
 use Rattle.connection.specs.Event.{Event}
-use Rattle.connection.specs.Step.{State, Left, leaves, moved, reads, judged, onTarget, advances, stepped}
+use Rattle.connection.specs.Step.{State, Left, leaves, frameAt, reads, judged, onTarget, advances, stepped}
 use Rattle.connection.specs.Laws.ShapeLaws.{Shaped, shaped}
 use Rattle.connection.specs.Laws.Progress.{Fits, fits-admitted, lessContent, lessPadding, in-content, in-padding, in-header, in-part, in-whole, by-header, step-advances}
 use Rattle.connection.specs.Laws.StepSizes.{Sizes}
@@ -43,20 +43,20 @@ module _ (st : State) (store : List ℕ) (b : ℕ) (fits : Fits (st .conn) store
       ∙ ap (advances st store (b ∷ [])) (in-content pos (b ∷ []) some)
       ∙ ap (λ (n : ℕ). leaves n (onTarget (st .conn .frame .target) st store (take n (b ∷ [])) (lessContent pos n))) m
 
-  step-padding : pos .content ≡ 0 → 0 < pos .padding → stepped st store (b ∷ []) ≡ leaves 1 (reads st store (moved (st .conn .frame) (lessPadding pos 1)) Event.None)
+  step-padding : pos .content ≡ 0 → 0 < pos .padding → stepped st store (b ∷ []) ≡ leaves 1 (reads st store (frameAt (st .conn .frame) (lessPadding pos 1)) Event.None)
   unfolding advances
   step-padding z some =
       let m : min (pos .padding) (length (b ∷ [])) ≡ 1 = omega arith in
       step-advances st store (b ∷ []) (fits-admitted (st .conn) store fits) (omega arith)
       ∙ ap (advances st store (b ∷ [])) (in-padding pos (b ∷ []) z some)
-      ∙ ap (λ (n : ℕ). leaves n (reads st store (moved (st .conn .frame) (lessPadding pos n)) Event.None)) m
+      ∙ ap (λ (n : ℕ). leaves n (reads st store (frameAt (st .conn .frame) (lessPadding pos n)) Event.None)) m
 
   -- the position in a header with the byte
   abbrev withByte : Position
   withByte = record { content = 0; padding = 0; held = pos .held + length (b ∷ []); header = putAt (pos .header) (pos .held) (b ∷ []) }
 
   step-part : pos .content ≡ 0 → pos .padding ≡ 0 → pos .held + length (b ∷ []) < 8
-      → stepped st store (b ∷ []) ≡ leaves 1 (reads st store (moved (st .conn .frame) withByte) Event.None)
+      → stepped st store (b ∷ []) ≡ leaves 1 (reads st store (frameAt (st .conn .frame) withByte) Event.None)
   unfolding advances
   step-part z w room =
       step-advances st store (b ∷ []) (fits-admitted (st .conn) store fits) (omega arith)
@@ -122,7 +122,7 @@ module _ (t : Table) (held : ℕ) (header : List ℕ) (target : Aim) (n : ℕ) (
       record {
         left = reads s store f′ Event.None;
         is = step-padding s store b fits refl (omega arith)
-            ∙ ap (λ k. leaves 1 (reads s store (moved (s .conn .frame) (record { content = 0; padding = k; held = held; header = header })) Event.None)) e;
+            ∙ ap (λ k. leaves 1 (reads s store (frameAt (s .conn .frame) (record { content = 0; padding = k; held = held; header = header })) Event.None)) e;
         links = links-reads t (s .conn .frame) gathered store b f′ Event.None (withLeft receiver Skip 0 pad) none (padding-reading pad none-held) refl (λ w. none-held);
       }
 
@@ -142,7 +142,7 @@ module _ (t : Table) (held : ℕ) (header : List ℕ) (target : Aim) (n : ℕ) (
 
       part : held + length (b ∷ []) < 8 → LinkedByte (standingAt 0 0) store b
       part room =
-          let f′ : Frame = moved (st .conn .frame) (record { content = 0; padding = 0; held = held + length (b ∷ []); header = putAt header held (b ∷ []) }) in
+          let f′ : Frame = frameAt (st .conn .frame) (record { content = 0; padding = 0; held = held + length (b ∷ []); header = putAt header held (b ∷ []) }) in
           record {
             left = reads st store f′ Event.None;
             is = step-part st store b fits refl refl room;

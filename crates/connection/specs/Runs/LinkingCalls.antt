@@ -30,8 +30,8 @@ use Rattle.connection.specs.Arguments.{Argument, ForValue, ForSource, Fo
 use Rattle.connection.specs.Runs.Receiver.{receiver, writtenAs, finishedAs, receiveCall}
 use Rattle.connection.specs.Runs.ReceiverLaws.{SameList, say-same, end-same}
 use Rattle.connection.specs.Runs.Loading.{loadedSlots, loadedTarget, readingAt, loadedReading, loadedWhen}
-use Rattle.connection.specs.Runs.LoadingLaws.{loaded-kept, loaded-marks, loaded-free, foundAs, lookup-loaded}
-use Rattle.connection.specs.Run.{Memory, CallFor, CountActive, requestOf, CallResult, unchanged, changedBy, finishedBy, called, leftBy, seenIn, itemsOf}
+use Rattle.connection.specs.Runs.LoadingLaws.{loaded-kept, loaded-states, loaded-free, foundAs, lookup-loaded}
+use Rattle.connection.specs.Run.{Memory, CallFor, CountActive, requestOf, CallResult, unchanged, changedBy, finishedBy, called, memoryAfter, seenIn, itemsOf}
 use Rattle.connection.specs.Runs.Telling.{toldAll}
 use Rattle.connection.specs.Runs.LinkingStep.{loadedOf, Steady, Linked}
 use Rattle.connection.specs.Runs.CallShape.{withRequest, steady-put, free-holds, withoutRequest, steady-free, closedMemory, steady-closed}
@@ -155,7 +155,7 @@ module _ (t : Table) (f : Frame) (gathered store : List ℕ) (z : Steady (memory
         }
 
     -- a call that writes
-    writes : (w : Of.Wrote) → SameList (requestAt t i) (w .request)
+    writes : (w : Of.Writing) → SameList (requestAt t i) (w .request)
         → Agrees memory id a (changedBy memory (C.writtenBy (openWith t f) i w)) (callDecided receiver (writtenAs own w) i own id a slots reading)
     unfolding callDecided loadedWhen
     writes w same =
@@ -163,7 +163,7 @@ module _ (t : Table) (f : Frame) (gathered store : List ℕ) (z : Steady (memory
         let back : heldAt (putRequest t i r) store i ≡ record { request = r; area = areaAt store i } =
         ap (λ x. record { request = x; area = areaAt store i }) (request-of-put t i r (z .sizes .table) (holds .low)) in
         record {
-          state = ap (λ x. Open x reading) (loaded-marks t store i r (z .sizes .table) (z .sizes .full) in-use
+          state = ap (λ x. Open x reading) (loaded-states t store i r (z .sizes .table) (z .sizes .full) in-use
               ∙ ap (λ k. set slots i (HeldBy k (record { request = r; area = areaAt store i }))) (same .id ∙ own-id));
           tells = ap₂ (λ x y. some (CallAnswer id a (Wrote (w .refusal) (w .written) (w .buffer)) x y)) (some-found memory id i refl found)
               (some-found (withRequest memory i r) id i refl (find-put t i r id (same .id) ∙ found) ∙ ap some back);
@@ -196,7 +196,7 @@ module _ (t : Table) (f : Frame) (gathered store : List ℕ) (z : Steady (memory
           steady = steady-closed memory z;
         }
 
-    finishes : (keep : Bool) (w : Of.Wrote) → Agrees memory id a (finishedBy memory (C.finishes (openWith t f) store i keep w)) (callDecided receiver (finishedAs keep own w) i own id a slots reading)
+    finishes : (keep : Bool) (w : Of.Writing) → Agrees memory id a (finishedBy memory (C.finishes (openWith t f) store i keep w)) (callDecided receiver (finishedAs keep own w) i own id a slots reading)
     unfolding C.finishes finishedAs
     finishes keep w = go (eqb (w .refusal) 0) keep
       where
@@ -225,7 +225,7 @@ resultAt m i (ForSay output bytes buffer) = changedBy m (C.writtenBy (m .state .
 resultAt m i (ForEnd output buffer) = changedBy m (C.writtenBy (m .state .conn) i (Of.endIn (requestAt (m .state .conn .table) i) output buffer))
 resultAt m i (ForFinish status buffer) =
     finishedBy m
-    (C.finishes (m .state .conn) (m .store) i (requestAt (m .state .conn .table) i .mark .keep) (Of.finishIn (requestAt (m .state .conn .table) i) status buffer))
+    (C.finishes (m .state .conn) (m .store) i (requestAt (m .state .conn .table) i .state .keep) (Of.finishIn (requestAt (m .state .conn .table) i) status buffer))
 
 -- the slot of an id that is found
 pub slot-found : (c : Conn) (id i : ℕ) → find (c .table) id ≡ Slot.At i → C.slotOf c id ≡ i
@@ -257,7 +257,7 @@ agrees-found t f gathered store z id i (ForSay output bytes buffer) e =
 agrees-found t f gathered store z id i (ForEnd output buffer) e =
     writes t f gathered store z id (ForEnd output buffer) i e (Of.endIn (requestAt t i) output buffer) (end-same (requestAt t i) output buffer)
 agrees-found t f gathered store z id i (ForFinish status buffer) e =
-    finishes t f gathered store z id (ForFinish status buffer) i e (requestAt t i .mark .keep) (Of.finishIn (requestAt t i) status buffer)
+    finishes t f gathered store z id (ForFinish status buffer) i e (requestAt t i .state .keep) (Of.finishIn (requestAt t i) status buffer)
 
 -- a call on an open connection
 agrees-open : (t : Table) (f : Frame) (gathered store : List ℕ) → Steady (memoryAt t f gathered store) → (id : ℕ) (a : Argument) (s : Slot) → find t id ≡ s
@@ -307,7 +307,7 @@ agrees m id a = go (m .state .conn .«open»)
 
 -- A call.
 pub call-linked : (m : Memory) (id : ℕ) (a : Argument) → Steady m → Linked m (CallFor id a)
-unfolding leftBy seenIn itemsOf stateAfter observations toldAll asList
+unfolding memoryAfter seenIn itemsOf stateAfter observations toldAll asList
 call-linked m id a z =
     let k = agrees m id a z in
     record {
@@ -318,7 +318,7 @@ call-linked m id a z =
 
 -- The active number.
 pub count-linked : (m : Memory) → Steady m → Linked m CountActive
-unfolding leftBy seenIn itemsOf stateAfter observations toldAll asList onItem
+unfolding memoryAfter seenIn itemsOf stateAfter observations toldAll asList onItem
 count-linked m z = go (loadedOf m) refl
   where
     go : (s : Connection receiver) → loadedOf m ≡ s → Linked m CountActive

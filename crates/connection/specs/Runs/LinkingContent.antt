@@ -15,7 +15,7 @@ use Rattle.wire.specs.BufferLaws.{copied-room}
 use Rattle.record.specs.Names.{RESPONDER, AUTHORIZER, FILTER, OVERLOADED, UNKNOWN-ROLE}
 use Rattle.record.specs.Body.{beginBodyOf}
 use Rattle.record.specs.declared.body.BeginBody.{BeginBody}
-use Rattle.reader.specs.declared.Position.{Position}
+use Rattle.record_reader.specs.declared.Position.{Position}
 use Rattle.machine.specs.Slots.{HeldBy, VacancyAt, NoVacancy}
 use Rattle.machine.specs.Machine.{Declined, Skip, ToBegin, ToQuery, ToSlot, Reading, PastHeader, Slots, Open, RequestEvent, withLeft, requestSeated, beginWhole, queryWhole, streamByte, contentByte, asList}
 use Rattle.machine.specs.RunLaws.{padding-skipped}
@@ -26,10 +26,10 @@ use Rattle.connection.specs.declared.state.Target.{Target as Aim}
 use Rattle.connection.specs.declared.state.Frame.{Frame}
 use Rattle.connection.specs.Sizes.{SLOTS, AREA, STORE, QUERY}
 use Rattle.connection.specs.Event.{Event}
-use Rattle.connection.specs.Numbers.{roleNumber}
+use Rattle.connection.specs.Codes.{roleNumber}
 use Rattle.connection.specs.Request.{Held, grown, onContent, opened}
 use Rattle.connection.specs.Slots.{requestAt, areaAt, heldAt, takeSlot, freeSlotOf}
-use Rattle.connection.specs.Step.{State, noBody, openWith, within, reads, queried, opens, begun, ofBegin, ofQuery, ofRequest, onTarget}
+use Rattle.connection.specs.Step.{State, noBody, openWith, frameWithin, reads, queried, opens, begun, ofBegin, ofQuery, ofRequest, onTarget}
 use Rattle.connection.specs.Bytewise.{Note}
 use Rattle.connection.specs.Laws.SlotsLaws.{Sized, area-length}
 use Rattle.connection.specs.Laws.ShapeLaws.{InUse, Aimed}
@@ -40,7 +40,7 @@ use Rattle.connection.specs.Runs.LoadingLaws.{taken-loaded, loaded-put, 
 use Rattle.connection.specs.Runs.Telling.{toldAll, byte-told}
 use Rattle.connection.specs.Runs.Linking.{HeaderUsed, Links, openAt, reading-left, links-reads, links-queried}
 
--- bytes put behind those gathered
+-- bytes put after those gathered
 pub gathers-more : (g : List ℕ) (n : ℕ) (x : List ℕ) → n + length x ≤ length g → take (n + length x) (copied g n x) ≡ take n g ++ x
 gathers-more g n x room =
     let l : length (take n g ++ x) ≡ n + length x = omega (arith, length-append (take n g) x, length-take-le n g (omega arith)) in
@@ -136,19 +136,19 @@ module _ (t : Table) (p : Position) (n : ℕ) (body gathered store : List ℕ) (
 
   -- ---- one byte; what is left is c content bytes and so much padding
   module _ (pad held : ℕ) (header : List ℕ) (none-held : held ≡ 0) where
-    -- the position behind the byte
+    -- the position after the byte
     abbrev behindByte : ℕ → Position
     behindByte c = record { content = c; padding = pad; held = held; header = header }
 
     -- a frame there
     within-reading : (c : ℕ) (target : Aim) (m : ℕ) (body′ gathered′ : List ℕ)
-        → loadedReading (within (frameFor target) (behindByte c) m body′) gathered′ ≡ withLeft receiver (loadedTarget target m body′ gathered′) c pad
+        → loadedReading (frameWithin (frameFor target) (behindByte c) m body′) gathered′ ≡ withLeft receiver (loadedTarget target m body′ gathered′) c pad
     within-reading c target m body′ gathered′ = reading-left c pad target m body′ gathered′ header held none-held
 
     links-skip : (c : ℕ) → Links (onTarget Aim.Skip (openAt t (frameFor Aim.Skip) gathered store b) store (b ∷ []) (behindByte c)) b (contentByte receiver Skip c pad b slots)
     unfolding contentByte toldAll asList
     links-skip c =
-        links-reads t (frameFor Aim.Skip) gathered store b (within (frameFor Aim.Skip) (behindByte c) n body) Event.None (withLeft receiver Skip c pad) none
+        links-reads t (frameFor Aim.Skip) gathered store b (frameWithin (frameFor Aim.Skip) (behindByte c) n body) Event.None (withLeft receiver Skip c pad) none
         (within-reading c Aim.Skip n body gathered) refl (λ w. none-held)
 
     links-begin : (c id : ℕ) → length body ≡ 8 → n + suc c ≡ 8
@@ -156,21 +156,21 @@ module _ (t : Table) (p : Position) (n : ℕ) (body gathered store : List ℕ) (
     unfolding ofBegin contentByte withLeft toldAll asList
     links-begin zero id eight all =
         subst
-        (λ whole. Links (begun (openAt t (frameFor (Aim.Begin id)) gathered store b) store id (beginBodyOf (copied body n (b ∷ []))) (within (frameFor (Aim.Begin id)) (behindByte 0) 0 noBody)) b
+        (λ whole. Links (begun (openAt t (frameFor (Aim.Begin id)) gathered store b) store id (beginBodyOf (copied body n (b ∷ []))) (frameWithin (frameFor (Aim.Begin id)) (behindByte 0) 0 noBody)) b
         (beginWhole receiver (receiveBegin id whole) id slots (withLeft receiver Skip zero pad)))
         (gathers-all body n (b ∷ []) (omega arith))
-        (links-begun (Aim.Begin id) id (within (frameFor (Aim.Begin id)) (behindByte 0) 0 noBody) (withLeft receiver Skip zero pad)
+        (links-begun (Aim.Begin id) id (frameWithin (frameFor (Aim.Begin id)) (behindByte 0) 0 noBody) (withLeft receiver Skip zero pad)
         (within-reading 0 (Aim.Begin id) 0 noBody gathered ∙ padding-skipped receiver (ToBegin id []) pad) (λ w. none-held) (copied body n (b ∷ [])))
     links-begin (suc c) id eight all =
         let before = openAt t (frameFor (Aim.Begin id)) gathered store b in
         let more = copied body n (b ∷ []) in
         subst
         (λ (w : Bool).
-        Links (if w then begun before store id (beginBodyOf more) (within (frameFor (Aim.Begin id)) (behindByte (suc c)) 0 noBody)
-        else reads before store (within (frameFor (Aim.Begin id)) (behindByte (suc c)) (n + length (b ∷ [])) more) Event.None) b
+        Links (if w then begun before store id (beginBodyOf more) (frameWithin (frameFor (Aim.Begin id)) (behindByte (suc c)) 0 noBody)
+        else reads before store (frameWithin (frameFor (Aim.Begin id)) (behindByte (suc c)) (n + length (b ∷ [])) more) Event.None) b
         (Open slots (PastHeader (ToBegin id (take n body ++ b ∷ [])) (suc c) pad), none))
         (sym (ne-eqb (suc c) 0 (λ z. omega arith)))
-        (links-reads t (frameFor (Aim.Begin id)) gathered store b (within (frameFor (Aim.Begin id)) (behindByte (suc c)) (n + length (b ∷ [])) more) Event.None
+        (links-reads t (frameFor (Aim.Begin id)) gathered store b (frameWithin (frameFor (Aim.Begin id)) (behindByte (suc c)) (n + length (b ∷ [])) more) Event.None
         (PastHeader (ToBegin id (take n body ++ b ∷ [])) (suc c) pad) none
         (within-reading (suc c) (Aim.Begin id) (n + length (b ∷ [])) more gathered
         ∙ ap (λ g. PastHeader (ToBegin id g) (suc c) pad) (gathers-more body n (b ∷ []) (omega arith)))
@@ -182,21 +182,21 @@ module _ (t : Table) (p : Position) (n : ℕ) (body gathered store : List ℕ) (
     links-query zero size room =
         let more = copied gathered n (b ∷ []) in
         subst
-        (λ list. Links (queried (openAt t (frameFor Aim.Query) more store b) store (take (n + length (b ∷ [])) more) (within (frameFor Aim.Query) (behindByte 0) 0 body)) b
+        (λ list. Links (queried (openAt t (frameFor Aim.Query) more store b) store (take (n + length (b ∷ [])) more) (frameWithin (frameFor Aim.Query) (behindByte 0) 0 body)) b
         (queryWhole receiver (receiveQuery list) slots (withLeft receiver Skip zero pad)))
         (gathers-more gathered n (b ∷ []) (omega arith))
-        (links-queried t (frameFor Aim.Query) more store b (take (n + length (b ∷ [])) more) (within (frameFor Aim.Query) (behindByte 0) 0 body) (withLeft receiver Skip zero pad)
+        (links-queried t (frameFor Aim.Query) more store b (take (n + length (b ∷ [])) more) (frameWithin (frameFor Aim.Query) (behindByte 0) 0 body) (withLeft receiver Skip zero pad)
         (within-reading 0 Aim.Query 0 body more ∙ padding-skipped receiver (ToQuery []) pad) (λ w. none-held))
     links-query (suc c) size room =
         let more = copied gathered n (b ∷ []) in
         let after = openAt t (frameFor Aim.Query) more store b in
         subst
         (λ (w : Bool).
-        Links (if w then queried after store (take (n + length (b ∷ [])) more) (within (frameFor Aim.Query) (behindByte (suc c)) 0 body)
-        else reads after store (within (frameFor Aim.Query) (behindByte (suc c)) (n + length (b ∷ [])) body) Event.None) b
+        Links (if w then queried after store (take (n + length (b ∷ [])) more) (frameWithin (frameFor Aim.Query) (behindByte (suc c)) 0 body)
+        else reads after store (frameWithin (frameFor Aim.Query) (behindByte (suc c)) (n + length (b ∷ [])) body) Event.None) b
         (Open slots (PastHeader (ToQuery (take n gathered ++ b ∷ [])) (suc c) pad), none))
         (sym (ne-eqb (suc c) 0 (λ z. omega arith)))
-        (links-reads t (frameFor Aim.Query) more store b (within (frameFor Aim.Query) (behindByte (suc c)) (n + length (b ∷ [])) body) Event.None
+        (links-reads t (frameFor Aim.Query) more store b (frameWithin (frameFor Aim.Query) (behindByte (suc c)) (n + length (b ∷ [])) body) Event.None
         (PastHeader (ToQuery (take n gathered ++ b ∷ [])) (suc c) pad) none
         (within-reading (suc c) Aim.Query (n + length (b ∷ [])) body more
         ∙ ap (λ g. PastHeader (ToQuery g) (suc c) pad) (gathers-more gathered n (b ∷ []) (omega arith)))

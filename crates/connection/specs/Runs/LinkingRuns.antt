@@ -10,7 +10,7 @@ use lib.Dec.{eqb}
 use borrow.Author.Tests.{eq-eqb}
 use Rattle.wire.specs.Test.{byTest}
 use Rattle.wire.specs.Buffer.{zeros}
-use Rattle.occupancy.specs.Word.{taken}
+use Rattle.slot_word.specs.Word.{taken}
 use Rattle.machine.specs.Machine.{AtHeader, Open, Closed, fresh, Target, stateAfter, observations, requestFound, requestIn}
 use Rattle.machine.specs.RunLaws.{state-append, observations-append}
 use Rattle.machine.specs.Isolation as Generic
@@ -24,7 +24,7 @@ use Rattle.connection.specs.Laws.StepSizes.{start-sizes}
 use Rattle.connection.specs.Runs.Receiver.{cleanArea, receiver}
 use Rattle.connection.specs.Runs.Loading.{elements, loadedSlot, slotOf, loadedSlots, readingAt, loadedReading, loadedWhen}
 use Rattle.connection.specs.Runs.LoadingLaws.{foundAs, lookup-loaded}
-use Rattle.connection.specs.Run.{Memory, Operation, StepOver, CallFor, CountActive, requestOf, leftBy, itemsOf, finalMemory, allSeen, timeline, startOf, PiecesOk}
+use Rattle.connection.specs.Run.{Memory, Operation, StepOver, CallFor, CountActive, requestOf, memoryAfter, itemsOf, finalMemory, allSeen, timeline, startOf, PiecesOk}
 use Rattle.connection.specs.Runs.Telling.{toldAll, told-append}
 use Rattle.connection.specs.Runs.LinkingStep.{loadedOf, open-loaded, closed-loaded, Steady, Linked, step-linked}
 use Rattle.connection.specs.Runs.LinkingCalls.{call-linked, count-linked}
@@ -36,11 +36,11 @@ pub record LinkedRun (m : Memory) (os : List Operation) : Type 0 where
   pub tells : allSeen m os ≡ toldAll (observations receiver (loadedOf m) (timeline m os))
   pub steady : Steady (finalMemory m os)
 
-run-more : (m : Memory) (o : Operation) (os : List Operation) → Linked m o → LinkedRun (leftBy m o) os → LinkedRun m (o ∷ os)
+run-more : (m : Memory) (o : Operation) (os : List Operation) → Linked m o → LinkedRun (memoryAfter m o) os → LinkedRun m (o ∷ os)
 unfolding finalMemory allSeen timeline
 run-more m o os k i =
     let t = itemsOf m o in
-    let u = timeline (leftBy m o) os in
+    let u = timeline (memoryAfter m o) os in
     record {
       state = i .state ∙ ap (λ w. stateAfter receiver w u) (k .state) ∙ sym (state-append receiver (loadedOf m) t u);
       tells =
@@ -56,13 +56,13 @@ unfolding finalMemory allSeen timeline stateAfter observations toldAll
 run-linked [] m z p = record { state = refl; tells = refl; steady = z }
 run-linked (StepOver piece ∷ os) m z p =
     let k = step-linked m piece z (p .0) in
-    run-more m (StepOver piece) os k (run-linked os (leftBy m (StepOver piece)) (k .steady) (p .1))
+    run-more m (StepOver piece) os k (run-linked os (memoryAfter m (StepOver piece)) (k .steady) (p .1))
 run-linked (CallFor id a ∷ os) m z p =
     let k = call-linked m id a z in
-    run-more m (CallFor id a) os k (run-linked os (leftBy m (CallFor id a)) (k .steady) p)
+    run-more m (CallFor id a) os k (run-linked os (memoryAfter m (CallFor id a)) (k .steady) p)
 run-linked (CountActive ∷ os) m z p =
     let k = count-linked m z in
-    run-more m CountActive os k (run-linked os (leftBy m CountActive) (k .steady) p)
+    run-more m CountActive os k (run-linked os (memoryAfter m CountActive) (k .steady) p)
 
 -- ---- a start
 fresh-loaded : (gathered : List ℕ) → loadedWhen true noRequests noFrame gathered (zeros STORE) ≡ fresh receiver SLOTS

@@ -18,7 +18,7 @@ use Rattle.connection.specs.Laws.StepSizes.{Sizes, sizes-stay}
 use Rattle.connection.specs.Laws.Cutting.{step-by-byte}
 use Rattle.connection.specs.Runs.Receiver.{receiver}
 use Rattle.connection.specs.Runs.Loading.{loadedSlots, loadedReading, loadedWhen, loaded}
-use Rattle.connection.specs.Run.{Memory, Operation, StepOver, Heard, stepOf, memoryOf, usedOf, leftBy, seenIn, itemsOf}
+use Rattle.connection.specs.Run.{Memory, Operation, StepOver, Heard, stepOf, memoryOf, usedOf, memoryAfter, seenIn, itemsOf}
 use Rattle.connection.specs.Runs.Telling.{toldAll, told-append}
 use Rattle.connection.specs.Runs.Linking.{HeaderUsed}
 use Rattle.connection.specs.Runs.LinkingByte.{byte-linked}
@@ -125,13 +125,13 @@ bytes-linked (b ∷ x) m z all =
 -- ---- one operation
 -- An operation of a run is its items on the machine, and it keeps the memory steady.
 pub record Linked (m : Memory) (o : Operation) : Type 0 where
-  pub state : loadedOf (leftBy m o) ≡ stateAfter receiver (loadedOf m) (itemsOf m o)
+  pub state : loadedOf (memoryAfter m o) ≡ stateAfter receiver (loadedOf m) (itemsOf m o)
   pub tells : seenIn m o ≡ toldAll (observations receiver (loadedOf m) (itemsOf m o))
-  pub steady : Steady (leftBy m o)
+  pub steady : Steady (memoryAfter m o)
 
 -- A step.
 pub step-linked : (m : Memory) (piece : List ℕ) → Steady m → AllBytes piece → Linked m (StepOver piece)
-unfolding leftBy seenIn itemsOf
+unfolding memoryAfter seenIn itemsOf
 step-linked m piece z all =
     let x = usedOf m piece in
     let e : single (stepOf m piece) x ≡ ranOf m x = step-by-byte (m .state) (m .store) piece (z .sizes) in

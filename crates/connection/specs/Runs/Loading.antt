@@ -5,7 +5,7 @@ use mathlib.Core.Bool.{Bool, true, false}
 use Prim.Native.Nat.{ℕ, zero, suc, _+_, _≤_, _<_}
 use native.Mathlib.Omega.{arith}
 use lib.ListN.{getD, take, set}
-use Rattle.occupancy.specs.Word.{taken}
+use Rattle.slot_word.specs.Word.{taken}
 use Rattle.machine.specs.Slots.{SlotState, Vacant, HeldBy}
 use Rattle.machine.specs.Machine.{Target, Skip, ToBegin, ToQuery, ToSlot, Reading, AtHeader, PastHeader, Slots, Connection, Open, Closed}
 use Rattle.connection.specs.declared.request.Request.{Request}

@@ -11,8 +11,8 @@ use lib.Dec.{eqb, ltb}
 use borrow.Author.Tests.{eqb-true, eqb-false, lt-ltb, le-ltb}
 use Rattle.wire.specs.Test.{if_then_else_, _<?_, byTest}
 use Rattle.wire.specs.Buffer.{zeros}
-use Rattle.occupancy.specs.Word.{taken, lowestFree}
-use Rattle.occupancy.specs.WordLaws.{least-free, least-below}
+use Rattle.slot_word.specs.Word.{taken, lowestFree}
+use Rattle.slot_word.specs.WordLaws.{least-free, least-below}
 use Rattle.machine.specs.Slots.{Vacant, HeldBy, Lookup, Absent, FoundAt, NoVacancy, VacancyAt, lookup, lookupFurther, firstVacancy, vacancyFurther, slotAt}
 use Rattle.connection.specs.declared.request.Request.{Request}
 use Rattle.connection.specs.declared.state.Table.{Table}
@@ -64,9 +64,9 @@ loaded-put t store i h sized full u n =
     here = rw (request-of-put t i (h .request) sized (u .low), area-of-put store i (h .area) full (u .low) n, put-occupied t i (h .request), u .is-taken)
 
 -- a request put back alone
-pub loaded-marks : (t : Table) (store : List ℕ) (i : ℕ) (r : Request) → Sized t → length store ≡ STORE → InUse t i
+pub loaded-states : (t : Table) (store : List ℕ) (i : ℕ) (r : Request) → Sized t → length store ≡ STORE → InUse t i
     → loadedSlots (putRequest t i r) store ≡ set (loadedSlots t store) i (HeldBy (r .id) (record { request = r; area = areaAt store i }))
-loaded-marks t store i r sized full u =
+loaded-states t store i r sized full u =
     ap (loadedSlots (putRequest t i r)) (sym (area-put-same store i))
     ∙ loaded-put t store i (record { request = r; area = areaAt store i }) sized full u (area-length store i full (u .low))
 

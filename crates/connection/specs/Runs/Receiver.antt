@@ -8,13 +8,13 @@ use Rattle.wire.specs.Buffer.{zeros}
 use Rattle.record.specs.Names.{BEGIN-REQUEST, GET-VALUES, OVERLOADED, UNKNOWN-ROLE}
 use Rattle.record.specs.Body.{beginBodyOf}
 use Rattle.record.specs.declared.body.BeginBody.{BeginBody}
-use Rattle.lists.specs.List.{wellFormed}
+use Rattle.pair_list.specs.List.{wellFormed}
 use Rattle.machine.specs.Machine.{HeaderOutcome, Decided, BeginOutcome, Declined, Accepted, CallOutcome, Stays, Leaves, Closes, InactiveOutcome, WrongBegin, NewBegin, PassedOver, ManagementOutcome, QueryTooLong, Notices, Gathers, Machine}
 use Rattle.connection.specs.declared.request.Due.{Due}
 use Rattle.connection.specs.declared.request.Role.{Role}
 use Rattle.connection.specs.Sizes.{AREA, QUERY}
 use Rattle.connection.specs.Event.{Event}
-use Rattle.connection.specs.Numbers.{roleNumber}
+use Rattle.connection.specs.Codes.{roleNumber}
 use Rattle.connection.specs.Request.{Held, Ruled, onHeader, onContent, opened}
 use Rattle.connection.specs.RequestCalls as Of
 use Rattle.connection.specs.Step.{queryOf, onRole}
@@ -95,12 +95,12 @@ receiveInactive kind n = if kind =? BEGIN-REQUEST then (if n =? 8 then NewBegin 
 
 -- ---- calls
 -- a call that writes
-abbrev pub writtenAs : Held → Of.Wrote → CallOutcome Held Answer
+abbrev pub writtenAs : Held → Of.Writing → CallOutcome Held Answer
 writtenAs h w =
     Stays (record { request = w .request; area = h .area }) (Wrote (w .refusal) (w .written) (w .buffer))
 
 -- finish: with KEEP_CONN the request leaves, without it the connection closes
-unfoldable pub finishedAs : Bool → Held → Of.Wrote → CallOutcome Held Answer
+unfoldable pub finishedAs : Bool → Held → Of.Writing → CallOutcome Held Answer
 finishedAs keep h w =
     if w .refusal =? 0 then
     (if keep then Leaves (FinishedWith 0 (w .written) false (w .buffer)) else Closes (FinishedWith 0 (w .written) true (w .buffer)))
@@ -114,7 +114,7 @@ receiveCall (ForPair k) h = Stays h (PairAnswer (Of.pairIn h k))
 receiveCall ForWalk h = Stays h (WalkIs (Of.walkIn h))
 receiveCall (ForSay output bytes buffer) h = writtenAs h (Of.sayIn (h .request) output bytes buffer)
 receiveCall (ForEnd output buffer) h = writtenAs h (Of.endIn (h .request) output buffer)
-receiveCall (ForFinish status buffer) h = finishedAs (h .request .mark .keep) h (Of.finishIn (h .request) status buffer)
+receiveCall (ForFinish status buffer) h = finishedAs (h .request .state .keep) h (Of.finishIn (h .request) status buffer)
 
 -- The machine. Refused by 3 where the id is not active, by 1 where the connection is closed.
 abbrev pub receiver : Machine

@@ -73,12 +73,12 @@ module _ (n : ℕ) (h : Held) where
       (λ a. byTest (eqb kind ABORT-REQUEST)
       (λ b. simp (a, b) (inl (refl, refl)))
       (λ b. byTest (isInput kind)
-      (λ i. byTest (eqb kind (turnType (h .request .mark .turn))) (λ e. simp (a, b, i, e) (area-turn (h .request .mark .turn))) (λ e. simp (a, b, i, e) (area-faulted 22)))
+      (λ i. byTest (eqb kind (turnType (h .request .state .turn))) (λ e. simp (a, b, i, e) (area-turn (h .request .state .turn))) (λ e. simp (a, b, i, e) (area-faulted 22)))
       (λ i. simp (a, b, i) (area-faulted 23))))
 
   pub area-header : (kind : ℕ) → KeepsOrZeroes h (onHeader kind n h .held)
   unfolding onHeader
-  area-header kind = byTest (isSpent (h .request .mark .life)) (λ e. simp e (inl (refl, refl))) (λ e. simp e (area-live kind))
+  area-header kind = byTest (isSpent (h .request .state .life)) (λ e. simp e (inl (refl, refl))) (λ e. simp e (area-live kind))
 
 -- An area keeps its length.
 pub same-length : (h q : Held) → KeepsOrZeroes h q → length (q .area) ≡ length (h .area)
@@ -188,7 +188,7 @@ pub end-same : (r : Request) (output : Output) (buffer : List ℕ) → SameList 
 unfolding Of.endIn Of.endedOn
 end-same r output buffer = writes-same _ _ _ r buffer (record { id = refl; length = refl })
 
-written-ok : (h : Held) (w : Of.Wrote) → RequestOk h → SameList (h .request) (w .request) → CallOutcomeOk RequestOk StreamOk h (writtenAs h w)
+written-ok : (h : Held) (w : Of.Writing) → RequestOk h → SameList (h .request) (w .request) → CallOutcomeOk RequestOk StreamOk h (writtenAs h w)
 written-ok h w f s = (ok-same h (record { request = w .request; area = h .area }) (s .length) refl f, room-same)
   where
     room-same : (due : Due) (n : ℕ) → StreamOk due n h → Room due (w .request .length) n
@@ -197,7 +197,7 @@ written-ok h w f s = (ok-same h (record { request = w .request; area = h .area }
     room-same Due.Stdin n r = tt
     room-same Due.Data n r = tt
 
-finished-ok : (keep : Bool) (h : Held) (w : Of.Wrote) → RequestOk h → CallOutcomeOk RequestOk StreamOk h (finishedAs keep h w)
+finished-ok : (keep : Bool) (h : Held) (w : Of.Writing) → RequestOk h → CallOutcomeOk RequestOk StreamOk h (finishedAs keep h w)
 unfolding finishedAs
 finished-ok keep h w f = go (eqb (w .refusal) 0) keep
   where
@@ -218,7 +218,7 @@ call-ok (ForPair k) h f = (f, λ due n r. r)
 call-ok ForWalk h f = (f, λ due n r. r)
 call-ok (ForSay output bytes buffer) h f = written-ok h (Of.sayIn (h .request) output bytes buffer) f (say-same (h .request) output bytes buffer)
 call-ok (ForEnd output buffer) h f = written-ok h (Of.endIn (h .request) output buffer) f (end-same (h .request) output buffer)
-call-ok (ForFinish status buffer) h f = finished-ok (h .request .mark .keep) h (Of.finishIn (h .request) status buffer) f
+call-ok (ForFinish status buffer) h f = finished-ok (h .request .state .keep) h (Of.finishIn (h .request) status buffer) f
 
 -- ---- ids that are not active, and id 0
 pub inactive-ok : (kind n : ℕ) → InactiveOutcomeOk n (receiveInactive kind n)

@@ -11,12 +11,12 @@ use Rattle.wire.specs.Test.{if_then_else_, byTest}
 use Rattle.record.specs.Names.{VERSION, BEGIN-REQUEST, GET-VALUES, RESPONDER, AUTHORIZER, FILTER}
 use Rattle.record.specs.declared.header.Header.{Header}
 use Rattle.record.specs.declared.body.BeginBody.{BeginBody}
-use Rattle.reader.specs.Position.{betweenRecords, behindHeader, advanced, after}
-use Rattle.reader.specs.PositionLaws.{Bytewise, step-bytes, after-append}
-use Rattle.reader.specs.PositionSplit.{position-split, unfinished, finished-split}
-use Rattle.reader.specs.declared.Position.{Position}
-use Rattle.reader.specs.declared.Advanced.{Advanced}
-use Rattle.lists.specs.List.{wellFormed}
+use Rattle.record_reader.specs.Position.{betweenRecords, afterHeader, advanced, after}
+use Rattle.record_reader.specs.PositionLaws.{Bytewise, step-bytes, after-append}
+use Rattle.record_reader.specs.PositionSplit.{position-split, unfinished, finished-split}
+use Rattle.record_reader.specs.declared.Position.{Position}
+use Rattle.record_reader.specs.declared.Advanced.{Advanced}
+use Rattle.pair_list.specs.List.{wellFormed}
 use Rattle.machine.specs.Timeline.{itemBytes}
 use Rattle.machine.specs.TimelineLaws.{bytes-of-items}
 use Rattle.connection.specs.declared.request.Role.{Role}
@@ -33,7 +33,7 @@ use Rattle.connection.specs.Laws.PieceLaws.{by-step}
 use Rattle.connection.specs.Laws.ShapeLaws.{shaped}
 use Rattle.connection.specs.Laws.Progress.{fits-admitted, step-advances, step-nothing}
 use Rattle.connection.specs.Arguments.{Argument, ForValue, ForSource, ForPair, ForWalk, ForSay, ForEnd, ForFinish}
-use Rattle.connection.specs.Run.{Memory, Operation, StepOver, CallFor, CountActive, CallResult, finishedBy, called, stepOf, usedOf, leftBy, itemsOf, finalMemory, timeline, startOf, PiecesOk, WholeRun, beginning, ending, timelineOf}
+use Rattle.connection.specs.Run.{Memory, Operation, StepOver, CallFor, CountActive, CallResult, finishedBy, called, stepOf, usedOf, memoryAfter, itemsOf, finalMemory, timeline, startOf, PiecesOk, WholeRun, beginning, ending, timelineOf}
 use Rattle.connection.specs.Runs.LinkingStep.{Steady, step-linked}
 use Rattle.connection.specs.Runs.LinkingCalls.{lent-absent, call-absent, lent-found, call-found, refused-call, resultAt, slot-found, found-result, call-linked}
 use Rattle.connection.specs.Runs.LinkingRuns.{start-steady, BetweenRecords}
@@ -62,10 +62,10 @@ module _ (st : State) (store : List ℕ) where
   unfolding queried
   stands-queried p list f e = stands-if p (wellFormed list) _ _ (λ o. e) (stands-closes p 14)
 
-  stands-judged : (h : Header) → StandsAt (behindHeader h) (judged st store h .conn)
+  stands-judged : (h : Header) → StandsAt (afterHeader h) (judged st store h .conn)
   unfolding judged onManagement onInactive onActive
   stands-judged h =
-      let p = behindHeader h in
+      let p = afterHeader h in
       stands-if p (eqb (h .version) VERSION) _ _
       (stands-if p (eqb (h .id) 0) _ _
       (stands-if p (eqb (h .kind) GET-VALUES) _ _
@@ -74,11 +74,11 @@ module _ (st : State) (store : List ℕ) where
       (go (find (st .conn .table) (h .id))))
       (stands-closes p 11)
     where
-      go : (s : Slot) → StandsAt (behindHeader h) (onSlot s (onActive st store h) (onInactive st store h) .conn)
+      go : (s : Slot) → StandsAt (afterHeader h) (onSlot s (onActive st store h) (onInactive st store h) .conn)
       go (Slot.At i) = λ o. refl
       go Slot.Nowhere =
-          stands-if (behindHeader h) (eqb (h .kind) BEGIN-REQUEST) _ _
-          (stands-if (behindHeader h) (eqb (h .content) 8) _ _ (λ o. refl) (stands-closes (behindHeader h) 12)) (λ o. refl)
+          stands-if (afterHeader h) (eqb (h .kind) BEGIN-REQUEST) _ _
+          (stands-if (afterHeader h) (eqb (h .content) 8) _ _ (λ o. refl) (stands-closes (afterHeader h) 12)) (λ o. refl)
 
   stands-opens : (id : ℕ) (b : BeginBody) (role : Role) (f : Frame) → StandsAt (f .position) (opens st store id b role f .conn)
   unfolding opens
@@ -144,7 +144,7 @@ step-position m (b ∷ x) z e =
     (λ o. there o ∙ sym (advanced-used m piece k))
 
 -- ---- the position that a call leaves
-call-finish : (m : Memory) (i : ℕ) (keep : Bool) (w : Of.Wrote)
+call-finish : (m : Memory) (i : ℕ) (keep : Bool) (w : Of.Writing)
     → StandsAt (m .state .conn .frame .position) (finishedBy m (C.finishes (m .state .conn) (m .store) i keep w) .memory .state .conn)
 unfolding C.finishes C.released
 call-finish m i keep w =
@@ -186,10 +186,10 @@ open-before os m z e =
 -- A run that ends open ends where its used bytes lead.
 pub run-position : (os : List Operation) (m : Memory) → Steady m → PiecesOk os → finalMemory m os .state .conn .«open» ≡ true
     → finalMemory m os .state .conn .frame .position ≡ after (m .state .conn .frame .position) (bytesUsed m os)
-unfolding finalMemory timeline itemsOf itemBytes after leftBy
+unfolding finalMemory timeline itemsOf itemBytes after memoryAfter
 run-position [] m z p e = refl
 run-position (StepOver piece ∷ os) m z p e =
-    let m′ = leftBy m (StepOver piece) in
+    let m′ = memoryAfter m (StepOver piece) in
     let k = step-linked m piece z (p .0) in
     let o = open-before (StepOver piece ∷ os) m z e in
     let o′ = open-before os m′ (k .steady) e in
@@ -198,7 +198,7 @@ run-position (StepOver piece ∷ os) m z p e =
     ∙ sym (after-append (m .state .conn .frame .position) (usedOf m piece) (bytesUsed m′ os))
     ∙ ap (after (m .state .conn .frame .position)) (sym (bytes-of-items (usedOf m piece) (timeline m′ os)))
 run-position (CallFor id a ∷ os) m z p e =
-    let m′ = leftBy m (CallFor id a) in
+    let m′ = memoryAfter m (CallFor id a) in
     let k = call-linked m id a z in
     let o = open-before (CallFor id a ∷ os) m z e in
     let o′ = open-before os m′ (k .steady) e in

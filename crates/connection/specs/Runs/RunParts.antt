@@ -43,7 +43,7 @@ abbrev pub one : ℕ → Turn → List ℕ → Option Held
 one n t area =
     some
     (record {
-      request = record { id = 1; length = n; mark = record { role = Role.Responder; turn = t; life = Life.Live; keep = true; «out_ended» = false; «err_used» = false; «err_ended» = false } };
+      request = record { id = 1; length = n; state = record { role = Role.Responder; turn = t; life = Life.Live; keep = true; «out_ended» = false; «err_used» = false; «err_ended» = false } };
       area = area;
     })
 

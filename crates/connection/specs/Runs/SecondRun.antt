@@ -18,7 +18,7 @@ use Rattle.connection.specs.Laws.PieceLaws.{AllBytes, drop-bytes}
 use Rattle.connection.specs.Laws.Progress.{step-uses-some}
 use Rattle.connection.specs.Runs.Receiver.{receiver}
 use Rattle.connection.specs.Arguments.{Argument}
-use Rattle.connection.specs.Run.{Memory, Operation, StepOver, CallFor, CountActive, stepOf, leftBy, itemsOf, finalMemory, timeline, startOf, PiecesOk, WholeRun, timelineOf}
+use Rattle.connection.specs.Run.{Memory, Operation, StepOver, CallFor, CountActive, stepOf, memoryAfter, itemsOf, finalMemory, timeline, startOf, PiecesOk, WholeRun, timelineOf}
 use Rattle.connection.specs.Runs.LinkingStep.{loadedOf, closed-loaded, Steady, step-linked}
 use Rattle.connection.specs.Runs.LinkingCalls.{call-linked, count-linked}
 use Rattle.connection.specs.Runs.LinkingRuns.{run-linked, start-loaded, start-steady}
@@ -31,14 +31,14 @@ unfoldable pub steppedThrough : ℕ → Memory → List ℕ → List Operation
 steppedThrough zero m x = []
 steppedThrough (suc n) m [] = []
 steppedThrough (suc n) m (b ∷ x) =
-    StepOver (b ∷ x) ∷ steppedThrough n (leftBy m (StepOver (b ∷ x))) (drop (stepOf m (b ∷ x) .used) (b ∷ x))
+    StepOver (b ∷ x) ∷ steppedThrough n (memoryAfter m (StepOver (b ∷ x))) (drop (stepOf m (b ∷ x) .used) (b ∷ x))
 
 -- each piece, and the calls in their places
 unfoldable pub allStepped : Memory → List Operation → List Operation
 allStepped m [] = []
 allStepped m (StepOver x ∷ os) = steppedThrough (length x) m x ++ allStepped (finalMemory m (steppedThrough (length x) m x)) os
-allStepped m (CallFor id a ∷ os) = CallFor id a ∷ allStepped (leftBy m (CallFor id a)) os
-allStepped m (CountActive ∷ os) = CountActive ∷ allStepped (leftBy m CountActive) os
+allStepped m (CallFor id a ∷ os) = CallFor id a ∷ allStepped (memoryAfter m (CallFor id a)) os
+allStepped m (CountActive ∷ os) = CountActive ∷ allStepped (memoryAfter m CountActive) os
 
 -- all bytes and calls of operations, whether they are used or not
 unfoldable pub itemsIn : List Operation → List (Item Argument)
@@ -52,7 +52,7 @@ final-append : (os : List Operation) (m : Memory) (ps : List Operation) → time
 unfolding timeline finalMemory
 final-append [] m ps = refl
 final-append (o ∷ os) m ps =
-    ap (λ l. itemsOf m o ++ l) (final-append os (leftBy m o) ps) ∙ sym (append-assoc (itemsOf m o) (timeline (leftBy m o) os) (timeline (finalMemory (leftBy m o) os) ps))
+    ap (λ l. itemsOf m o ++ l) (final-append os (memoryAfter m o) ps) ∙ sym (append-assoc (itemsOf m o) (timeline (memoryAfter m o) os) (timeline (finalMemory (memoryAfter m o) os) ps))
 
 pieces-append : (os ps : List Operation) → PiecesOk os → PiecesOk ps → PiecesOk (os ++ ps)
 pieces-append [] ps p q = q
@@ -65,7 +65,7 @@ unfolding steppedThrough
 through-pieces zero m x b = tt
 through-pieces (suc n) m [] b = tt
 through-pieces (suc n) m (c ∷ x) b =
-    (b, through-pieces n (leftBy m (StepOver (c ∷ x))) (drop (stepOf m (c ∷ x) .used) (c ∷ x)) (drop-bytes (stepOf m (c ∷ x) .used) (c ∷ x) b))
+    (b, through-pieces n (memoryAfter m (StepOver (c ∷ x))) (drop (stepOf m (c ∷ x) .used) (c ∷ x)) (drop-bytes (stepOf m (c ∷ x) .used) (c ∷ x) b))
 
 -- The steps are over bytes.
 pub all-pieces : (os : List Operation) (m : Memory) → PiecesOk os → PiecesOk (allStepped m os)
@@ -74,16 +74,16 @@ all-pieces [] m p = tt
 all-pieces (StepOver x ∷ os) m p =
     pieces-append (steppedThrough (length x) m x) (allStepped (finalMemory m (steppedThrough (length x) m x)) os) (through-pieces (length x) m x (p .0))
     (all-pieces os (finalMemory m (steppedThrough (length x) m x)) (p .1))
-all-pieces (CallFor id a ∷ os) m p = all-pieces os (leftBy m (CallFor id a)) p
-all-pieces (CountActive ∷ os) m p = all-pieces os (leftBy m CountActive) p
+all-pieces (CallFor id a ∷ os) m p = all-pieces os (memoryAfter m (CallFor id a)) p
+all-pieces (CountActive ∷ os) m p = all-pieces os (memoryAfter m CountActive) p
 
 -- ---- a piece is used up
 -- a step and what is left of its piece
 more-steps : (n : ℕ) (m : Memory) (c : ℕ) (x : List ℕ) → Steady m → AllBytes (c ∷ x) → length (c ∷ x) ≤ suc n
     → (stateAfter receiver (loadedOf m) (byteItems (c ∷ x)) ≡ Closed → ⊥)
-    → (Steady (leftBy m (StepOver (c ∷ x))) → AllBytes (drop (stepOf m (c ∷ x) .used) (c ∷ x)) → length (drop (stepOf m (c ∷ x) .used) (c ∷ x)) ≤ n
-    → (stateAfter receiver (loadedOf (leftBy m (StepOver (c ∷ x)))) (byteItems (drop (stepOf m (c ∷ x) .used) (c ∷ x))) ≡ Closed → ⊥)
-    → timeline (leftBy m (StepOver (c ∷ x))) (steppedThrough n (leftBy m (StepOver (c ∷ x))) (drop (stepOf m (c ∷ x) .used) (c ∷ x)))
+    → (Steady (memoryAfter m (StepOver (c ∷ x))) → AllBytes (drop (stepOf m (c ∷ x) .used) (c ∷ x)) → length (drop (stepOf m (c ∷ x) .used) (c ∷ x)) ≤ n
+    → (stateAfter receiver (loadedOf (memoryAfter m (StepOver (c ∷ x)))) (byteItems (drop (stepOf m (c ∷ x) .used) (c ∷ x))) ≡ Closed → ⊥)
+    → timeline (memoryAfter m (StepOver (c ∷ x))) (steppedThrough n (memoryAfter m (StepOver (c ∷ x))) (drop (stepOf m (c ∷ x) .used) (c ∷ x)))
     ≡ byteItems (drop (stepOf m (c ∷ x) .used) (c ∷ x)))
     → m .state .conn .«open» ≡ true
     → timeline m (steppedThrough (suc n) m (c ∷ x)) ≡ byteItems (c ∷ x)
@@ -95,13 +95,13 @@ more-steps n m c x z b l a rest o =
     let less : length (drop used (c ∷ x)) ≤ n = simp length-drop (omega (arith, some .0)) in
     let both : byteItems (take used (c ∷ x)) ++ byteItems (drop used (c ∷ x)) ≡ byteItems (c ∷ x) =
     sym (byte-items-append (take used (c ∷ x)) (drop used (c ∷ x))) ∙ ap (byteItems) (take-append-drop used (c ∷ x)) in
-    let same : stateAfter receiver (loadedOf (leftBy m (StepOver (c ∷ x)))) (byteItems (drop used (c ∷ x))) ≡ stateAfter receiver (loadedOf m) (byteItems (c ∷ x)) =
+    let same : stateAfter receiver (loadedOf (memoryAfter m (StepOver (c ∷ x)))) (byteItems (drop used (c ∷ x))) ≡ stateAfter receiver (loadedOf m) (byteItems (c ∷ x)) =
     ap (λ w. stateAfter receiver w (byteItems (drop used (c ∷ x)))) (k .state)
     ∙ sym (state-append receiver (loadedOf m) (byteItems (take used (c ∷ x))) (byteItems (drop used (c ∷ x))))
     ∙ ap (stateAfter receiver (loadedOf m)) both in
     ap (λ t. byteItems (take used (c ∷ x)) ++ t) (rest (k .steady) (drop-bytes used (c ∷ x) b) less (λ d. a (sym same ∙ d))) ∙ both
 
--- steps over a piece of at most n bytes use it up, if the connection is open behind it
+-- steps over a piece of at most n bytes use it up, if the connection is open after it
 stepped-through : (n : ℕ) (m : Memory) (x : List ℕ) → Steady m → AllBytes x → length x ≤ n → (stateAfter receiver (loadedOf m) (byteItems x) ≡ Closed → ⊥)
     → timeline m (steppedThrough n m x) ≡ byteItems x
 unfolding steppedThrough timeline byteItems
@@ -110,7 +110,7 @@ stepped-through zero m (c ∷ x) z b l a = absurd (omega arith)
 stepped-through (suc n) m [] z b l a = refl
 stepped-through (suc n) m (c ∷ x) z b l a =
     byTest (m .state .conn .«open»)
-    (more-steps n m c x z b l a (stepped-through n (leftBy m (StepOver (c ∷ x))) (drop (stepOf m (c ∷ x) .used) (c ∷ x))))
+    (more-steps n m c x z b l a (stepped-through n (memoryAfter m (StepOver (c ∷ x))) (drop (stepOf m (c ∷ x) .used) (c ∷ x))))
     (λ e. absurd (a (ap (λ w. stateAfter receiver w (byteItems (c ∷ x))) (closed-loaded m e) ∙ closed-stays receiver (byteItems (c ∷ x)))))
 
 -- ---- all pieces and calls
@@ -133,11 +133,11 @@ all-stepped (StepOver x ∷ os) m z p a =
 all-stepped (CallFor id a ∷ os) m z p open′ =
     let k = call-linked m id a z in
     ap (λ l. CallItem (RequestCall id a) ∷ l)
-    (all-stepped os (leftBy m (CallFor id a)) (k .steady) p (λ d. open′ (ap (λ w. stateAfter receiver w (itemsIn os)) (sym (k .state)) ∙ d)))
+    (all-stepped os (memoryAfter m (CallFor id a)) (k .steady) p (λ d. open′ (ap (λ w. stateAfter receiver w (itemsIn os)) (sym (k .state)) ∙ d)))
 all-stepped (CountActive ∷ os) m z p a =
     let k = count-linked m z in
     ap (λ l. CallItem CountCall ∷ l)
-    (all-stepped os (leftBy m CountActive) (k .steady) p (λ d. a (ap (λ w. stateAfter receiver w (itemsIn os)) (sym (k .state)) ∙ d)))
+    (all-stepped os (memoryAfter m CountActive) (k .steady) p (λ d. a (ap (λ w. stateAfter receiver w (itemsIn os)) (sym (k .state)) ∙ d)))
 
 -- The second run. Take any run A as isolation does, cut what purging leaves of its timeline into pieces in any way, ps, and step over each piece until it is used up.
 abbrev pub secondRun : (gathered store : List ℕ) (ps : List Operation) → length gathered ≡ QUERY → length store ≡ STORE → PiecesOk ps → WholeRun

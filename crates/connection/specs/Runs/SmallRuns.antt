@@ -5,16 +5,16 @@ use mathlib.Core.Option.{Option, none}
 use mathlib.Core.Bool.{false}
 use Rattle.wire.specs.Number.{number4}
 use Rattle.wire.specs.Buffer.{copied, zeros}
-use Rattle.occupancy.specs.Word.{taken, lowestFree, withBit, withSlot, withoutBit, withoutSlot}
+use Rattle.slot_word.specs.Word.{taken, lowestFree, withBit, withSlot, withoutBit, withoutSlot}
 use Rattle.record.specs.Names.{STDIN}
 use Rattle.record.specs.Header.{headerOf, headerBytes}
 use Rattle.record.specs.Body.{beginBodyOf, endBodyBytes}
-use Rattle.reader.specs.Position.{advanced, inHeader}
+use Rattle.record_reader.specs.Position.{advanced, inHeader}
 use Rattle.pairs.specs.Length.{fourAt, lengthAt}
-use Rattle.pairs.specs.Name.{sameBytes}
+use Rattle.wire.specs.Compare.{sameBytes}
 use Rattle.pairs.specs.Pair.{pairAt}
-use Rattle.lists.specs.List.{pairsIn, pairsFrom, endingOf, wellFormed, firstIn, firstNamed, numberIn, pairNumber}
-use Rattle.writer.specs.Written.{paddingOf, recordBytes, chunksIn, chunks, streamBytes}
+use Rattle.pair_list.specs.List.{pairsIn, pairsFrom, endingOf, wellFormed, firstIn, firstNamed, numberIn, pairNumber}
+use Rattle.record_writer.specs.Written.{paddingOf, recordBytes, chunksIn, chunks, streamBytes}
 use Rattle.machine.specs.Timeline.{byteItems}
 use Rattle.connection.specs.declared.answer.Output.{Output}
 use Rattle.connection.specs.declared.request.Turn.{Turn}
@@ -28,7 +28,7 @@ use Rattle.connection.specs.Step.{onInactive, onActive, judged, opens, b
 use Rattle.connection.specs.Calls as C
 use Rattle.connection.specs.Bytewise.{Note, showing}
 use Rattle.connection.specs.Arguments.{ForPair, ForSay, ForFinish, PairAnswer, FinishedWith}
-use Rattle.connection.specs.Run.{Operation, StepOver, CallFor, Observed, Heard, Answered, requestOf, called, leftBy, seenIn, itemsOf, finalMemory, allSeen, timeline, startOf, seenOf}
+use Rattle.connection.specs.Run.{Operation, StepOver, CallFor, Observed, Heard, Answered, requestOf, called, memoryAfter, seenIn, itemsOf, finalMemory, allSeen, timeline, startOf, seenOf}
 use Rattle.connection.specs.Runs.RunParts.{fresh, header, begin, paramsEnd, oneParam, finish, one, opened-one}
 
 -- Both runs show this of 1, and leave 1 so.
@@ -62,7 +62,7 @@ pub record SmallRuns : Type 0 where
       ∷ [])
       (one 2 Turn.Stdin (zeros AREA))
   -- Something is said on STDERR for 2, then 1 is finished. (stderr_mark_shared: an end of STDERR is written for 1, too.)
-  marks-apart : Alike (begin 2 ++ begin 1 ++ paramsEnd 2 ++ (CallFor 2 (ForSay Output.Stderr (65 ∷ []) (zeros 16)) ∷ finish 1)) (begin 1 ++ finish 1)
+  states-apart : Alike (begin 2 ++ begin 1 ++ paramsEnd 2 ++ (CallFor 2 (ForSay Output.Stderr (65 ∷ []) (zeros 16)) ∷ finish 1)) (begin 1 ++ finish 1)
       (opened-one
       ∷ Answered 1 (ForFinish 0 (zeros 32)) (FinishedWith 0 24 false ((1 ∷ 6 ∷ 0 ∷ 1 ∷ 0 ∷ 0 ∷ 0 ∷ 0 ∷ 1 ∷ 3 ∷ 0 ∷ 1 ∷ 0 ∷ 8 ∷ 0 ∷ 0 ∷ []) ++ zeros 16)) (one 0 Turn.Params (zeros AREA)) none
       ∷ [])
@@ -71,7 +71,7 @@ pub record SmallRuns : Type 0 where
   areas-zeroed : Alike (begin 2 ++ oneParam 2 7 ++ finish 2 ++ begin 1) (begin 1) (opened-one ∷ []) (one 0 Turn.Params (zeros AREA))
 
 pub small-runs : SmallRuns
-unfolding copied taken lowestFree withBit withSlot withoutBit withoutSlot headerOf beginBodyOf headerBytes endBodyBytes advanced inHeader number4 fourAt lengthAt pairAt sameBytes pairsIn pairsFrom endingOf wellFormed firstIn firstNamed paddingOf recordBytes chunksIn chunks streamBytes flatten withTurn withLife faulted aborted turned paramsFault paramsEnded onParams onStdin onData onInput onLive onHeader grown opened Of.valueIn Of.writes Of.saidOn Of.sayIn Of.owesOut Of.owesErr Of.finishBytes Of.finishIn requestAt areaAt putRequest putArea takeSlot freeSlot holdsId findFrom idFits slotsFit positionFits inShape onInactive onActive judged opens begun ofBegin ofRequest advances stepRefusal stepped started showing C.lentRefusal C.callRefusal C.value C.pairAtNumber Of.pairIn pairNumber numberIn C.say C.released C.finishes C.finish byteItems requestOf called leftBy seenIn itemsOf finalMemory allSeen timeline startOf seenOf
+unfolding copied taken lowestFree withBit withSlot withoutBit withoutSlot headerOf beginBodyOf headerBytes endBodyBytes advanced inHeader number4 fourAt lengthAt pairAt sameBytes pairsIn pairsFrom endingOf wellFormed firstIn firstNamed paddingOf recordBytes chunksIn chunks streamBytes flatten withTurn withLife faulted aborted turned paramsFault paramsEnded onParams onStdin onData onInput onLive onHeader grown opened Of.valueIn Of.writes Of.saidOn Of.sayIn Of.owesOut Of.owesErr Of.finishBytes Of.finishIn requestAt areaAt putRequest putArea takeSlot freeSlot holdsId findFrom idFits slotsFit positionFits inShape onInactive onActive judged opens begun ofBegin ofRequest advances stepRefusal stepped started showing C.lentRefusal C.callRefusal C.value C.pairAtNumber Of.pairIn pairNumber numberIn C.say C.released C.finishes C.finish byteItems requestOf called memoryAfter seenIn itemsOf finalMemory allSeen timeline startOf seenOf
 small-runs =
     record {
       rest-skipped = record { whole-seen = refl; whole-left = refl; alone-seen = refl; alone-left = refl };
@@ -80,6 +80,6 @@ small-runs =
       faults-stay-home = record { whole-seen = refl; whole-left = refl; alone-seen = refl; alone-left = refl };
       slots-apart = record { whole-seen = refl; whole-left = refl; alone-seen = refl; alone-left = refl };
       offsets-in-area = record { whole-seen = refl; whole-left = refl; alone-seen = refl; alone-left = refl };
-      marks-apart = record { whole-seen = refl; whole-left = refl; alone-seen = refl; alone-left = refl };
+      states-apart = record { whole-seen = refl; whole-left = refl; alone-seen = refl; alone-left = refl };
       areas-zeroed = record { whole-seen = refl; whole-left = refl; alone-seen = refl; alone-left = refl };
     }

@@ -31,9 +31,9 @@ active-at R m h e = go (m .state .conn .«open») refl (find (m .state .conn .ta
     go false o s f d = let z : _≡_ {A = ℕ} 0 1 = cc in absurd (omega arith)
 
 -- While R is spent, no step tells anything of R: no second fault or abort, no ready, no end, no data.
-pub spent-silent : (R : ℕ) (r : WholeRun) (h : Held) (piece : List ℕ) → 0 < R → requestOf R (ending r) ≡ some h → isSpent (h .request .mark .life) ≡ true
+pub spent-silent : (R : ℕ) (r : WholeRun) (h : Held) (piece : List ℕ) → 0 < R → requestOf R (ending r) ≡ some h → isSpent (h .request .state .life) ≡ true
     → eventId (stepOf (ending r) piece .event) ≡ R → ⊥
 spent-silent R r h piece some-id e spent =
     let m = ending r in
     let a = active-at R m h e in
-    spent-step (m .state) (m .store) piece R (a .slot) some-id (a .found) (subst (λ (x : Held). isSpent (x .request .mark .life) ≡ true) (sym (a .same)) spent) (λ due u aim some skip. due-live r due (a .slot) u (a .is-open) aim some skip)
+    spent-step (m .state) (m .store) piece R (a .slot) some-id (a .found) (subst (λ (x : Held). isSpent (x .request .state .life) ≡ true) (sym (a .same)) spent) (λ due u aim some skip. due-live r due (a .slot) u (a .is-open) aim some skip)

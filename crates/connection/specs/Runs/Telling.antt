@@ -104,13 +104,13 @@ module _ (n : ℕ) (h : Held) where
       (λ a. byTest (eqb kind ABORT-REQUEST)
       (λ b. simp (a, b) refl)
       (λ b. byTest (isInput kind)
-      (λ i. byTest (eqb kind (turnType (h .request .mark .turn))) (λ e. simp (a, b, i, e) (names-turn (h .request .mark .turn))) (λ e. simp (a, b, i, e) (names-faulted 22)))
+      (λ i. byTest (eqb kind (turnType (h .request .state .turn))) (λ e. simp (a, b, i, e) (names-turn (h .request .state .turn))) (λ e. simp (a, b, i, e) (names-faulted 22)))
       (λ i. simp (a, b, i) (names-faulted 23))))
 
   -- A header's event names the header's request.
   pub names-header : (kind : ℕ) → Names (h .request .id) (onHeader kind n h .event)
   unfolding onHeader
-  names-header kind = byTest (isSpent (h .request .mark .life)) (λ e. simp e tt) (λ e. simp e (names-live kind))
+  names-header kind = byTest (isSpent (h .request .state .life)) (λ e. simp e tt) (λ e. simp e (names-live kind))
 
 -- what the machine tells of it is what the step tells
 pub header-told : (id : ℕ) (e : Event) (x : List ℕ) → Names id e → map Heard (notes e x) ≡ toldAll (asList receiver (eventFrom receiver id (noteOf e 0)))

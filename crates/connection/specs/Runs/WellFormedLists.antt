@@ -10,7 +10,7 @@ use lib.Dec.{eqb, ltb, leb}
 use Rattle.wire.specs.Test.{if_then_else_, byTest}
 use Rattle.record.specs.Names.{BEGIN-REQUEST, ABORT-REQUEST, RESPONDER, AUTHORIZER, FILTER}
 use Rattle.record.specs.Body.{beginBodyOf}
-use Rattle.lists.specs.List.{wellFormed}
+use Rattle.pair_list.specs.List.{wellFormed}
 use Rattle.machine.specs.Machine.{Decided, Stays, Leaves, Closes}
 use Rattle.machine.specs.Laws.{Laws, HeaderOutcomeOk, BeginOutcomeOk, CallOutcomeOk}
 use Rattle.machine.specs.Shape.{SlotOk, WellShaped}
@@ -19,7 +19,7 @@ use Rattle.connection.specs.declared.request.Turn.{Turn}
 use Rattle.connection.specs.declared.request.Life.{Life}
 use Rattle.connection.specs.declared.request.Due.{Due}
 use Rattle.connection.specs.declared.request.Role.{Role}
-use Rattle.connection.specs.declared.request.Mark.{Mark}
+use Rattle.connection.specs.declared.request.RequestState.{RequestState}
 use Rattle.connection.specs.declared.request.Request.{Request}
 use Rattle.connection.specs.declared.answer.Output.{Output}
 use Rattle.connection.specs.Sizes.{SLOTS, AREA, QUERY}
@@ -42,14 +42,14 @@ use Rattle.connection.specs.Runs.Hygiene.{timeline-ok}
 
 -- PARAMS have ended and the request is not faulted: then its list is well formed
 abbrev pub ListOk : Held → Type 0
-ListOk h = inParams (h .request .mark .turn) ≡ false → isFaulted (h .request .mark .life) ≡ false → wellFormed (listOf h) ≡ true
+ListOk h = inParams (h .request .state .turn) ≡ false → isFaulted (h .request .state .life) ≡ false → wellFormed (listOf h) ≡ true
 
 -- content comes for a request that is not spent; PARAMS content while PARAMS have not ended
 abbrev pub InTurn : Due → ℕ → Held → Type 0
 InTurn Due.Skip n h = Unit {0}
-InTurn Due.Params n h = (inParams (h .request .mark .turn) ≡ true) × (isSpent (h .request .mark .life) ≡ false)
-InTurn Due.Stdin n h = isSpent (h .request .mark .life) ≡ false
-InTurn Due.Data n h = isSpent (h .request .mark .life) ≡ false
+InTurn Due.Params n h = (inParams (h .request .state .turn) ≡ true) × (isSpent (h .request .state .life) ≡ false)
+InTurn Due.Stdin n h = isSpent (h .request .state .life) ≡ false
+InTurn Due.Data n h = isSpent (h .request .state .life) ≡ false
 
 true-false : {A : Type 0} → true ≡ false → A
 true-false e = let z : _≡_ {A = ℕ} 0 1 = cc in absurd (omega arith)
@@ -81,28 +81,28 @@ module _ (n : ℕ) (h : Held) where
   unfolding paramsEnded
   by-ended = byTest (eqb (paramsFault (listOf h)) 0) (λ e. simp e (by-turned _ _ (well-formed (listOf h) e))) (λ e. simp e (by-faulted _))
 
-  by-params : inParams (h .request .mark .turn) ≡ true → isSpent (h .request .mark .life) ≡ false → Decides n (onParams n h)
+  by-params : inParams (h .request .state .turn) ≡ true → isSpent (h .request .state .life) ≡ false → Decides n (onParams n h)
   unfolding onParams
   by-params p live =
       byTest (ltb AREA (h .request .length + n))
       (λ e. simp e (by-faulted 24))
       (λ e. byTest (eqb n 0) (λ z. simp (e, z) by-ended) (λ z. simp (e, z) (record { list = λ t f. true-false (sym p ∙ t); due = (p, live) })))
 
-  module _ (ok : ListOk h) (live : isSpent (h .request .mark .life) ≡ false) where
-    by-turn : (t : Turn) → h .request .mark .turn ≡ t → Decides n (inTurn t n h)
+  module _ (ok : ListOk h) (live : isSpent (h .request .state .life) ≡ false) where
+    by-turn : (t : Turn) → h .request .state .turn ≡ t → Decides n (inTurn t n h)
     unfolding onStdin onData
     by-turn Turn.Params e = by-params (ap inParams e) live
     by-turn Turn.Stdin e =
-        let w = ok (ap inParams e) (not-faulted (h .request .mark .life) live) in
+        let w = ok (ap inParams e) (not-faulted (h .request .state .life) live) in
         byTest (eqb n 0) (λ z. simp z (by-turned _ _ w)) (λ z. simp z (record { list = ok; due = live }))
     by-turn Turn.Data e =
-        let w = ok (ap inParams e) (not-faulted (h .request .mark .life) live) in
+        let w = ok (ap inParams e) (not-faulted (h .request .state .life) live) in
         byTest (eqb n 0) (λ z. simp z (by-turned _ _ w)) (λ z. simp z (record { list = ok; due = live }))
     by-turn Turn.Done e = by-faulted 22
 
     by-abort : Decides n (aborted h)
     unfolding aborted withLife
-    by-abort = record { list = λ t f. ok t (not-faulted (h .request .mark .life) live); due = tt }
+    by-abort = record { list = λ t f. ok t (not-faulted (h .request .state .life) live); due = tt }
 
     by-live : (kind : ℕ) → Decides n (onLive kind n h)
     unfolding onLive onInput
@@ -112,12 +112,12 @@ module _ (n : ℕ) (h : Held) where
         (λ a. byTest (eqb kind ABORT-REQUEST)
         (λ b. simp (a, b) by-abort)
         (λ b. byTest (isInput kind)
-        (λ i. byTest (eqb kind (turnType (h .request .mark .turn))) (λ e. simp (a, b, i, e) (by-turn (h .request .mark .turn) refl)) (λ e. simp (a, b, i, e) (by-faulted 22)))
+        (λ i. byTest (eqb kind (turnType (h .request .state .turn))) (λ e. simp (a, b, i, e) (by-turn (h .request .state .turn) refl)) (λ e. simp (a, b, i, e) (by-faulted 22)))
         (λ i. simp (a, b, i) (by-faulted 23))))
 
   by-header : (kind : ℕ) → ListOk h → Decides n (onHeader kind n h)
   unfolding onHeader
-  by-header kind ok = byTest (isSpent (h .request .mark .life)) (λ e. simp e (record { list = ok; due = tt })) (λ e. simp e (by-live ok e kind))
+  by-header kind ok = byTest (isSpent (h .request .state .life)) (λ e. simp e (record { list = ok; due = tt })) (λ e. simp e (by-live ok e kind))
 
 decided-list : (n : ℕ) (q : Held) (e : Option Note) (due : Due) → ListOk q → InTurn due n q → HeaderOutcomeOk ListOk InTurn n (Decided q e (dueStream due))
 decided-list n q e Due.Skip f r = f
@@ -134,9 +134,9 @@ header-list kind n h l ok =
     decided-list n (r .held) (noteOf (r .event) 0) (r .due) (d .list) (d .due)
 
 -- ---- content, a BEGIN body, calls
-grown-mark : (h : Held) (x : List ℕ) → grown h x .request .mark ≡ h .request .mark
+grown-state : (h : Held) (x : List ℕ) → grown h x .request .state ≡ h .request .state
 unfolding grown
-grown-mark h x = byTest (leb (h .request .length + length x) AREA) (λ e. simp e) (λ e. simp e)
+grown-state h x = byTest (leb (h .request .length + length x) AREA) (λ e. simp e) (λ e. simp e)
 
 -- So does a content byte.
 pub byte-list : (due : Due) (b n : ℕ) (h : Held) → b < 256 → ListOk h → InTurn due (suc n) h
@@ -144,9 +144,9 @@ pub byte-list : (due : Due) (b n : ℕ) (h : Held) → b < 256 → ListOk h → 
 unfolding receiveByte
 byte-list Due.Skip b n h w f r = (f, tt)
 byte-list Due.Params b n h w f r =
-    let m = grown-mark h (b ∷ []) in
-    let e : inParams (grown h (b ∷ []) .request .mark .turn) ≡ true = ap (λ (k : Mark). inParams (k .turn)) m ∙ r .0 in
-    ((λ t g. true-false (sym e ∙ t)), (e, ap (λ (k : Mark). isSpent (k .life)) m ∙ r .1))
+    let m = grown-state h (b ∷ []) in
+    let e : inParams (grown h (b ∷ []) .request .state .turn) ≡ true = ap (λ (k : RequestState). inParams (k .turn)) m ∙ r .0 in
+    ((λ t g. true-false (sym e ∙ t)), (e, ap (λ (k : RequestState). isSpent (k .life)) m ∙ r .1))
 byte-list Due.Stdin b n h w f r = (f, r)
 byte-list Due.Data b n h w f r = (f, r)
 
@@ -165,8 +165,8 @@ begin-list id body =
 -- what writes keeps length, turn and life
 record SameTurn (r q : Request) : Type 0 where
   length : q .length ≡ r .length
-  turn : q .mark .turn ≡ r .mark .turn
-  life : q .mark .life ≡ r .mark .life
+  turn : q .state .turn ≡ r .state .turn
+  life : q .state .life ≡ r .state .life
 
 turn-writes : (n : ℕ) (bytes : List ℕ) (after r : Request) (buffer : List ℕ) → SameTurn r after → SameTurn r (Of.writes n bytes after r buffer .request)
 unfolding Of.writes
@@ -180,7 +180,7 @@ turn-end : (r : Request) (output : Output) (buffer : List ℕ) → SameTurn r (O
 unfolding Of.endIn Of.endedOn
 turn-end r output buffer = turn-writes _ _ _ r buffer (record { length = refl; turn = refl; life = refl })
 
-written-list : (h : Held) (w : Of.Wrote) → ListOk h → SameTurn (h .request) (w .request) → CallOutcomeOk ListOk InTurn h (writtenAs h w)
+written-list : (h : Held) (w : Of.Writing) → ListOk h → SameTurn (h .request) (w .request) → CallOutcomeOk ListOk InTurn h (writtenAs h w)
 written-list h w ok s =
     ((λ t f. ap (λ n. wellFormed (take n (h .area))) (s .length) ∙ ok (sym (ap inParams (s .turn)) ∙ t) (sym (ap isFaulted (s .life)) ∙ f)), due-same)
   where
@@ -190,7 +190,7 @@ written-list h w ok s =
     due-same Due.Stdin n r = ap isSpent (s .life) ∙ r
     due-same Due.Data n r = ap isSpent (s .life) ∙ r
 
-finished-list : (keep : Bool) (h : Held) (w : Of.Wrote) → ListOk h → CallOutcomeOk ListOk InTurn h (finishedAs keep h w)
+finished-list : (keep : Bool) (h : Held) (w : Of.Writing) → ListOk h → CallOutcomeOk ListOk InTurn h (finishedAs keep h w)
 unfolding finishedAs
 finished-list keep h w f = go (eqb (w .refusal) 0) keep
   where
@@ -211,7 +211,7 @@ call-list (ForPair k) h f = (f, λ due n r. r)
 call-list ForWalk h f = (f, λ due n r. r)
 call-list (ForSay output bytes buffer) h f = written-list h (Of.sayIn (h .request) output bytes buffer) f (turn-say (h .request) output bytes buffer)
 call-list (ForEnd output buffer) h f = written-list h (Of.endIn (h .request) output buffer) f (turn-end (h .request) output buffer)
-call-list (ForFinish status buffer) h f = finished-list (h .request .mark .keep) h (Of.finishIn (h .request) status buffer) f
+call-list (ForFinish status buffer) h f = finished-list (h .request .state .keep) h (Of.finishIn (h .request) status buffer) f
 
 -- The laws of shape, with lists well formed for shape.
 abbrev pub list-laws : Laws receiver

@@ -24,8 +24,8 @@ end-output-requires c κs = search needs
 send-requires-2 : tie.Need-send-requires-2
 send-requires-2 c κs = search needs
 
-end-request-requires : tie.Need-end-request-requires
-end-request-requires c κs = search needs
+finish-requires : tie.Need-finish-requires
+finish-requires c κs = search needs
 
 send-end-requires : tie.Need-send-end-requires
 send-end-requires c κs = search needs
@@ -50,7 +50,7 @@ answer-spec =
     send-requires
     end-output-requires
     send-requires-2
-    end-request-requires
+    finish-requires
     send-end-requires
     same-length
     same-length-2

@@ -3,10 +3,10 @@ use Prim.Native.Nat.{_+_, _-_, _≤_, _<_}
 use native.Mathlib.Omega.{arith}
 use borrow.Author.Needs.{needs}
 use lib.ListN.{length}
-use Rattle.receive.specs.Answer.{steppedBy}
+use Rattle.call_step.specs.Answer.{steppedBy}
 use Rattle.connection.specs.Step.{stateOf}
 use Rattle.export.specs.Digest.{fedAll}
-use Rattle.export.specs.Laws.{restOf, from-start, at-end, Turn, turn}
+use Rattle.export.specs.Laws.{restOf, from-start, at-end, LoopTurn, turn}
 use Rattle.export.proofs.feed_all.Statement.{statement}
 use Rattle.export.proofs.feed_all.Tie as tie
 
@@ -43,7 +43,7 @@ step-requires c κs = search needs
 
 -- what the turn does
 turned : (c : tie.After-next Inv-loop μ-loop)
-    → Turn (stateOf (c .before .before .before .before .before .before .before .before .before .loop .conn) (c .before .before .before .before .before .before .before .before .before .loop .gathered)) (c .before .before .before .before .before .before .before .before .before .loop .store) (c .before .before .before .before .before .before .before .before .before .before .before .before .args .input .now) (c .before .before .before .before .before .before .before .before .before .before .before .before .args .piece) (c .before .before .before .before .before .before .before .before .before .loop .at) (c .before .before .before .before .before .before .before .before .before .loop .end) (c .before .before .before .before .before .before .before .before .before .loop .sum) (c .before .before .before .before .before .before .before .next-end .result)
+    → LoopTurn (stateOf (c .before .before .before .before .before .before .before .before .before .loop .conn) (c .before .before .before .before .before .before .before .before .before .loop .gathered)) (c .before .before .before .before .before .before .before .before .before .loop .store) (c .before .before .before .before .before .before .before .before .before .before .before .before .args .input .now) (c .before .before .before .before .before .before .before .before .before .before .before .before .args .piece) (c .before .before .before .before .before .before .before .before .before .loop .at) (c .before .before .before .before .before .before .before .before .before .loop .end) (c .before .before .before .before .before .before .before .before .before .loop .sum) (c .before .before .before .before .before .before .before .next-end .result)
     (steppedBy (c .before .before .before .step .result) (c .before .before .before .step .last .1 .1 .0) (c .before .before .before .step .last .1 .0))
 turned c =
     let y = c .before .before .before .before .before .before .before .before .before .loop in

@@ -1,5 +1,5 @@
 use mathlib.Core.Path.{_∙_}
-use Rattle.numbers.specs.Laws.{refusal-some}
+use Rattle.codes.specs.Laws.{refusal-some}
 use borrow.Author.Needs.{needs}
 use Rattle.export.proofs.told_weight.Statement.{statement}
 use Rattle.export.proofs.told_weight.Tie as tie

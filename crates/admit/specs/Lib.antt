@@ -1,3 +1,0 @@
-pub mod Admission
-pub mod ActiveLaws
-pub mod AdmissionLaws

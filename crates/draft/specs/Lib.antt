@@ -1,5 +1,0 @@
-pub mod Words
-pub mod Line
-pub mod LineLaws
-pub mod Draft
-pub mod DraftLaws

@@ -1,9 +1,0 @@
-use Rattle.occupancy.specs.WordLaws.{ones-taken}
-use Rattle.occupancy.proofs.taken_count.Statement.{statement}
-use Rattle.occupancy.proofs.taken_count.Tie as tie
-
-returns : tie.Need-returns
-returns c = ones-taken 16 (c .args .occupied) (c .fits .occupied .fits)
-
-pub taken-count-spec : {M : Type 1} → statement M
-taken-count-spec = tie.close (tie.spec returns)

@@ -1,0 +1,82 @@
+// A list of pairs: whether it is well formed, and a pair found by its name or its number.
+use pairs::pair::Pair;
+use pairs::pair::Read;
+use pairs::pair::read_pair;
+use wire::same;
+ghost use mathlib.Core.Path.{_≡_};
+ghost use Rattle.pair_list.specs.List.{endingOf, wellFormed, firstNamed, pairNumber};
+
+// How a list ends: with its bytes used up, or before a pair that cannot be read, which starts at a place.
+pub enum Ending {
+    End,
+    Malformed(usize),
+}
+
+pub enum Found {
+    At(Pair),
+    Nothing,
+}
+
+pub fn list_ending(list: &[u8]) -> Ending
+    ensures { λ r. ⌜ r ≡ endingOf (now (list .entry)) ⌝ }
+{
+    let mut at: usize = 0;
+    while at < list.len() {
+        let read = read_pair(list, at);
+        let Read::Pair(_, next) = read else {
+            return Ending::Malformed(at);
+        };
+        at = next;
+    }
+    Ending::End
+}
+
+pub fn well_formed(list: &[u8]) -> bool
+    ensures { λ r. ⌜ r ≡ wellFormed (now (list .entry)) ⌝ }
+{
+    let e = list_ending(list);
+    match e {
+        Ending::End => true,
+        Ending::Malformed(_) => false,
+    }
+}
+
+// The first pair with that name.
+pub fn first_named(list: &[u8], name: &[u8]) -> Found
+    ensures { λ r. ⌜ r ≡ firstNamed (now (list .entry)) (now (name .entry)) ⌝ }
+{
+    let mut at: usize = 0;
+    while at < list.len() {
+        let read = read_pair(list, at);
+        let Read::Pair(p, next) = read else {
+            return Found::Nothing;
+        };
+        let a = p.name;
+        let e = p.value;
+        if same(&list[a..e], name) {
+            return Found::At(p);
+        }
+        at = next;
+    }
+    Found::Nothing
+}
+
+// The pair of number k, counted from 0.
+pub fn pair_number(list: &[u8], k: usize) -> Found
+    ensures { λ r. ⌜ r ≡ pairNumber (now (list .entry)) k ⌝ }
+{
+    let mut left = k;
+    let mut at: usize = 0;
+    while at < list.len() {
+        let read = read_pair(list, at);
+        let Read::Pair(p, next) = read else {
+            return Found::Nothing;
+        };
+        if left == 0 {
+            return Found::At(p);
+        }
+        left -= 1;
+        at = next;
+    }
+    Found::Nothing
+}

@@ -1,2 +1,0 @@
-// The call that reads a connection: one step.
-pub mod step;

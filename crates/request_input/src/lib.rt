@@ -1,0 +1,137 @@
+// What a record of an input stream does to one request. Each function is lent the request and its own
+// area, and sees no other.
+use connection::event::Event;
+use connection::event::Fault;
+use connection::event::Stream;
+use connection::request::Due;
+use connection::request::Request;
+use connection::request::Turn;
+use connection::sizes::AREA;
+use pair_list::well_formed;
+use request_fault::Ruling;
+use request_fault::end_turn;
+use request_fault::fault;
+use request_state::after_params;
+use request_state::after_stdin;
+use wire::copy_into;
+use wire::least;
+ghost use mathlib.Core.Path.{_≡_};
+ghost use Rattle.connection.specs.Request.{listOf, paramsEnded, onParams, onStdin, onData, grown};
+ghost use Rattle.pair_list.specs.List.{wellFormed};
+ghost use Rattle.request_fault.specs.Answer.{held, ruledBy};
+
+// The list of a request is well formed.
+fn list_well_formed(r: Request, area: &[u8]) -> bool
+    ensures { λ x. ⌜ x ≡ wellFormed (listOf (held r (now (area .entry)))) ⌝ }
+{
+    let z: usize = 0;
+    let n = least(r.length as usize, area.len());
+    well_formed(&area[z..n])
+}
+
+// The end of PARAMS: the request is ready, or its list is malformed.
+fn end_params(r: Request, area: &mut [u8]) -> Ruling
+    ensures { λ x. ⌜ ruledBy x (now (area .exit)) ≡ paramsEnded (held r (now (area .entry))) ⌝ }
+{
+    if list_well_formed(r, area) {
+        let m = r.state;
+        let role = m.role;
+        let t = after_params(role);
+        return end_turn(
+            r,
+            area,
+            t,
+            Event::Ready {
+                id: r.id,
+                length: r.length,
+            },
+        );
+    }
+    fault(r, area, Fault::Malformed)
+}
+
+// PARAMS with n content bytes.
+pub fn on_params(r: Request, area: &mut [u8], n: u16) -> Ruling
+    ensures { λ x. ⌜ ruledBy x (now (area .exit)) ≡ onParams n (held r (now (area .entry))) ⌝ }
+{
+    let had = r.length as usize;
+    if AREA < had + n as usize {
+        return fault(r, area, Fault::TooLong);
+    }
+    if n == 0 {
+        return end_params(r, area);
+    }
+    Ruling {
+        request: r,
+        due: Due::Params,
+        event: Event::Nothing,
+    }
+}
+
+// STDIN with n content bytes.
+pub fn on_stdin(r: Request, area: &mut [u8], n: u16) -> Ruling
+    ensures { λ x. ⌜ ruledBy x (now (area .exit)) ≡ onStdin n (held r (now (area .entry))) ⌝ }
+{
+    if n == 0 {
+        let m = r.state;
+        let role = m.role;
+        let t = after_stdin(role);
+        return end_turn(
+            r,
+            area,
+            t,
+            Event::End {
+                id: r.id,
+                stream: Stream::Stdin,
+            },
+        );
+    }
+    Ruling {
+        request: r,
+        due: Due::Stdin,
+        event: Event::Nothing,
+    }
+}
+
+// DATA with n content bytes.
+pub fn on_data(r: Request, area: &mut [u8], n: u16) -> Ruling
+    ensures { λ x. ⌜ ruledBy x (now (area .exit)) ≡ onData n (held r (now (area .entry))) ⌝ }
+{
+    if n == 0 {
+        return end_turn(
+            r,
+            area,
+            Turn::Done,
+            Event::End {
+                id: r.id,
+                stream: Stream::Data,
+            },
+        );
+    }
+    Ruling {
+        request: r,
+        due: Due::Data,
+        event: Event::Nothing,
+    }
+}
+
+// PARAMS content for this request: into its area, after what it holds.
+pub fn grow(r: Request, area: &mut [u8], bytes: &[u8]) -> Request
+    ensures { λ x. ⌜ held x (now (area .exit)) ≡ grown (held r (now (area .entry))) (now (bytes .entry)) ⌝ }
+{
+    let had = r.length as usize;
+    let n = bytes.len();
+    if AREA < had {
+        return r;
+    }
+    if AREA - had < n {
+        return r;
+    }
+    copy_into(area, had, bytes);
+    let state = r.state;
+    Request {
+        id: r.id,
+        length: (had + n) as u16,
+        state: state,
+    }
+}

@@ -1,0 +1,57 @@
+use mathlib.Core.Path.{_≡_, refl, sym, _∙_}
+use mathlib.Core.Bool.{_||_}
+use Prim.Native.Nat.{_-_}
+use borrow.Author.Needs.{needs}
+use Rattle.connection.specs.Sizes.{SLOTS}
+use Rattle.slot_check.specs.Quick.{anyOf, isLong}
+use Rattle.slot_check.specs.QuickLaws.{any-next, any-done}
+use Rattle.slot_check.proofs.any_long.Statement.{statement}
+use Rattle.slot_check.proofs.any_long.Tie as tie
+
+abbrev Inv-loop : tie.InvT-loop
+Inv-loop lengths any₀ i₀ any i = (any || anyOf (SLOTS - i) (isLong lengths) i) ≡ anyOf SLOTS (isLong lengths) 0
+
+abbrev μ-loop : tie.MeasureT-loop
+μ-loop lengths any₀ i₀ any i = SLOTS - i
+
+loop-holds : tie.Need-loop-holds Inv-loop μ-loop
+loop-holds c = refl
+
+mul-widen : tie.Need-mul-widen Inv-loop μ-loop
+mul-widen c = search needs
+
+element-copy-out-widen : tie.Need-element-copy-out-widen Inv-loop μ-loop
+element-copy-out-widen c = search needs
+
+widen-requires : tie.Need-widen-requires Inv-loop μ-loop
+widen-requires c κs = search needs
+
+add-i : tie.Need-add-i Inv-loop μ-loop
+add-i c = search needs
+
+loop-less : tie.Need-loop-less Inv-loop μ-loop
+loop-less c = search needs
+
+loop-again : tie.Need-loop-again Inv-loop μ-loop
+loop-again c =
+    let y = c .before .before .before in
+    rw (c .widen .ensures) (sym (any-next (y .loop .any) (isLong (y .before .args .lengths .now)) (y .loop .i) (c .before .before .loop-test .taken)) ∙ y .loop .inv)
+
+returns : tie.Need-returns Inv-loop μ-loop
+returns c =
+    sym (any-done (c .before .loop .any) (isLong (c .before .before .args .lengths .now)) (c .before .loop .i) (c .loop-test .left)) ∙ c .before .loop .inv
+
+pub any-long-spec : {M : Type 1} → statement M
+any-long-spec =
+    tie.close
+    (tie.spec
+    Inv-loop
+    μ-loop
+    loop-holds
+    mul-widen
+    element-copy-out-widen
+    widen-requires
+    add-i
+    loop-less
+    loop-again
+    returns)
