@@ -21,10 +21,10 @@ pub fn admit(c: Conn, id: u16) -> Admitted
 {
     let t = c.table;
     let f = c.frame;
-    if in_shape(&t.ids, &t.lengths, t.occupied, f) {} else {
+    if !in_shape(&t.ids, &t.lengths, t.occupied, f) {
         return Admitted::Refused(Refusal::OutOfShape);
     }
-    if c.open {} else {
+    if !c.open {
         return Admitted::Refused(Refusal::Closed);
     }
     let slot = find_from(&t.ids, t.occupied, id, 0);

@@ -19,10 +19,10 @@ pub fn active_count(c: Conn) -> Count
 {
     let t = c.table;
     let f = c.frame;
-    if in_shape(&t.ids, &t.lengths, t.occupied, f) {} else {
+    if !in_shape(&t.ids, &t.lengths, t.occupied, f) {
         return Count::Refused(Refusal::OutOfShape);
     }
-    if c.open {} else {
+    if !c.open {
         return Count::Refused(Refusal::Closed);
     }
     Count::Active(taken_count(t.occupied))

@@ -1,5 +1,6 @@
 // A whole piece fed, step after step.
 use call_step::step;
+use connection::sizes::QUERY;
 use connection::state::Conn;
 ghost use mathlib.Core.Path.{_≡_};
 ghost use Rattle.connection.specs.Step.{stateOf};
@@ -13,7 +14,7 @@ pub struct Drain {
 }
 
 // Steps through a piece to its end, or to the byte that closes the connection. What the steps tell is dropped.
-pub fn drain_piece(c: Conn, store: &mut [u8], gathered: &mut [u8; 512], piece: &[u8]) -> Drain
+pub fn drain_piece(c: Conn, store: &mut [u8], gathered: &mut [u8; QUERY], piece: &[u8]) -> Drain
     ensures { λ r. ⌜ drainedBy r (now (gathered .exit)) (now (store .exit)) ≡ drained (stateOf c (now (gathered .entry))) (now (store .entry)) (now (piece .entry)) ⌝ }
 {
     let mut conn = c;

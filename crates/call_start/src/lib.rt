@@ -4,6 +4,7 @@ use conn_frame::no_frame;
 use connection::answer::Refusal;
 use connection::answer::StartResult;
 use connection::answer::Started;
+use connection::sizes::QUERY;
 use connection::sizes::STORE;
 use connection::state::Conn;
 use slot_table::no_requests;
@@ -14,7 +15,7 @@ ghost use Rattle.call_start.specs.Answer.{startedBy};
 
 // Start: an open connection with no requests, the store and the gathered bytes zeroed. With a store of another size
 // it is refused, a closed connection comes back, and the lent bytes stay as they are.
-pub fn start(store: &mut [u8], gathered: &mut [u8; 512]) -> Started
+pub fn start(store: &mut [u8], gathered: &mut [u8; QUERY]) -> Started
     ensures { λ r. ⌜ startedBy r (now (gathered .exit)) (now (store .exit)) ≡ started (now (gathered .entry)) (now (store .entry)) ⌝ }
 {
     if store.len() == STORE {

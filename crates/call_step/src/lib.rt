@@ -11,6 +11,7 @@ use connection::answer::Stepped;
 use connection::decision::Change;
 use connection::decision::Decision;
 use connection::event::Event;
+use connection::sizes::QUERY;
 use connection::sizes::STORE;
 use connection::state::Conn;
 use connection::state::Frame;
@@ -44,7 +45,7 @@ fn decide(
     t: Table,
     f: Frame,
     store: &mut [u8],
-    gathered: &mut [u8; 512],
+    gathered: &mut [u8; QUERY],
     bytes: &[u8],
     phase: Phase,
     p: Position,
@@ -74,10 +75,10 @@ fn check_step(size: usize, fits: bool, open: bool, bytes: usize) -> StepCheck
     if size != STORE {
         return StepCheck::Refused(Refusal::StoreSize);
     }
-    if fits {} else {
+    if !fits {
         return StepCheck::Refused(Refusal::OutOfShape);
     }
-    if open {} else {
+    if !open {
         return StepCheck::Refused(Refusal::Closed);
     }
     if bytes == 0 {
@@ -107,7 +108,7 @@ fn stay(f: Frame, result: StepResult) -> Outcome
 }
 
 // A step that is not refused, over a piece that is not empty.
-fn go_on(t: Table, f: Frame, store: &mut [u8], gathered: &mut [u8; 512], piece: &[u8]) -> Outcome
+fn go_on(t: Table, f: Frame, store: &mut [u8], gathered: &mut [u8; QUERY], piece: &[u8]) -> Outcome
     requires { ⌜ (length (now store) ≡ STORE) × (Aimed (f .target) t (f .gathered) (f .position .content)) × (Placed (f .position)) ⌝ }
     ensures { λ r. ⌜ outcomeOf r t true (now (gathered .exit)) (now (store .exit)) ≡ advances (openState t f (now (gathered .entry))) (now (store .entry)) (now (piece .entry)) (advanced (f .position) (now (piece .entry))) ⌝ }
 {
@@ -135,7 +136,7 @@ fn settle(
     t: Table,
     f: Frame,
     store: &mut [u8],
-    gathered: &mut [u8; 512],
+    gathered: &mut [u8; QUERY],
     piece: &[u8],
 ) -> Outcome
     requires { ⌜ (check ≡ StepCheck.Read → (length (now store) ≡ STORE) × (Aimed (f .target) t (f .gathered) (f .position .content)) × (Placed (f .position))) ⌝ }
@@ -150,7 +151,7 @@ fn settle(
 
 // One step over a piece: it stays in one phase and uses as many bytes as that phase still needs or the piece has.
 // The table is changed in place and has one way out: each way out that carried it would copy it once more.
-pub fn step(c: Conn, store: &mut [u8], gathered: &mut [u8; 512], piece: &[u8]) -> Stepped
+pub fn step(c: Conn, store: &mut [u8], gathered: &mut [u8; QUERY], piece: &[u8]) -> Stepped
     ensures { λ r. ⌜ steppedBy r (now (gathered .exit)) (now (store .exit)) ≡ stepped (stateOf c (now (gathered .entry))) (now (store .entry)) (now (piece .entry)) ⌝ }
 {
     let mut t = c.table;

@@ -45,7 +45,7 @@ fn due_fits(occupied: u16, i: u8) -> bool
 }
 
 // A BEGIN body's bytes make 8, for an id that is neither 0 nor active.
-fn begin_fits(ids: &[u16; 16], occupied: u16, id: u16, gathered: usize, left: usize) -> bool
+fn begin_fits(ids: &[u16; SLOTS], occupied: u16, id: u16, gathered: usize, left: usize) -> bool
     ensures { λ r. ⌜ r ≡ targetOf (Target.Begin id) (now (ids .entry)) [] occupied gathered left ⌝ }
 {
     if 8 < gathered {
@@ -75,10 +75,10 @@ fn within(limit: usize, some: usize, more: usize) -> bool
 }
 
 // PARAMS content is due to a slot that is taken, and does not pass AREA.
-fn params_fit(lengths: &[u16; 16], occupied: u16, i: u8, left: usize) -> bool
+fn params_fit(lengths: &[u16; SLOTS], occupied: u16, i: u8, left: usize) -> bool
     ensures { λ r. ⌜ r ≡ targetOf (Target.Params i) [] (now (lengths .entry)) occupied 0 left ⌝ }
 {
-    if due_fits(occupied, i) {} else {
+    if !due_fits(occupied, i) {
         return false;
     }
     let slot = i as usize;
@@ -87,8 +87,8 @@ fn params_fit(lengths: &[u16; 16], occupied: u16, i: u8, left: usize) -> bool
 
 fn target_fits<'a>(
     target: Target,
-    ids: &'a [u16; 16],
-    lengths: &'a [u16; 16],
+    ids: &'a [u16; SLOTS],
+    lengths: &'a [u16; SLOTS],
     occupied: u16,
     gathered: usize,
     left: usize,
@@ -106,14 +106,19 @@ fn target_fits<'a>(
 }
 
 // The state with these ids, lengths and slots taken, and this frame, is in shape.
-pub fn in_shape<'a>(ids: &'a [u16; 16], lengths: &'a [u16; 16], occupied: u16, f: Frame) -> bool
+pub fn in_shape<'a>(
+    ids: &'a [u16; SLOTS],
+    lengths: &'a [u16; SLOTS],
+    occupied: u16,
+    f: Frame,
+) -> bool
     ensures { λ r. ⌜ r ≡ shapeOf (now (ids .entry)) (now (lengths .entry)) occupied f ⌝ }
 {
-    if slots_fit(ids, lengths, occupied) {} else {
+    if !slots_fit(ids, lengths, occupied) {
         return false;
     }
     let p = f.position;
-    if position_fits(p) {} else {
+    if !position_fits(p) {
         return false;
     }
     let target = f.target;

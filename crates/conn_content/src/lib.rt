@@ -9,6 +9,7 @@ use connection::event::Event;
 use connection::event::Stream;
 use connection::request::Request;
 use connection::sizes::AREA;
+use connection::sizes::QUERY;
 use connection::state::Frame;
 use connection::state::Table;
 use connection::state::Target;
@@ -82,7 +83,7 @@ pub fn feed(
     t: Table,
     f: Frame,
     store: &mut [u8],
-    gathered: &mut [u8; 512],
+    gathered: &mut [u8; QUERY],
     bytes: &[u8],
     p: Position,
 ) -> Decision

@@ -33,7 +33,7 @@ ghost use Rattle.connection.specs.Decision.{openState, applied};
 fn on_inactive(h: Header) -> Decision
     ensures { λ r. ⌜ ((t : Table) (fr : Frame) (g s : List ℕ) → applied r t g s ≡ onInactive (openState t fr g) s h) ⌝ }
 {
-    if h.kind == names::BEGIN_REQUEST {} else {
+    if h.kind != names::BEGIN_REQUEST {
         return only_frame(frame_after(h, Target::Skip), Event::Nothing);
     }
     if h.content == 8 {
@@ -78,7 +78,7 @@ pub fn judge(t: Table, store: &mut [u8], h: Header) -> Decision
     requires { ⌜ length (now store) ≡ STORE ⌝ }
     ensures { λ r. ⌜ ((fr : Frame) (g : List ℕ) → applied r t g (now (store .exit)) ≡ judged (openState t fr g) (now (store .entry)) h) ⌝ }
 {
-    if h.version == names::VERSION {} else {
+    if h.version != names::VERSION {
         return closing(Close::Version);
     }
     if h.id == 0 {

@@ -62,7 +62,7 @@ pub fn on_query(list: &[u8], f: Frame) -> Decision
 pub fn on_management(h: Header) -> Decision
     ensures { λ r. ⌜ ((t : Table) (fr : Frame) (g s : List ℕ) → applied r t g s ≡ onManagement (openState t fr g) s h) ⌝ }
 {
-    if h.kind == names::GET_VALUES {} else {
+    if h.kind != names::GET_VALUES {
         return only_frame(
             frame_after(h, Target::Skip),
             Event::Unknown { kind: h.kind },

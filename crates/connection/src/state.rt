@@ -1,12 +1,13 @@
 // The state of a connection.
 use crate::request::RequestState;
+use crate::sizes::SLOTS;
 use record_reader::Position;
 
 // The requests, slot by slot. Bit i of `occupied` says that slot i is taken.
 pub struct Table {
-    pub ids: [u16; 16],
-    pub lengths: [u16; 16],
-    pub states: [RequestState; 16],
+    pub ids: [u16; SLOTS],
+    pub lengths: [u16; SLOTS],
+    pub states: [RequestState; SLOTS],
     pub occupied: u16,
 }
 

@@ -63,7 +63,7 @@ fn answer_all(
     while turns > 0 {
         turns -= 1;
         input = next_line(input, piece, line);
-        if input.more {} else {
+        if !input.more {
             return;
         }
         state = answer_line(state, line, input.held, store, gathered, bytes, out, page);

@@ -42,7 +42,7 @@ pub fn write_record(out: &mut [u8], at: usize, kind: u8, id: u16, content: &[u8]
     ensures { λ r. ⌜ record { next = r; buffer = now (out .exit) } ≡ recordPlaced (now (out .entry)) at kind id (now (content .entry)) ⌝ }
 {
     let n = content.len();
-    if record_fits(n, at, out.len()) {} else {
+    if !record_fits(n, at, out.len()) {
         return at;
     }
     let padding = padding_of(n as u16);
@@ -88,7 +88,7 @@ pub fn stream_fits(size: u16, n: usize, at: usize, room: usize) -> bool
 pub fn write_stream(out: &mut [u8], at: usize, kind: u8, id: u16, bytes: &[u8], size: u16) -> usize
     ensures { λ r. ⌜ record { next = r; buffer = now (out .exit) } ≡ streamPlaced (now (out .entry)) at kind id (now (bytes .entry)) size ⌝ }
 {
-    if stream_fits(size, bytes.len(), at, out.len()) {} else {
+    if !stream_fits(size, bytes.len(), at, out.len()) {
         return at;
     }
     let most = size as usize;

@@ -99,7 +99,7 @@ fn replay_piece(
 fn stop(c: Conn) {
     let f = c.frame;
     let p = f.position;
-    if c.open {} else {
+    if !c.open {
         io::write_all(STDOUT_FILENO, b"stop closed\n");
         return;
     }
@@ -144,7 +144,7 @@ fn replay_all(r: Replay, store: &mut [u8], gathered: &mut [u8; QUERY], out: &mut
     while turns > 0 {
         let t = read_on(replay, store, gathered, out);
         replay = t.replay;
-        if t.more {} else {
+        if !t.more {
             return replay;
         }
         turns -= 1;

@@ -70,7 +70,7 @@ fn output_check(r: Request, output: Output, fits: bool) -> Check
     if is_ended(output, state) {
         return Check::Refused(Refusal::Ended);
     }
-    if fits {} else {
+    if !fits {
         return Check::Refused(Refusal::NoRoom);
     }
     Check::Passed

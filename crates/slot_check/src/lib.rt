@@ -13,7 +13,7 @@ ghost use Rattle.connection.specs.Shape.{slotsFit};
 ghost use Rattle.slot_check.specs.Quick.{keyOf, isNameless, isLong, repeats, anyOf, KeysOf};
 
 // The id of slot i, or 0 where it is free.
-fn key_of(ids: &[u16; 16], occupied: u16, i: usize) -> u16
+fn key_of(ids: &[u16; SLOTS], occupied: u16, i: usize) -> u16
     requires { ⌜ i < SLOTS ⌝ }
     ensures { λ r. ⌜ r ≡ keyOf (now (ids .entry)) occupied i ⌝ }
 {
@@ -24,7 +24,7 @@ fn key_of(ids: &[u16; 16], occupied: u16, i: usize) -> u16
 }
 
 // The keys of the slots, twice over: after the last comes the first again.
-fn keys_of(ids: &[u16; 16], occupied: u16) -> [u16; 32]
+fn keys_of(ids: &[u16; SLOTS], occupied: u16) -> [u16; 32]
     ensures { λ r. ⌜ KeysOf (now (ids .entry)) occupied SLOTS r ⌝ }
 {
     let mut keys = [0u16; 32];
@@ -58,7 +58,7 @@ fn any_nameless(keys: &[u16; 32], occupied: u16) -> bool
     any
 }
 
-fn any_long(lengths: &[u16; 16]) -> bool
+fn any_long(lengths: &[u16; SLOTS]) -> bool
     ensures { λ r. ⌜ r ≡ anyOf SLOTS (isLong (now (lengths .entry))) 0 ⌝ }
 {
     let mut any = false;
@@ -100,7 +100,7 @@ fn any_repeats(keys: &[u16; 32]) -> bool
 }
 
 // No area's length is over AREA, no id of a slot taken is 0, and no two are the same.
-pub fn slots_fit<'a>(ids: &'a [u16; 16], lengths: &'a [u16; 16], occupied: u16) -> bool
+pub fn slots_fit<'a>(ids: &'a [u16; SLOTS], lengths: &'a [u16; SLOTS], occupied: u16) -> bool
     ensures { λ r. ⌜ r ≡ slotsFit SLOTS (now (ids .entry)) (now (lengths .entry)) occupied 0 ⌝ }
 {
     let keys = keys_of(ids, occupied);

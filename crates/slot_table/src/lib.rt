@@ -30,6 +30,17 @@ pub fn no_state() -> RequestState
     }
 }
 
+// The request of a free slot.
+fn no_request() -> Request
+    ensures { λ r. ⌜ r ≡ noRequest ⌝ }
+{
+    Request {
+        id: 0,
+        length: 0,
+        state: no_state(),
+    }
+}
+
 // The request in slot i. From 16 on there is none.
 pub fn request_at(t: Table, i: usize) -> Request
     ensures { λ r. ⌜ r ≡ requestAt t i ⌝ }
@@ -42,11 +53,7 @@ pub fn request_at(t: Table, i: usize) -> Request
             state: state,
         };
     }
-    Request {
-        id: 0,
-        length: 0,
-        state: no_state(),
-    }
+    no_request()
 }
 
 // Slot i with that request. There is no slot from 16 on.
@@ -76,12 +83,7 @@ pub fn take_request(t: Table, i: usize, r: Request) -> Table
 pub fn free_request(t: Table, i: usize) -> Table
     ensures { λ x. ⌜ x ≡ freeSlot t i ⌝ }
 {
-    let none = Request {
-        id: 0,
-        length: 0,
-        state: no_state(),
-    };
-    let mut table = put_request(t, i, none);
+    let mut table = put_request(t, i, no_request());
     table.occupied = free_slot(t.occupied, i);
     table
 }
@@ -92,15 +94,15 @@ pub fn no_requests() -> Table
 {
     let state = no_state();
     Table {
-        ids: [0; 16],
-        lengths: [0; 16],
-        states: [state; 16],
+        ids: [0; SLOTS],
+        lengths: [0; SLOTS],
+        states: [state; SLOTS],
         occupied: 0,
     }
 }
 
 // Whether slot i is taken and has that id.
-fn holds_id(ids: &[u16; 16], occupied: u16, id: u16, i: usize) -> bool
+fn holds_id(ids: &[u16; SLOTS], occupied: u16, id: u16, i: usize) -> bool
     requires { ⌜ i < SLOTS ⌝ }
     ensures { λ r. ⌜ r ≡ holdsId (now (ids .entry)) occupied id i ⌝ }
 {
@@ -111,7 +113,7 @@ fn holds_id(ids: &[u16; 16], occupied: u16, id: u16, i: usize) -> bool
 }
 
 // The first slot from a given one on that is taken and has that id.
-pub fn find_from(ids: &[u16; 16], occupied: u16, id: u16, from: usize) -> Slot
+pub fn find_from(ids: &[u16; SLOTS], occupied: u16, id: u16, from: usize) -> Slot
     ensures { λ r. ⌜ r ≡ findFrom (SLOTS - from) (now (ids .entry)) occupied id from ⌝ }
 {
     let mut i = from;

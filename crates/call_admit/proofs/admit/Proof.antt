@@ -1,3 +1,4 @@
+use borrow.Author.Tests.{not-true, not-false}
 use mathlib.Core.Path.{_≡_, sym, _∙_}
 use mathlib.Core.Bool.{true, false}
 use Rattle.connection.specs.Shape.{inShape}
@@ -11,17 +12,20 @@ use Rattle.call_admit.proofs.admit.Tie as tie
 in-shape-requires : tie.Need-in-shape-requires
 in-shape-requires c κs = search needs
 
+-- what the test of the shape says of the whole state
+unfit : (c : tie.Then1) → inShape (c .before .before .before .before .before .before .before .args .c) ≡ false
+unfit c = sym (shape-of (c .before .before .before .before .before .before .before .args .c)) ∙ sym (c .before .in-shape .ensures) ∙ not-true _ (c .if1 .taken)
+
+fits : (c : tie.Else1) → inShape (c .before .before .before .before .before .before .before .args .c) ≡ true
+fits c = sym (shape-of (c .before .before .before .before .before .before .before .args .c)) ∙ sym (c .before .in-shape .ensures) ∙ not-false _ (c .if1 .left)
+
 returns : tie.Need-returns
 unfolding callAdmission callRefusal
-returns c =
-    let bad : inShape (c .before .before .before .before .before .before .before .args .c) ≡ false = sym (shape-of (c .before .before .before .before .before .before .before .args .c)) ∙ sym (c .before .in-shape .ensures) ∙ c .if1 .left in
-    simp bad
+returns c = simp (unfit c)
 
 returns-2 : tie.Need-returns-2
 unfolding callAdmission callRefusal
-returns-2 c =
-    let good : inShape (c .before .before .before .before .before .before .before .before .args .c) ≡ true = sym (shape-of (c .before .before .before .before .before .before .before .before .args .c)) ∙ sym (c .before .before .in-shape .ensures) ∙ c .before .if1 .taken in
-    simp (good, c .if2 .left)
+returns-2 c = simp (fits (c .before .before), not-true (c .before .before .before .before .before .before .before .before .before .args .c .«open») (c .if2 .taken))
 
 find-from-requires : tie.Need-find-from-requires
 find-from-requires c κs = search needs
@@ -34,15 +38,11 @@ enum-told c = search needs
 
 returns-3 : tie.Need-returns-3
 unfolding callAdmission callRefusal
-returns-3 c =
-    let good : inShape (c .before .before .before .before .before .before .before .before .before .before .before .before .before .args .c) ≡ true = sym (shape-of (c .before .before .before .before .before .before .before .before .before .before .before .before .before .args .c)) ∙ sym (c .before .before .before .before .before .before .before .in-shape .ensures) ∙ c .before .before .before .before .before .before .if1 .taken in
-    simp (good, c .before .before .before .before .before .if2 .taken, ← c .before .before .find-from .ensures, c .enum-told .given .1)
+returns-3 c = simp (fits (c .before .before .before .before .before .before .before), not-false (c .before .before .before .before .before .before .before .before .before .before .before .before .before .before .args .c .«open») (c .before .before .before .before .before .if2 .left), ← c .before .before .find-from .ensures, c .enum-told .given .1)
 
 returns-4 : tie.Need-returns-4
 unfolding callAdmission callRefusal
-returns-4 c =
-    let good : inShape (c .before .before .before .before .before .before .before .before .before .before .before .before .before .before .args .c) ≡ true = sym (shape-of (c .before .before .before .before .before .before .before .before .before .before .before .before .before .before .args .c)) ∙ sym (c .before .before .before .before .before .before .before .before .in-shape .ensures) ∙ c .before .before .before .before .before .before .before .if1 .taken in
-    simp (good, c .before .before .before .before .before .before .if2 .taken, ← c .before .before .before .find-from .ensures, c .before .slot .given .1)
+returns-4 c = simp (fits (c .before .before .before .before .before .before .before .before), not-false (c .before .before .before .before .before .before .before .before .before .before .before .before .before .before .before .args .c .«open») (c .before .before .before .before .before .before .if2 .left), ← c .before .before .before .find-from .ensures, c .before .slot .given .1)
 
 pub admit-spec : {M : Type 1} → statement M
 admit-spec =

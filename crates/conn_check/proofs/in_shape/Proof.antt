@@ -1,3 +1,4 @@
+use borrow.Author.Tests.{not-true, not-false}
 use Rattle.connection.specs.Shape.{inShape}
 use borrow.Author.Needs.{needs}
 use Rattle.conn_check.proofs.in_shape.Statement.{statement}
@@ -8,21 +9,21 @@ slots-fit-requires c κs = search needs
 
 returns : tie.Need-returns
 unfolding inShape
-returns c = simp (← c .before .slots-fit .ensures, c .if1 .left)
+returns c = simp (← c .before .slots-fit .ensures, not-true (c .before .slots-fit .result) (c .if1 .taken))
 
 position-fits-requires : tie.Need-position-fits-requires
 position-fits-requires c κs = search needs
 
 returns-2 : tie.Need-returns-2
 unfolding inShape
-returns-2 c = simp (← c .before .before .before .before .slots-fit .ensures, c .before .before .before .if1 .taken, ← c .before .position-fits .ensures, c .if2 .left)
+returns-2 c = simp (← c .before .before .before .before .slots-fit .ensures, not-false (c .before .before .before .before .slots-fit .result) (c .before .before .before .if1 .left), ← c .before .position-fits .ensures, not-true (c .before .position-fits .result) (c .if2 .taken))
 
 target-fits-requires : tie.Need-target-fits-requires
 target-fits-requires c κs = search needs
 
 returns-3 : tie.Need-returns-3
 unfolding inShape
-returns-3 c = rw (← c .before .before .before .before .before .slots-fit .ensures, c .before .before .before .before .if1 .taken, ← c .before .before .position-fits .ensures, c .before .if2 .taken) (c .target-fits .ensures)
+returns-3 c = rw (← c .before .before .before .before .before .slots-fit .ensures, not-false (c .before .before .before .before .before .slots-fit .result) (c .before .before .before .before .if1 .left), ← c .before .before .position-fits .ensures, not-false (c .before .before .position-fits .result) (c .before .if2 .left)) (c .target-fits .ensures)
 
 pub in-shape-spec : {M : Type 1} → statement M
 in-shape-spec =

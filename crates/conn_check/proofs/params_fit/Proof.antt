@@ -1,3 +1,4 @@
+use borrow.Author.Tests.{not-true, not-false}
 use native.Mathlib.Omega.{arith}
 use mathlib.Core.Path.{sym, _∙_}
 use Prim.Native.Nat.{_<_}
@@ -11,14 +12,14 @@ due-fits-requires : tie.Need-due-fits-requires
 due-fits-requires c κs = search needs
 
 returns : tie.Need-returns
-returns c = simp (← c .before .due-fits .ensures, c .if1 .left)
+returns c = simp (← c .before .due-fits .ensures, not-true (c .before .due-fits .result) (c .if1 .taken))
 
 mul-widen : tie.Need-mul-widen
 mul-widen c = search needs
 
 -- past the test it is one of the slots
-slot : (c : tie.Then1) → c .before .before .args .i < SLOTS
-slot c = due-slot (c .before .before .args .occupied) (c .before .before .args .i) (sym (c .before .due-fits .ensures) ∙ c .if1 .taken)
+slot : (c : tie.Else1) → c .before .before .args .i < SLOTS
+slot c = due-slot (c .before .before .args .occupied) (c .before .before .args .i) (sym (c .before .due-fits .ensures) ∙ not-false (c .before .due-fits .result) (c .if1 .left))
 
 element-copy-out-widen : tie.Need-element-copy-out-widen
 element-copy-out-widen c = omega (arith, slot c)
@@ -30,7 +31,7 @@ within-requires : tie.Need-within-requires
 within-requires c κs = search needs
 
 returns-2 : tie.Need-returns-2
-returns-2 c = simp (← c .before .before .before .before .due-fits .ensures, c .before .before .before .if1 .taken, c .within .ensures, c .before .widen .ensures)
+returns-2 c = simp (← c .before .before .before .before .due-fits .ensures, not-false (c .before .before .before .before .due-fits .result) (c .before .before .before .if1 .left), c .within .ensures, c .before .widen .ensures)
 
 pub params-fit-spec : {M : Type 1} → statement M
 params-fit-spec =

@@ -17,14 +17,14 @@ closing-requires c κs = search needs
 
 returns : tie.Need-returns
 unfolding judged
-returns c = λ fr g. c .closing .ensures (c .before .before .before .before .args .t1) fr g (c .before .before .before .before .args .store .now) ∙ simp (ne-eqb _ _ (c .before .if1 .left))
+returns c = λ fr g. c .closing .ensures (c .before .before .before .before .args .t1) fr g (c .before .before .before .before .args .store .now) ∙ simp (ne-eqb _ _ (c .before .if1 .taken))
 
 on-management-requires : tie.Need-on-management-requires
 on-management-requires c κs = search needs
 
 returns-2 : tie.Need-returns-2
 unfolding judged
-returns-2 c = λ fr g. c .on-management .ensures (c .before .before .before .before .before .before .args .t1) fr g (c .before .before .before .before .before .before .args .store .now) ∙ simp (eq-eqb _ _ (c .before .if2 .taken), eq-eqb _ _ (c .before .before .before .if1 .taken))
+returns-2 c = λ fr g. c .on-management .ensures (c .before .before .before .before .before .before .args .t1) fr g (c .before .before .before .before .before .before .args .store .now) ∙ simp (eq-eqb _ _ (c .before .if2 .taken), eq-eqb _ _ (c .before .before .before .if1 .left))
 
 find-from-requires : tie.Need-find-from-requires
 find-from-requires c κs = search needs
@@ -43,7 +43,7 @@ unfolding judged
 returns-3 c =
     λ fr g.
     c .on-inactive .ensures (c .before .before .before .before .before .before .before .before .before .before .before .args .t1) fr g (c .before .before .before .before .before .before .before .before .before .before .before .args .store .now)
-    ∙ simp (ne-eqb _ _ (c .before .before .before .before .before .before .if2 .left), eq-eqb _ _ (c .before .before .before .before .before .before .before .before .if1 .taken), ← c .before .before .before .find-from .ensures, c .before .enum-told .given .1)
+    ∙ simp (ne-eqb _ _ (c .before .before .before .before .before .before .if2 .left), eq-eqb _ _ (c .before .before .before .before .before .before .before .before .if1 .left), ← c .before .before .before .find-from .ensures, c .before .enum-told .given .1)
 
 -- the slot found is one of them
 low : (c : tie.After-slot) → c .slot .given .0 .0 < SLOTS
@@ -82,7 +82,7 @@ returns-4 c =
     let t = c .before .before .before .before .before .before .before .before .before .before .before .before .before .before .before .before .args .t1 in
     ap (applied (c .before .before .on-active .result) t g) (part-back s i (c .before .before .on-active .last .0))
     ∙ c .before .before .on-active .ensures t fr g s (sym (c .before .before .before .before .request-at .ensures)) (part-lent s i)
-    ∙ simp (ne-eqb _ _ (c .before .before .before .before .before .before .before .before .before .before .before .if2 .left), eq-eqb _ _ (c .before .before .before .before .before .before .before .before .before .before .before .before .before .if1 .taken), ← c .before .before .before .before .before .before .before .before .find-from .ensures, c .before .before .before .before .before .before .slot .given .1)
+    ∙ simp (ne-eqb _ _ (c .before .before .before .before .before .before .before .before .before .before .before .if2 .left), eq-eqb _ _ (c .before .before .before .before .before .before .before .before .before .before .before .before .before .if1 .left), ← c .before .before .before .before .before .before .before .before .find-from .ensures, c .before .before .before .before .before .before .slot .given .1)
 
 pub judge-spec : {M : Type 1} → statement M
 judge-spec =

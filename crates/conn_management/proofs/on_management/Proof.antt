@@ -13,7 +13,7 @@ only-frame-requires c κs = search needs
 
 returns : tie.Need-returns
 unfolding onManagement
-returns c = λ t fr g s. simp (c .only-frame .ensures, c .before .frame-after .ensures, ne-eqb _ _ (c .before .before .if1 .left))
+returns c = λ t fr g s. simp (c .only-frame .ensures, c .before .frame-after .ensures, ne-eqb _ _ (c .before .before .if1 .taken))
 
 cast-if2 : tie.Need-cast-if2
 cast-if2 c = search needs
@@ -23,7 +23,7 @@ closing-requires c κs = search needs
 
 returns-2 : tie.Need-returns-2
 unfolding onManagement
-returns-2 c = λ t fr g s. c .closing .ensures t fr g s ∙ simp (lt-ltb _ _ (c .before .if2 .taken), eq-eqb _ _ (c .before .before .before .if1 .taken))
+returns-2 c = λ t fr g s. c .closing .ensures t fr g s ∙ simp (lt-ltb _ _ (c .before .if2 .taken), eq-eqb _ _ (c .before .before .before .if1 .left))
 
 slice-aggregate-on-query : tie.Need-slice-aggregate-on-query
 slice-aggregate-on-query c = search needs
@@ -36,7 +36,7 @@ on-query-requires c κs = search needs
 
 returns-3 : tie.Need-returns-3
 unfolding onManagement
-returns-3 c = λ t fr g s. c .on-query .ensures t fr g s ∙ simp (c .before .frame-after2 .ensures, eq-eqb _ _ (c .before .before .before .if3 .taken), le-ltb _ _ (c .before .before .before .before .before .if2 .left), eq-eqb _ _ (c .before .before .before .before .before .before .before .if1 .taken))
+returns-3 c = λ t fr g s. c .on-query .ensures t fr g s ∙ simp (c .before .frame-after2 .ensures, eq-eqb _ _ (c .before .before .before .if3 .taken), le-ltb _ _ (c .before .before .before .before .before .if2 .left), eq-eqb _ _ (c .before .before .before .before .before .before .before .if1 .left))
 
 frame-after-requires-3 : tie.Need-frame-after-requires-3
 frame-after-requires-3 c κs = search needs
@@ -46,7 +46,7 @@ only-frame-requires-2 c κs = search needs
 
 returns-4 : tie.Need-returns-4
 unfolding onManagement
-returns-4 c = λ t fr g s. simp (c .only-frame2 .ensures, c .before .frame-after3 .ensures, ne-eqb _ _ (c .before .before .if3 .left), le-ltb _ _ (c .before .before .before .before .if2 .left), eq-eqb _ _ (c .before .before .before .before .before .before .if1 .taken))
+returns-4 c = λ t fr g s. simp (c .only-frame2 .ensures, c .before .frame-after3 .ensures, ne-eqb _ _ (c .before .before .if3 .left), le-ltb _ _ (c .before .before .before .before .if2 .left), eq-eqb _ _ (c .before .before .before .before .before .before .if1 .left))
 
 pub on-management-spec : {M : Type 1} → statement M
 on-management-spec =

@@ -1,3 +1,4 @@
+use borrow.Author.Tests.{not-true, not-false}
 use mathlib.Core.Path.{sym, _∙_}
 use native.Mathlib.Omega.{arith}
 use lib.ListN.{length}
@@ -12,11 +13,11 @@ record-fits-requires c κs = search needs
 returns : tie.Need-returns
 returns c =
     let a = c .before .before .before .before .args in
-    record-unplaced (a .out .now) (a .at) (a .kind) (a .id) (a .content .now) (sym (c .before .record-fits .ensures) ∙ c .if1 .left)
+    record-unplaced (a .out .now) (a .at) (a .kind) (a .id) (a .content .now) (sym (c .before .record-fits .ensures) ∙ not-true _ (c .if1 .taken))
 
 -- past the test the record fits
-fits : (c : tie.Then1) → Fits (length (c .before .before .before .before .args .content .now)) (c .before .before .before .before .args .at) (length (c .before .before .before .before .args .out .now))
-fits c = record-fits _ _ _ (sym (c .before .record-fits .ensures) ∙ c .if1 .taken)
+fits : (c : tie.Else1) → Fits (length (c .before .before .before .before .args .content .now)) (c .before .before .before .before .args .at) (length (c .before .before .before .before .args .out .now))
+fits c = record-fits _ _ _ (sym (c .before .record-fits .ensures) ∙ not-false _ (c .if1 .left))
 
 cast-padding-of : tie.Need-cast-padding-of
 cast-padding-of c = omega (arith, fits c)
@@ -72,7 +73,7 @@ returns-2 c =
     let x = y .before .before .before .before in
     let h = x .before .before .before in
     let a = h .before .before .before .before .before .before .args in
-    record-placed (a .out .now) (a .at) (a .kind) (a .id) (a .content .now) (sym (h .before .before .before .record-fits .ensures) ∙ h .before .before .if1 .taken) (h .before .padding-of .result) (h .before .padding-of .ensures)
+    record-placed (a .out .now) (a .at) (a .kind) (a .id) (a .content .now) (sym (h .before .before .before .record-fits .ensures) ∙ not-false _ (h .before .before .if1 .left)) (h .before .padding-of .result) (h .before .padding-of .ensures)
     (h .header-bytes .ensures) (x .copy-into .ensures) (y .copy-into2 .ensures) (c .before .before .copy-into3 .ensures)
 
 pub write-record-spec : {M : Type 1} → statement M

@@ -1,3 +1,4 @@
+use borrow.Author.Tests.{not-true, not-false}
 use mathlib.Core.Path.{_≡_, refl, sym, ap, _∙_}
 use Prim.Native.Nat.{_+_, _-_, _≤_, _<_}
 use native.Mathlib.Omega.{arith}
@@ -27,16 +28,16 @@ stream-fits-requires c κs = search needs
 returns : tie.Need-returns Inv-loop μ-loop
 returns c =
     let a = c .before .before .before .before .args in
-    stream-unplaced (a .out .now) (a .at) (a .kind) (a .id) (a .bytes .now) (a .size) (sym (c .before .stream-fits .ensures) ∙ c .if1 .left)
+    stream-unplaced (a .out .now) (a .at) (a .kind) (a .id) (a .bytes .now) (a .size) (sym (c .before .stream-fits .ensures) ∙ not-true _ (c .if1 .taken))
 
 loop-holds : tie.Need-loop-holds Inv-loop μ-loop
 loop-holds c = (omega arith, refl, refl, refl)
 
 -- past the test the stream fits
-fits : (c : tie.Then1 Inv-loop μ-loop) → (0 < c .before .before .before .before .args .size) × (c .before .before .before .before .args .at + length (streamBytes (c .before .before .before .before .args .size) (c .before .before .before .before .args .kind) (c .before .before .before .before .args .id) (c .before .before .before .before .args .bytes .now)) ≤ length (c .before .before .before .before .args .out .now))
+fits : (c : tie.Else1 Inv-loop μ-loop) → (0 < c .before .before .before .before .args .size) × (c .before .before .before .before .args .at + length (streamBytes (c .before .before .before .before .args .size) (c .before .before .before .before .args .kind) (c .before .before .before .before .args .id) (c .before .before .before .before .args .bytes .now)) ≤ length (c .before .before .before .before .args .out .now))
 fits c =
     let a = c .before .before .before .before .args in
-    let f = stream-fits (a .size) (length (a .bytes .now)) (a .at) (length (a .out .now)) (sym (c .before .stream-fits .ensures) ∙ c .if1 .taken) in
+    let f = stream-fits (a .size) (length (a .bytes .now)) (a .at) (length (a .out .now)) (sym (c .before .stream-fits .ensures) ∙ not-false _ (c .if1 .left)) in
     (f .0, omega (arith, f .1, stream-length (a .size) (a .kind) (a .id) (f .0) (a .bytes .now)))
 
 sub-least : tie.Need-sub-least Inv-loop μ-loop
@@ -89,7 +90,7 @@ returns-2 c =
     let a = y .before .before .before .before .before .args in
     let stream = streamBytes (a .size) (a .kind) (a .id) in
     let none : stream (drop (y .loop .from) (a .bytes .now)) ≡ [] = ap stream (drop-of-length-le (a .bytes .now) {i = y .loop .from} (c .loop-test .left)) ∙ stream-none (a .size) (a .kind) (a .id) in
-    stream-placed (a .out .now) (a .at) (a .kind) (a .id) (a .bytes .now) (a .size) (sym (y .before .before .stream-fits .ensures) ∙ y .before .if1 .taken) (omega (arith, ap length none))
+    stream-placed (a .out .now) (a .at) (a .kind) (a .id) (a .bytes .now) (a .size) (sym (y .before .before .stream-fits .ensures) ∙ not-false _ (y .before .if1 .left)) (omega (arith, ap length none))
     (sym (y .loop .inv .3 ∙ ap (putAt (y .loop .out) (y .loop .place)) none ∙ put-none (y .loop .out) (y .loop .place)))
 
 pub write-stream-spec : {M : Type 1} → statement M

@@ -2,7 +2,7 @@ use mathlib.Core.Path.{_≡_, sym, _∙_}
 use mathlib.Core.Bool.{true, false}
 use lib.ListN.{length}
 use lib.Dec.{ltb}
-use borrow.Author.Tests.{not-true, not-false}
+use borrow.Author.Tests.{not-false, not-true}
 use borrow.Author.Needs.{needs}
 use Rattle.request_output.proofs.output_check.Statement.{statement}
 use Rattle.request_output.proofs.output_check.Tie as tie
@@ -22,13 +22,13 @@ returns-2 c = λ bytes buffer h. simp (← c .before .before .before .before .no
 returns-3 : tie.Need-returns-3
 returns-3 c =
     λ bytes buffer h.
-    let long : ltb (length buffer) (length bytes) ≡ true = not-false (ltb (length buffer) (length bytes)) (sym h ∙ c .if3 .left) in
+    let long : ltb (length buffer) (length bytes) ≡ true = not-false (ltb (length buffer) (length bytes)) (sym h ∙ not-true _ (c .if3 .taken)) in
     simp (← c .before .before .before .before .before .no-output .ensures, c .before .before .before .before .if1 .left, ← c .before .before .is-ended .ensures, c .before .if2 .left, long)
 
 returns-4 : tie.Need-returns-4
 returns-4 c =
     λ bytes buffer h.
-    let fits : ltb (length buffer) (length bytes) ≡ false = not-true (ltb (length buffer) (length bytes)) (sym h ∙ c .if3 .taken) in
+    let fits : ltb (length buffer) (length bytes) ≡ false = not-true (ltb (length buffer) (length bytes)) (sym h ∙ not-false _ (c .if3 .left)) in
     simp (← c .before .before .before .before .before .no-output .ensures, c .before .before .before .before .if1 .left, ← c .before .before .is-ended .ensures, c .before .if2 .left, fits)
 
 pub output-check-spec : {M : Type 1} → statement M

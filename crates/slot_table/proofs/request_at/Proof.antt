@@ -1,4 +1,4 @@
-use mathlib.Core.Path.{_≡_, refl, ap, _∙_}
+use mathlib.Core.Path.{_≡_, refl, _∙_}
 use native.Mathlib.Omega.{arith}
 use lib.ListN.{length}
 use Rattle.connection.specs.Slots.{requestAt}
@@ -29,8 +29,8 @@ returns : tie.Need-returns
 unfolding requestAt
 returns c = refl
 
-no-state-requires : tie.Need-no-state-requires
-no-state-requires c κs = search needs
+no-request-requires : tie.Need-no-request-requires
+no-request-requires c κs = search needs
 
 returns-2 : tie.Need-returns-2
 returns-2 c =
@@ -38,7 +38,7 @@ returns-2 c =
     let ids : length (t .ids) ≡ 16 = search needs in
     let lengths : length (t .lengths) ≡ 16 = search needs in
     let states : length (t .states) ≡ 16 = search mapped-length in
-    ap (λ m. record { id = 0; length = 0; state = m }) (c .no-state .ensures)
+    c .no-request .ensures
     ∙ request-out t (c .before .before .args .i) (omega (arith, ids, c .before .if1 .left)) (omega (arith, lengths, c .before .if1 .left)) (omega (arith, states, c .before .if1 .left))
 
 pub request-at-spec : {M : Type 1} → statement M
@@ -52,5 +52,5 @@ request-at-spec =
     mul-t13
     element-copy-out-t16
     returns
-    no-state-requires
+    no-request-requires
     returns-2)
