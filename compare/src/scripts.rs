@@ -197,6 +197,10 @@ impl Draft {
     /// A `feed` in pieces of any size. Answers how many bytes it used, none where it was refused.
     fn feed_line(&mut self, bytes: &[u8]) -> Option<usize> {
         let size = match self.random.below(8) {
+            // Many bytes go in few pieces, so that they don't take up the time.
+            _ if bytes.len() > 200 && !self.random.one_in(16) => {
+                self.random.within(bytes.len() / 8, bytes.len())
+            }
             0 => 1,
             1 => 8,
             2 => bytes.len().max(1),

@@ -14,6 +14,8 @@ impl Draft {
         if short {
             let n = self.random.pick(&[0, 1, AREA, STORE - 1, STORE + 1, 512]);
             self.line(format!("lend {n}"));
+            // All of the store is looked at, whatever is lent.
+            self.line("store");
         }
         for _ in 0..self.random.within(3, 20) {
             self.any_call();
