@@ -4,7 +4,7 @@
 //!
 //! The first difference ends the run, with exit status 1. `--script` prints the script of a seed.
 
-use compare::drive::{answers, differences, seed_of, text, SCRIPT};
+use compare::drive::{answers, differences, seed_of, shortened, text, SCRIPT};
 use compare::scripts::{generate, Script};
 use compare::tally::Tally;
 use std::fs;
@@ -54,7 +54,7 @@ fn main() -> ExitCode {
 }
 
 fn usage() -> ! {
-    eprintln!("differ [--console PATH] [--seed N] [--lines N] [--tally] [--script SEED]");
+    eprintln!("usage: differ [--console PATH] [--seed N] [--lines N] [--tally] [--script SEED]");
     std::process::exit(2)
 }
 
@@ -118,12 +118,4 @@ fn show(script: &Script, answers: &[Vec<u8>], at: usize, seed: u64) -> io::Resul
     fs::write(&path, text(&script.lines[..end]))?;
     println!("the script up to that line: {}", path.display());
     Ok(())
-}
-
-fn shortened(line: &[u8]) -> String {
-    let text = String::from_utf8_lossy(line);
-    match text.char_indices().nth(300) {
-        Some((end, _)) => format!("{} .. ({} bytes)", &text[..end], line.len()),
-        None => text.into_owned(),
-    }
 }

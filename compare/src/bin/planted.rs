@@ -31,7 +31,7 @@ fn main() -> ExitCode {
         }
     }
     let [folder, out, names @ ..] = &places[..] else {
-        eprintln!("planted [--lines N] [--seed N] COMPARE OUT [NAME..]");
+        eprintln!("usage: planted [--lines N] [--seed N] COMPARE OUT [NAME..]");
         return ExitCode::from(2);
     };
     match run(lines, seed, Path::new(folder), Path::new(out), names) {
