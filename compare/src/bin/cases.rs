@@ -93,12 +93,15 @@ fn run(console: &str, names: &[&str]) -> Result<bool, String> {
         let mut titles: Vec<&str> = asked.iter().map(|line| line.title.as_str()).collect();
         titles.dedup();
         println!(
-            "{} cases, {} lines: all are answered as they have to be",
+            "{console}: {} cases, {} lines, all answered as they have to be",
             titles.len(),
             asked.len()
         );
     } else {
-        println!("{} cases are answered otherwise", titles.len());
+        println!(
+            "{console}: {} cases are not answered as they have to be",
+            titles.len()
+        );
     }
     Ok(different.is_empty())
 }

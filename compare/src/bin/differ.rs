@@ -15,6 +15,8 @@ use std::time::Instant;
 
 /// Lines shown before a difference.
 const SHOWN: usize = 15;
+/// After so many lines it is said how far it is.
+const PROGRESS: usize = 500_000;
 
 struct Options {
     console: PathBuf,
@@ -78,7 +80,15 @@ fn run(options: &Options) -> io::Result<bool> {
             tally.count(line, answer);
         }
         scripts += 1;
+        let before = lines / PROGRESS;
         lines += script.lines.len();
+        if lines / PROGRESS > before && lines < options.lines {
+            eprintln!(
+                "  {} of {} lines",
+                lines / PROGRESS * PROGRESS,
+                options.lines
+            );
+        }
         states += script.states;
         if let Some(&first) = differences(&script, &answers).first() {
             show(&script, &answers, first, seed)?;
