@@ -11,6 +11,8 @@ use std::fs;
 use std::io::{self, Write};
 use std::path::PathBuf;
 use std::process::ExitCode;
+use std::sync::mpsc::sync_channel;
+use std::thread;
 use std::time::Instant;
 
 /// Lines shown before a difference.
@@ -72,9 +74,16 @@ fn run(options: &Options) -> io::Result<bool> {
     let begun = Instant::now();
     let mut tally = Tally::default();
     let (mut scripts, mut lines, mut states, mut same) = (0, 0, 0, true);
+    // The next scripts are made while the console answers.
+    let (sender, made) = sync_channel(2);
+    let (run, length) = (options.seed, SCRIPT.min(options.lines));
+    thread::spawn(move || {
+        (0..)
+            .map(|i| (seed_of(run, i), generate(seed_of(run, i), length)))
+            .try_for_each(|script| sender.send(script))
+    });
     while same && lines < options.lines {
-        let seed = seed_of(options.seed, scripts);
-        let script = generate(seed, SCRIPT.min(options.lines));
+        let (seed, script) = made.recv().map_err(io::Error::other)?;
         let answers = answers(&options.console, &script)?;
         for (line, answer) in script.lines.iter().zip(&script.answers) {
             tally.count(line, answer);
