@@ -95,6 +95,9 @@ pub fn read(files: &[File]) -> Result<Vec<Case>, Error> {
 pub fn expand(cases: &[Case]) -> Result<Vec<Asked>, Error> {
     let mut all = Vec::new();
     for case in cases {
+        if case.items.is_empty() {
+            return Err(error(&case.file, case.line, "the case is empty".into()));
+        }
         let sent = |item: &Item| matches!(item.asked, What::Sent(_));
         let sizes: Vec<Option<usize>> = if case.items.iter().any(sent) {
             SIZES.map(Some).into()

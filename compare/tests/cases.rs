@@ -187,6 +187,7 @@ fn what_is_wrong_and_where() {
         ("active\n", "one.txt:1: no case has begun"),
         ("case a\n> open\n", "one.txt:2: an answer without"),
         ("case a\n\nactive\n", "one.txt:3: no answer follows"),
+        ("case a\ncase b\nbytes 00\n", "one.txt:1: the case is empty"),
         (
             "case a\nactive\n> active 0\n> active 0\n",
             "one.txt:2: a command has one answer",

@@ -99,7 +99,7 @@ fn run(console: &str, names: &[&str]) -> Result<bool, String> {
         );
     } else {
         println!(
-            "{console}: {} cases are not answered as they have to be",
+            "{console}: cases not answered as they have to be: {}",
             titles.len()
         );
     }
@@ -111,13 +111,21 @@ fn show(line: &Asked, got: Option<&[u8]>) {
         .size
         .map_or(String::new(), |n| format!(" (in pieces of {n})"));
     println!("{}:{}: case {}{pieces}", line.file, line.line, line.title);
-    for written in &line.written {
-        println!("    {}", shortened(written.as_bytes()));
+    if line.written != [line.command.as_str()] {
+        for written in &line.written {
+            println!("    {}", shortened(written.as_bytes()));
+        }
     }
     println!("  command:  {}", shortened(line.command.as_bytes()));
     println!("  expected: {}", shortened(line.answer.as_bytes()));
-    match got {
-        Some(got) => println!("  got:      {}", shortened(got)),
-        None => println!("  got:      no answer"),
+    let Some(got) = got else {
+        println!("  got:      no answer");
+        return;
+    };
+    println!("  got:      {}", shortened(got));
+    let wanted = line.answer.as_bytes();
+    let same = wanted.iter().zip(got).take_while(|(a, b)| a == b).count();
+    if same >= 300 {
+        println!("  they differ from character {} on", same + 1);
     }
 }
