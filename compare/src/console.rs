@@ -1,5 +1,6 @@
 //! The twin of the console: every call by a line of text, and its answer as a line. `docs/CONSOLE.md` says which.
 
+mod feed;
 pub mod poke;
 pub mod text;
 pub mod words;
@@ -11,8 +12,10 @@ use crate::state::{area, Connection, AREA, STORE};
 use std::fmt::Write;
 use words::{bytes, hex, id, number, room};
 
-/// The longest line that is read, its newline not counted.
-pub const LONGEST_LINE: usize = 70_000;
+/// The longest line that is read, its newline not counted. It is too short for more than 70,000 bytes in hex.
+pub const LONGEST_LINE: usize = 140_000;
+/// One byte more than a connection takes, so that a store that is too long can be lent.
+pub const WHOLE_STORE: usize = STORE + 1;
 /// What a lent buffer is filled with before the call.
 const FILL: u8 = 0xee;
 
@@ -22,17 +25,20 @@ pub struct Console {
     pub connection: Connection,
     pub store: Vec<u8>,
     pub lent: usize,
-    /// The event of the last step that was not refused.
+    /// The event that `owed` replies to.
     pub event: Option<Event>,
+    /// State and store before a call that must not change them where it is refused.
+    before: (Connection, Vec<u8>),
 }
 
 impl Default for Console {
     fn default() -> Self {
         Console {
             connection: Connection::closed(),
-            store: vec![0; STORE],
+            store: vec![0; WHOLE_STORE],
             lent: STORE,
             event: None,
+            before: (Connection::closed(), vec![0; WHOLE_STORE]),
         }
     }
 }
@@ -54,35 +60,37 @@ impl Console {
         Some(match *words {
             ["start"] => self.start(),
             ["lend", n] => {
-                self.lent = number(n, STORE as u64)? as usize;
+                self.lent = number(n, WHOLE_STORE as u64)? as usize;
                 "ok".into()
             }
             ["step", piece] => self.step(&bytes(piece)?),
+            ["feed", n, all] => self.feed(piece_size(n)?, &bytes(all)?),
             ["value", r, name, fallback] => self.value(id(r)?, &bytes(name)?, &bytes(fallback)?),
             ["pair", r, k] => self.pair(id(r)?, number(k, u64::MAX)?),
             ["walk", r] => self.walk(id(r)?),
             ["say", r, stream, data, size] => {
                 let (r, output, data) = (id(r)?, output(stream)?, bytes(data)?);
                 let mut buffer = vec![FILL; room(size)?];
-                let wrote = self.connection.say(r, output, &data, &mut buffer);
+                let wrote =
+                    self.held(|connection, _| connection.say(r, output, &data, &mut buffer));
                 wrote_text(wrote, &buffer, "")
             }
             ["end", r, stream, size] => {
                 let (r, output) = (id(r)?, output(stream)?);
                 let mut buffer = vec![FILL; room(size)?];
-                let wrote = self.connection.end(r, output, &mut buffer);
+                let wrote = self.held(|connection, _| connection.end(r, output, &mut buffer));
                 wrote_text(wrote, &buffer, "")
             }
             ["owed", size] => {
                 let mut buffer = vec![FILL; room(size)?];
                 let wrote = reply(self.event.as_ref(), &mut buffer);
-                wrote_text(wrote, &buffer, "")
+                wrote_text(wrote.map_err(refused), &buffer, "")
             }
             ["put", name, value, size] => {
                 let (name, value) = (bytes(name)?, bytes(value)?);
                 let mut buffer = vec![FILL; room(size)?];
                 let wrote = write_pair(&mut buffer, &name, &value);
-                wrote_text(wrote, &buffer, "")
+                wrote_text(wrote.map_err(refused), &buffer, "")
             }
             ["finish", r, status, size] => {
                 let status = number(status, u32::MAX.into())? as u32;
@@ -93,7 +101,7 @@ impl Console {
                 Err(refusal) => refused(refusal),
             },
             ["area", r] => self.area(id(r)?),
-            ["store"] => format!("store {}", self.store.iter().filter(|&&b| b != 0).count()),
+            ["store"] => self.places(),
             ["poke", ref field @ ..] => {
                 poke::poke(&mut self.connection, &mut self.store, field)?;
                 "ok".into()
@@ -110,9 +118,22 @@ impl Console {
         }
     }
 
+    /// Makes a call. Where it is refused, the answer says whether the state, the store or the gathered bytes changed.
+    fn held<T>(
+        &mut self,
+        call: impl FnOnce(&mut Connection, &mut [u8]) -> Result<T, Refusal>,
+    ) -> Result<T, String> {
+        self.before.0.clone_from(&self.connection);
+        self.before.1.copy_from_slice(&self.store);
+        call(&mut self.connection, &mut self.store[..self.lent]).map_err(|refusal| {
+            let same = self.before.0 == self.connection && self.before.1 == self.store;
+            refused(refusal) + if same { "" } else { " changed" }
+        })
+    }
+
     fn step(&mut self, piece: &[u8]) -> String {
-        match self.connection.step(&mut self.store[..self.lent], piece) {
-            Err(refusal) => refused(refusal),
+        match self.held(|connection, store| connection.step(store, piece)) {
+            Err(text) => text,
             Ok(step) => {
                 self.event = step.event;
                 match &step.event {
@@ -156,13 +177,12 @@ impl Console {
 
     fn finish(&mut self, id: u16, status: u32, room: usize) -> String {
         let mut buffer = vec![FILL; room];
-        let store = &mut self.store[..self.lent];
-        match self.connection.finish(store, id, status, &mut buffer) {
+        match self.held(|connection, store| connection.finish(store, id, status, &mut buffer)) {
             Ok(finished) => {
                 let end = if finished.closed { " closed" } else { " open" };
                 wrote_text(Ok(finished.wrote), &buffer, end)
             }
-            Err(refusal) => wrote_text(Err(refusal), &buffer, ""),
+            Err(text) => wrote_text(Err(text), &buffer, ""),
         }
     }
 
@@ -175,6 +195,15 @@ impl Console {
             }
         }
     }
+
+    /// How many bytes of the store are not zero, and where the first and the last of them lie.
+    fn places(&self) -> String {
+        let places = || (0..WHOLE_STORE).filter(|&place| self.store[place] != 0);
+        match (places().next(), places().next_back()) {
+            (Some(first), Some(last)) => format!("store {} {first} {last}", places().count()),
+            _ => "store 0".into(),
+        }
+    }
 }
 
 fn output(word: &str) -> Option<Output> {
@@ -183,6 +212,11 @@ fn output(word: &str) -> Option<Output> {
         "stderr" => Some(Output::Stderr),
         _ => None,
     }
+}
+
+/// The size of the pieces of a `feed`.
+fn piece_size(word: &str) -> Option<usize> {
+    room(word).filter(|&n| n > 0)
 }
 
 fn refused(refusal: Refusal) -> String {
@@ -199,17 +233,49 @@ fn numbers(pair: Pair) -> [usize; 4] {
 }
 
 /// What a writer answered, and whether it left the bytes behind alone.
-fn wrote_text(wrote: Result<usize, Refusal>, buffer: &[u8], end: &str) -> String {
+fn wrote_text(wrote: Result<usize, String>, buffer: &[u8], end: &str) -> String {
     let (text, rest) = match wrote {
         Ok(n) => (
             format!("wrote {n} {}{end}", hex(&buffer[..n])),
             &buffer[n..],
         ),
-        Err(refusal) => (refused(refusal), buffer),
+        Err(text) => (text, buffer),
     };
     if rest.iter().any(|&byte| byte != FILL) {
         text + " touched"
     } else {
         text
+    }
+}
+
+#[cfg(test)]
+mod tests {
+    use super::*;
+
+    #[test]
+    fn a_refused_call_that_changed_something() {
+        let changes: [fn(&mut Connection, &mut [u8]); 4] = [
+            |connection, _| connection.slots[15].err_used = true,
+            |connection, _| connection.query[511] = 1,
+            |connection, _| connection.body[7] = 1,
+            |_, store| store[32_767] = 1,
+        ];
+        for change in changes {
+            let mut console = Console::default();
+            let refused = |console: &mut Console, change: fn(&mut Connection, &mut [u8])| {
+                console.held(|connection, store| {
+                    change(connection, store);
+                    Err::<(), _>(Refusal::NoRoom)
+                })
+            };
+            assert_eq!(
+                refused(&mut console, change),
+                Err("refused 6 changed".into())
+            );
+            // The same once more changes nothing.
+            assert_eq!(refused(&mut console, change), Err("refused 6".into()));
+        }
+        let text = wrote_text(Err("refused 6 changed".into()), &[FILL, 0], "");
+        assert_eq!(text, "refused 6 changed touched");
     }
 }

@@ -61,3 +61,12 @@ pub fn differences(script: &Script, answers: &[Vec<u8>]) -> Vec<usize> {
         })
         .collect()
 }
+
+/// A line as it is shown, its first 300 characters where it is long.
+pub fn shortened(line: &[u8]) -> String {
+    let text = String::from_utf8_lossy(line);
+    match text.char_indices().nth(300) {
+        Some((end, _)) => format!("{} .. ({} bytes)", &text[..end], line.len()),
+        None => text.into_owned(),
+    }
+}

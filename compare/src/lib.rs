@@ -3,6 +3,7 @@
 
 pub mod answer;
 pub mod calls;
+pub mod cases;
 pub mod console;
 pub mod digest;
 pub mod drive;

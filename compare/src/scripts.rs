@@ -42,6 +42,8 @@ struct Draft {
     console: Console,
     script: Script,
     cut: Cut,
+    /// Of how many pieces one goes by `feed` and not by `step`; 0 where none does.
+    feeding: u64,
     /// Of how many steps one is followed by a call.
     chatter: u64,
     /// Many ids are opened, past the number of slots.
@@ -74,7 +76,8 @@ pub fn generate(seed: u64, lines: usize) -> Script {
         match draft.random.below(100) {
             0..=24 => draft.traffic(false),
             25..=44 => draft.traffic(true),
-            45..=60 => draft.any_calls(),
+            45..=57 => draft.any_calls(),
+            58..=60 => draft.whole_connection(),
             61..=75 => draft.row_nine(),
             76..=89 => draft.poked_state(),
             _ => draft.odd_lines(),
@@ -90,6 +93,7 @@ impl Draft {
             console: Console::default(),
             script: Script::default(),
             cut: Cut::Any,
+            feeding: 0,
             chatter: 4,
             crowd: false,
             lists: BTreeMap::new(),
@@ -173,12 +177,12 @@ impl Draft {
         self.sent.extend(bytes);
         while !bytes.is_empty() {
             let n = self.piece_length(bytes.len());
-            self.line(format!("step {}", hex(&bytes[..n])));
-            let used = self
-                .last()
-                .strip_prefix("used ")
-                .and_then(|rest| rest.split(' ').next())
-                .and_then(|n| n.parse::<usize>().ok());
+            let used = if self.feeding > 0 && self.random.one_in(self.feeding) {
+                self.feed_line(&bytes[..n])
+            } else {
+                self.line(format!("step {}", hex(&bytes[..n])));
+                used_by_step(self.last())
+            };
             match used {
                 Some(used) if self.open() => bytes = &bytes[used..],
                 _ => return false,
@@ -188,6 +192,26 @@ impl Draft {
             }
         }
         true
+    }
+
+    /// A `feed` in pieces of any size. Answers how many bytes it used, none where it was refused.
+    fn feed_line(&mut self, bytes: &[u8]) -> Option<usize> {
+        let size = match self.random.below(8) {
+            // Many bytes go in few pieces, so that they don't take up the time.
+            _ if bytes.len() > 200 && !self.random.one_in(16) => {
+                self.random.within(bytes.len() / 8, bytes.len())
+            }
+            0 => 1,
+            1 => 8,
+            2 => bytes.len().max(1),
+            3 => 65_536,
+            4 => self.random.within(1, bytes.len().max(1)),
+            _ => self.random.within(1, 24),
+        };
+        self.line(format!("feed {size} {}", hex(bytes)));
+        let end = self.last().rsplit("; ").next();
+        end.and_then(|end| end.strip_prefix("used "))
+            .and_then(|n| n.parse().ok())
     }
 
     fn piece_length(&mut self, most: usize) -> usize {
@@ -223,5 +247,14 @@ impl Draft {
         ]);
         self.chatter = self.random.pick(&[1, 2, 2, 3, 6]);
         self.crowd = self.random.one_in(6);
+        if !self.silent {
+            self.feeding = self.random.pick(&[0, 1, 2, 8]);
+        }
     }
+}
+
+/// None for a step that was refused.
+fn used_by_step(answer: &str) -> Option<usize> {
+    let rest = answer.strip_prefix("used ")?;
+    rest.split(' ').next()?.parse().ok()
 }

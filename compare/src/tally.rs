@@ -7,8 +7,11 @@ use std::fmt;
 pub struct Tally(BTreeMap<String, usize>);
 
 impl Tally {
+    /// What a `feed` tells is counted event by event.
     pub fn count(&mut self, line: &[u8], answer: &str) {
-        *self.0.entry(kind(line, answer)).or_default() += 1;
+        for part in answer.split("; ") {
+            *self.0.entry(kind(line, part)).or_default() += 1;
+        }
     }
 
     /// The kinds that a complete comparison has to meet and this one did not.
@@ -17,20 +20,24 @@ impl Tally {
         for (call, numbers) in REFUSALS {
             wanted.extend(numbers.iter().map(|n| format!("{call}: refused {n}")));
         }
-        wanted.extend((11..=14).map(|n| format!("step: closed {n}")));
-        wanted.extend((21..=25).map(|n| format!("step: fault {n}")));
-        wanted.extend((0..8).map(|n| format!("step: query {n:03b}")));
+        for call in ["step", "feed"] {
+            wanted.extend((11..=14).map(|n| format!("{call}: closed {n}")));
+            wanted.extend((21..=25).map(|n| format!("{call}: fault {n}")));
+            wanted.extend((0..8).map(|n| format!("{call}: query {n:03b}")));
+            wanted.extend(
+                [
+                    "refuse 2", "refuse 3", "open", "ready", "data", "end", "abort", "unknown",
+                    "used",
+                ]
+                .map(|event| format!("{call}: {event}")),
+            );
+        }
         wanted.extend(
             [
-                "refuse 2", "refuse 3", "open", "ready", "data", "end", "abort", "unknown",
-            ]
-            .map(|event| format!("step: {event}")),
-        );
-        wanted.extend(
-            [
-                "step: used",
                 "finish: open",
                 "finish: closed",
+                "store: zeros",
+                "store: store",
                 "what",
                 "long",
             ]
@@ -41,10 +48,11 @@ impl Tally {
     }
 }
 
-/// The numbers that each call can give. A line is too short for a name that gives 8.
+/// The numbers that each call can give.
 const REFUSALS: [(&str, &[u8]); 12] = [
     ("start", &[2]),
     ("step", &[2, 9, 1]),
+    ("feed", &[2, 9, 1]),
     ("value", &[2, 9, 1, 3, 4]),
     ("pair", &[2, 9, 1, 3, 4, 7]),
     ("walk", &[2, 9, 1, 3, 4]),
@@ -52,9 +60,8 @@ const REFUSALS: [(&str, &[u8]); 12] = [
     ("end", &[9, 1, 3, 4, 5, 6]),
     ("finish", &[2, 9, 1, 3, 6]),
     ("owed", &[6]),
-    ("put", &[6]),
+    ("put", &[8, 6]),
     ("active", &[9, 1]),
-    ("lend", &[]),
 ];
 
 /// The call, and the answer without what differs from request to request.
@@ -65,6 +72,9 @@ fn kind(line: &[u8], answer: &str) -> String {
         ["used", _, "refuse" | "fault", _, n] => format!("{} {n}", words[2]),
         ["used", _, "query" | "closed", n] => format!("{} {n}", words[2]),
         ["used", _, event, ..] => event.into(),
+        ["refuse" | "fault", _, n] => format!("{} {n}", words[0]),
+        ["query" | "closed", n] => format!("{} {n}", words[0]),
+        ["store", "0"] => "zeros".into(),
         ["refused", n, ..] => format!("refused {n}"),
         ["wrote", _, _, end] => end.into(),
         [first, ..] => first.into(),

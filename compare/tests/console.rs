@@ -35,7 +35,7 @@ fn a_whole_request() {
         ("pair 1 0", "pair 2 1 3 1"),
         ("pair 1 1", "refused 7"),
         ("walk 1", "walk 4 2,1,3,1 stop 4"),
-        ("store", "store 4"),
+        ("store", "store 4 0 3"),
         ("step 0105000100020000", "used 8"),
         ("step 616263", "used 2 data 1 stdin 6162"),
         ("say 1 stdout - 0", "wrote 0 -"),
@@ -89,7 +89,14 @@ fn what_is_no_command() {
         "step 0",
         "step 0A",
         "step - -",
-        "lend 32769",
+        "lend 32770",
+        "feed",
+        "feed 1",
+        "feed 00",
+        "feed 0 00",
+        "feed 65537 00",
+        "feed 1 0",
+        "feed 1 - -",
         "walk 65536",
         "owed 65537",
         "pair 1 18446744073709551616",
@@ -113,10 +120,10 @@ fn what_is_no_command() {
 #[test]
 fn the_greatest_line() {
     let line = |n: usize| format!("value 1 {} -", "0".repeat(n - 10));
-    assert_eq!(answers(&[&line(70_000)]), ["refused 1 -"]);
-    assert_eq!(answers(&[&line(70_001)]), ["long"]);
+    assert_eq!(answers(&[&line(140_000)]), ["refused 1 -"]);
+    assert_eq!(answers(&[&line(140_001)]), ["long"]);
     // It does nothing.
-    let start = format!("start{}", " ".repeat(70_000));
+    let start = format!("start{}", " ".repeat(140_000));
     assert_eq!(answers(&["start", &start, "active"])[2], "active 0");
 }
 
@@ -131,7 +138,7 @@ fn pokes() {
         ("poke length 15 3", "ok"),
         ("poke byte 30721 255", "ok"),
         ("area 7", "area 00ff00"),
-        ("store", "store 1"),
+        ("store", "store 1 30721 30721"),
         ("poke length 15 65535", "ok"),
         ("walk 7", "refused 9"),
         ("poke length 15 0", "ok"),
@@ -149,4 +156,141 @@ fn pokes() {
         ),
         ("active", "refused 1"),
     ]);
+}
+
+/// An open connection with requests 1 and 2, whose parameters have ended.
+const TWO_READY: &str =
+    "01010001000800000001010000000000010400010000000001010002000800000003010000000000\
+                         0104000200000000";
+
+#[test]
+fn feeding_in_pieces_of_any_size() {
+    for size in [1, 2, 7, 8, 9, 40, 65_536] {
+        // Two records of one stream are told as one, two requests and two streams are not; padding is not content.
+        let data = "01050001000103006100000001050001000200006263010500020001000064\
+                    01050002000000000108000200020000656601050001000100006a";
+        check(&[
+            ("start", "open"),
+            (
+                &format!("feed {size} {TWO_READY}"),
+                "open 1 responder keep; ready 1 0; open 2 filter keep; ready 2 0; used 48",
+            ),
+            (
+                &format!("feed {size} {data}"),
+                "data 1 stdin 616263; data 2 stdin 64; end 2 stdin; data 2 data 6566; data 1 stdin 6a; used 58",
+            ),
+            ("active", "active 2"),
+            // Inside a record, and on.
+            (&format!("feed {size} 01050001000400"), "used 7"),
+            (&format!("feed {size} 0061"), "data 1 stdin 61; used 2"),
+            (&format!("feed {size} 6263"), "data 1 stdin 6263; used 2"),
+            // Data that was told by the feed before is not joined.
+            (&format!("feed {size} 64"), "data 1 stdin 64; used 1"),
+            (&format!("feed {size} -"), "used 0"),
+        ]);
+    }
+}
+
+#[test]
+fn data_of_two_streams_is_not_joined() {
+    check(&[
+        ("start", "open"),
+        (
+            "feed 9 0101000100080000000301000000000001040001000000000105000100020000",
+            "open 1 filter keep; ready 1 0; used 32",
+        ),
+        ("poke target data 0", "ok"),
+        (
+            "feed 65536 616201050001000100006301050001000100006401",
+            "data 1 data 6162; data 1 stdin 6364; used 21",
+        ),
+    ]);
+}
+
+#[test]
+fn feeding_ends_at_a_close() {
+    for (size, bytes) in [(1, "ff"), (8, "01"), (65_536, "0109000000000000")] {
+        check(&[
+            ("start", "open"),
+            (
+                &format!("feed {size} 012a0000000000000001000100000000{bytes}"),
+                "unknown 42; closed 11; used 16",
+            ),
+            ("owed 100", "wrote 0 -"),
+            (&format!("feed {size} {bytes}"), "refused 1"),
+            (&format!("feed {size} -"), "used 0"),
+        ]);
+    }
+}
+
+#[test]
+fn the_event_that_is_owed_after_a_feed() {
+    let unknown = "wrote 16 010b0000000800002a00000000000000";
+    check(&[
+        ("start", "open"),
+        ("feed 65536 012a000000000000", "unknown 42; used 8"),
+        ("owed 100", unknown),
+        // The last that was told, whether or not bytes came behind it.
+        (
+            "feed 3 0109000000000000012a0000000100000001",
+            "query 000; unknown 42; used 18",
+        ),
+        ("owed 100", unknown),
+        // A first step that is refused leaves it as it was.
+        ("lend 32767", "ok"),
+        ("feed 1 05", "refused 2"),
+        ("owed 100", unknown),
+        ("lend 32768", "ok"),
+        // Nothing was told: there is none, also where there were no bytes.
+        ("feed 1 0500", "used 2"),
+        ("owed 100", "wrote 0 -"),
+        ("start", "open"),
+        ("feed 1 012a000000000000", "unknown 42; used 8"),
+        ("feed 1 -", "used 0"),
+        ("owed 100", "wrote 0 -"),
+        ("feed 1 012a000000000000", "unknown 42; used 8"),
+        ("step -", "used 0"),
+        ("owed 100", "wrote 0 -"),
+    ]);
+}
+
+#[test]
+fn a_store_that_is_too_long() {
+    check(&[
+        ("lend 32769", "ok"),
+        ("start", "refused 2"),
+        ("lend 32768", "ok"),
+        ("start", "open"),
+        ("lend 32769", "ok"),
+        ("step 01", "refused 2"),
+        ("feed 1 01", "refused 2"),
+        ("walk 1", "refused 2"),
+        ("finish 1 0 0", "refused 2"),
+        ("active", "active 0"),
+        ("poke byte 32768 1", "what"),
+        ("poke byte 32767 1", "ok"),
+        ("poke byte 2 1", "ok"),
+        ("poke byte 3 9", "ok"),
+        ("store", "store 3 2 32767"),
+        ("lend 0", "ok"),
+        ("store", "store 3 2 32767"),
+        ("lend 32768", "ok"),
+        ("start", "open"),
+        ("store", "store 0"),
+    ]);
+}
+
+#[test]
+fn the_longest_names_and_values() {
+    let put = |name: usize, value: usize, room: usize| {
+        format!("put {} {} {room}", "6e".repeat(name), "76".repeat(value))
+    };
+    assert_eq!(answers(&[&put(65_536, 1, 0)]), ["refused 8"]);
+    assert_eq!(answers(&[&put(1, 65_536, 65_536)]), ["refused 8"]);
+    assert_eq!(answers(&[&put(65_535, 1, 65_536)]), ["refused 6"]);
+    assert_eq!(answers(&[&put(1, 65_535, 65_536)]), ["refused 6"]);
+    assert_eq!(
+        answers(&[&put(65_530, 1, 65_536)]),
+        [format!("wrote 65536 8000fffa01{}76", "6e".repeat(65_530))]
+    );
 }

@@ -4,17 +4,21 @@
 //!
 //! The first difference ends the run, with exit status 1. `--script` prints the script of a seed.
 
-use compare::drive::{answers, differences, seed_of, text, SCRIPT};
+use compare::drive::{answers, differences, seed_of, shortened, text, SCRIPT};
 use compare::scripts::{generate, Script};
 use compare::tally::Tally;
 use std::fs;
 use std::io::{self, Write};
 use std::path::PathBuf;
 use std::process::ExitCode;
+use std::sync::mpsc::sync_channel;
+use std::thread;
 use std::time::Instant;
 
 /// Lines shown before a difference.
 const SHOWN: usize = 15;
+/// After so many lines it is said how far it is.
+const PROGRESS: usize = 500_000;
 
 struct Options {
     console: PathBuf,
@@ -54,7 +58,7 @@ fn main() -> ExitCode {
 }
 
 fn usage() -> ! {
-    eprintln!("differ [--console PATH] [--seed N] [--lines N] [--tally] [--script SEED]");
+    eprintln!("usage: differ [--console PATH] [--seed N] [--lines N] [--tally] [--script SEED]");
     std::process::exit(2)
 }
 
@@ -70,15 +74,30 @@ fn run(options: &Options) -> io::Result<bool> {
     let begun = Instant::now();
     let mut tally = Tally::default();
     let (mut scripts, mut lines, mut states, mut same) = (0, 0, 0, true);
+    // The next scripts are made while the console answers.
+    let (sender, made) = sync_channel(2);
+    let (run, length) = (options.seed, SCRIPT.min(options.lines));
+    thread::spawn(move || {
+        (0..)
+            .map(|i| (seed_of(run, i), generate(seed_of(run, i), length)))
+            .try_for_each(|script| sender.send(script))
+    });
     while same && lines < options.lines {
-        let seed = seed_of(options.seed, scripts);
-        let script = generate(seed, SCRIPT.min(options.lines));
+        let (seed, script) = made.recv().map_err(io::Error::other)?;
         let answers = answers(&options.console, &script)?;
         for (line, answer) in script.lines.iter().zip(&script.answers) {
             tally.count(line, answer);
         }
         scripts += 1;
+        let before = lines / PROGRESS;
         lines += script.lines.len();
+        if lines / PROGRESS > before && lines < options.lines {
+            eprintln!(
+                "  {} of {} lines",
+                lines / PROGRESS * PROGRESS,
+                options.lines
+            );
+        }
         states += script.states;
         if let Some(&first) = differences(&script, &answers).first() {
             show(&script, &answers, first, seed)?;
@@ -118,12 +137,4 @@ fn show(script: &Script, answers: &[Vec<u8>], at: usize, seed: u64) -> io::Resul
     fs::write(&path, text(&script.lines[..end]))?;
     println!("the script up to that line: {}", path.display());
     Ok(())
-}
-
-fn shortened(line: &[u8]) -> String {
-    let text = String::from_utf8_lossy(line);
-    match text.char_indices().nth(300) {
-        Some((end, _)) => format!("{} .. ({} bytes)", &text[..end], line.len()),
-        None => text.into_owned(),
-    }
 }

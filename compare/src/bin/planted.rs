@@ -23,7 +23,12 @@ fn main() -> ExitCode {
     let (mut lines, mut seed, mut places) = (100_000, 1, Vec::new());
     let mut words = std::env::args().skip(1);
     while let Some(word) = words.next() {
-        let mut number = || words.next().and_then(|n| n.parse().ok()).expect("a number");
+        let mut number = || {
+            words
+                .next()
+                .and_then(|n| n.parse().ok())
+                .unwrap_or_else(|| usage())
+        };
         match word.as_str() {
             "--lines" => lines = number() as usize,
             "--seed" => seed = number(),
@@ -31,8 +36,7 @@ fn main() -> ExitCode {
         }
     }
     let [folder, out, names @ ..] = &places[..] else {
-        eprintln!("planted [--lines N] [--seed N] COMPARE OUT [NAME..]");
-        return ExitCode::from(2);
+        usage()
     };
     match run(lines, seed, Path::new(folder), Path::new(out), names) {
         Ok(true) => ExitCode::SUCCESS,
@@ -42,6 +46,11 @@ fn main() -> ExitCode {
             ExitCode::from(2)
         }
     }
+}
+
+fn usage() -> ! {
+    eprintln!("usage: planted [--lines N] [--seed N] COMPARE OUT [NAME..]");
+    std::process::exit(2)
 }
 
 /// Answers whether every mistake was seen, and no allowed change.

@@ -12,8 +12,10 @@ impl Draft {
     pub(super) fn any_calls(&mut self) {
         let short = self.random.one_in(6);
         if short {
-            let n = self.random.pick(&[0, 1, AREA, STORE - 1, 512]);
+            let n = self.random.pick(&[0, 1, AREA, STORE - 1, STORE + 1, 512]);
             self.line(format!("lend {n}"));
+            // All of the store is looked at, whatever is lent.
+            self.line("store");
         }
         for _ in 0..self.random.within(3, 20) {
             self.any_call();
@@ -49,7 +51,8 @@ impl Draft {
                 self.line(format!("area {id}"));
             }
             96 => {
-                self.line("step -");
+                let line = self.random.pick(&["step -", "feed 8 -"]);
+                self.line(line);
             }
             _ => {
                 self.line("store");
@@ -75,8 +78,13 @@ impl Draft {
             self.line("store");
         }
         let n = self.random.within(1, 10);
-        let piece = hex(&self.random.bytes(n));
-        self.line(format!("step {piece}"));
+        let piece = self.random.bytes(n);
+        if self.random.one_in(3) {
+            self.feed_line(&piece);
+            self.owed();
+        } else {
+            self.line(format!("step {}", hex(&piece)));
+        }
     }
 
     /// Just enough, one less, none, or plenty.
@@ -162,7 +170,16 @@ impl Draft {
             let n = self.random.within(200, 3_000);
             value = self.random.bytes(n);
         }
-        let name = any_name(&mut self.random);
+        let mut name = any_name(&mut self.random);
+        // The longest that can be written, and one byte more; seldom, since the lines are long.
+        if self.random.one_in(150) {
+            let long = vec![self.random.byte(); self.random.pick(&[65_535, 65_536])];
+            (name, value) = if self.random.one_in(2) {
+                (long, vec![])
+            } else {
+                (name, long)
+            };
+        }
         let room = self.room(pair_length(&name, &value));
         self.line(format!("put {} {} {room}", hex(&name), hex(&value)));
     }

@@ -4,7 +4,7 @@ use super::Draft;
 use crate::console::LONGEST_LINE;
 
 /// Whole lines: what is almost a command, and commands at the limits of their numbers.
-const LINES: [&str; 80] = [
+const LINES: [&str; 90] = [
     "",
     " ",
     "-",
@@ -29,6 +29,16 @@ const LINES: [&str; 80] = [
     "lend",
     "lend 32768",
     "lend 32769",
+    "lend 32770",
+    "feed",
+    "feed 1",
+    "feed 0 01",
+    "feed 65536 -",
+    "feed 65537 01",
+    "feed 1 0",
+    "feed 1 0A",
+    "feed 1 - -",
+    "feed -",
     "lend -1",
     "lend +1",
     "lend 00000000000000032768",
@@ -198,11 +208,11 @@ impl Draft {
 
     /// A line of the greatest length, one that passes it by a character, and one that passes it by much.
     fn greatest_line(&mut self) {
-        let length = LONGEST_LINE + self.random.pick(&[0, 0, 1, 1, 2, 70_000]);
+        let length = LONGEST_LINE + self.random.pick(&[0, 0, 1, 1, 2, 140_000]);
         let (before, after) = match self.random.below(4) {
             0 => ("value 1 ", " -"),
             1 => ("put - ", " 65536"),
-            2 => ("step ", ""),
+            2 => self.random.pick(&[("step ", ""), ("feed 4096 ", "")]),
             _ => ("say 10 stdout ", " 65536"),
         };
         let middle = length - before.len() - after.len();

@@ -135,6 +135,9 @@ impl Draft {
             for _ in 0..self.random.within(1, 6) {
                 self.any_call();
             }
+            if self.random.one_in(6) {
+                self.two_streams();
+            }
             let n = self.random.within(1, 40);
             let bytes = self.piece_for_state(n);
             self.feed(&bytes);
@@ -146,6 +149,24 @@ impl Draft {
         if self.random.one_in(2) {
             self.start();
         }
+    }
+
+    /// Data of both streams of a request, one directly behind the other: traffic has an end between them.
+    fn two_streams(&mut self) {
+        let active = self.active_ids();
+        let Some(&id) = active.first() else { return };
+        let slot = self.console.connection.find(id).unwrap_or(0);
+        let (due, kind) = self.random.pick(&[("data", 5), ("stdin", 8)]);
+        let turn = if kind == 5 { "stdin" } else { "data" };
+        self.line(format!("poke turn {slot} {turn}"));
+        self.line(format!("poke target {due} {slot}"));
+        self.line("poke content 2");
+        self.line("poke padding 0");
+        self.line("poke held 0");
+        let [high, low] = id.to_be_bytes();
+        let mut bytes = self.random.bytes(2);
+        bytes.extend([1, kind, high, low, 0, 1, 0, 0, 9]);
+        self.feed_line(&bytes);
     }
 
     /// Bytes that go on with the record that the state is in, and then with one of an active request.

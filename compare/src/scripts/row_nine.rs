@@ -21,7 +21,8 @@ impl Draft {
                 self.line("poke open 0");
             }
             if self.random.one_in(8) {
-                self.line("lend 32767");
+                let n = self.random.pick(&[32_767, 32_769]);
+                self.line(format!("lend {n}"));
                 self.every_call();
                 self.line("lend 32768");
             }

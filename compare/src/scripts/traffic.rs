@@ -1,7 +1,8 @@
 //! What a web server sends: requests side by side, their records cut anywhere; and the same with damage.
 
 use super::records::{any_list, begin_body, damaged_list, query, record};
-use super::Draft;
+use super::{stream, Draft};
+use crate::console::words::hex;
 use crate::state::{Life, Turn, AREA};
 use crate::wire::kind;
 
@@ -37,6 +38,36 @@ impl Draft {
             }
             if !self.silent && self.random.one_in(8) {
                 self.finish_some();
+            }
+        }
+    }
+
+    /// What a web server sends on a whole connection, all of it fed at once, or cut into a few feeds.
+    pub(super) fn whole_connection(&mut self) {
+        let all = stream(self.random.draw());
+        let mut rest = &all[..all.len().min(60_000)];
+        self.choose_cut();
+        self.start();
+        let feeds = self.random.pick(&[1, 1, 2, 5]);
+        for i in 0..feeds {
+            let n = if i + 1 == feeds {
+                rest.len()
+            } else {
+                self.random.within(0, rest.len())
+            };
+            let used = self.feed_line(&rest[..n]);
+            rest = &rest[n..];
+            self.line("owed 64");
+            if self.random.one_in(2) {
+                self.any_call();
+            }
+            // A feed that a close ended is followed by one that is refused, with no bytes or with some.
+            if used.is_none() || !self.open() {
+                let piece = self.random.bytes(2);
+                let n = self.random.index(3);
+                self.line(format!("feed 1 {}", hex(&piece[..n])));
+                self.line("owed 64");
+                return;
             }
         }
     }
