@@ -128,7 +128,8 @@ count-given c e =
     (λ q. simp q (count-ids (c .table)))
     (λ q. absurd (eqb-false (countRefusal c) 0 q (simp q at e)))
 
--- What the active number is: the length of a list of ids in which none is twice, and in which an id is exactly when it is active.
+-- What the active number is: the length of a list of ids in which none is twice, and in which an id is exactly when
+-- it is active.
 pub record ActiveNumber (c : Conn) : Type 0 where
   pub answer : activeCount c ≡ record { refusal = 0; count = length (activeIds (c .table)) }
   pub distinct : List·Nodup (activeIds (c .table))

@@ -104,7 +104,8 @@ at-end st store piece from steps l g =
     let u : length piece - 0 ≡ from = omega arith in
     rw e (goes-nowhere (length piece - steps) (length piece) st store [] steps (ap (λ (s : Stepped). s .used) (step-nothing st store)) ∙ rw u refl)
 
--- A step over the rest of a piece: it stays within the piece; if it read some, the rest from here is the rest from there; if it read nothing, all ends here.
+-- A step over the rest of a piece: it stays within the piece; if it read some, the rest from here is the rest from
+-- there; if it read nothing, all ends here.
 pub record LoopTurn (st : State) (store piece : List ℕ) (from steps : ℕ) (st′ : State) (store′ : List ℕ) (used : ℕ) : Type 0 where
   pub inside : from + used ≤ length piece
   pub onward : (used ≡ 0 → ⊥) → restOf st store piece from steps ≡ restOf st′ store′ piece (from + used) (steps + 1)

@@ -15,7 +15,8 @@ pub struct Drain {
 
 // Steps through a piece to its end, or to the byte that closes the connection. What the steps tell is dropped.
 pub fn drain_piece(c: Conn, store: &mut [u8], gathered: &mut [u8; QUERY], piece: &[u8]) -> Drain
-    ensures { λ r. ⌜ drainedBy r (now (gathered .exit)) (now (store .exit)) ≡ drained (stateOf c (now (gathered .entry))) (now (store .entry)) (now (piece .entry)) ⌝ }
+    ensures { λ r. ⌜ drainedBy r (now (gathered .exit)) (now (store .exit))
+        ≡ drained (stateOf c (now (gathered .entry))) (now (store .entry)) (now (piece .entry)) ⌝ }
 {
     let mut conn = c;
     let mut from: usize = 0;

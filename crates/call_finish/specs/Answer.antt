@@ -1,4 +1,4 @@
--- What finish answers, read in the scope's numbers and values.
+-- What finish answers, read in the rules' numbers and values.
 use Prim.Native.Nat.{ℕ}
 use mathlib.Core.Bool.{Bool, true, false}
 use mathlib.Core.List.{List, []}

@@ -31,7 +31,8 @@ use Rattle.call_finish.specs.Laws.{secondOwed, lastOwed}
 abbrev pub recordIf : Bool → ℕ → ℕ → List Record
 recordIf owed kind id = if owed then recordOf kind id [] ∷ [] else []
 
--- The end of STDOUT if it is owed, the end of STDERR if it is owed, then END_REQUEST with the application's status and 0.
+-- The end of STDOUT if it is owed, the end of STDERR if it is owed, then END_REQUEST with the application's status
+-- and 0.
 abbrev pub owedRecords : Request → ℕ → ℕ → List Record
 owedRecords r id s =
     recordIf (owesOut (r .state)) STDOUT id ++ (recordIf (owesErr (r .state)) STDERR id ++ (recordOf END-REQUEST id (endBodyBytes s REQUEST-COMPLETE) ∷ []))
@@ -101,7 +102,8 @@ module _ (c : Conn) (store : List ℕ) (id s : ℕ) (l : List ℕ) where
       (λ k. record { has-id = own; written = simp (t, u, k); buffer = simp (t, u, k) })))
       (λ t. absurd (eqb-false (lentRefusal c store id) 0 t (simp t at e)))
 
-  -- Finish reads back (FI12): the bytes written split into the records owed, of that id, and END_REQUEST's body says the application's status and 0.
+  -- Finish reads back: the bytes written split into the records owed, of that id, and END_REQUEST's body says
+  -- the application's status and 0.
   pub finish-read-back : finish c store id s l .refusal ≡ 0 → id < 65536 → s < 4294967296
       → (split (take (finish c store id s l .written) (finish c store id s l .buffer)) ≡ record { records = owedRecords (requestOf c id) id s; rest = [] })
       × (endBodyOf (endBodyBytes s REQUEST-COMPLETE) ≡ record { appStatus = s; protocolStatus = 0 })

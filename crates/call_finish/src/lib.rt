@@ -78,7 +78,8 @@ fn owed_length(m: RequestState) -> usize
 // An empty record at a place, if it is owed; answers the place after it.
 fn write_end(out: &mut [u8], at: usize, owed: bool, kind: u8, id: u16) -> usize
     requires { ⌜ at + length (endIf owed kind id) ≤ length (now out) ⌝ }
-    ensures { λ n. ⌜ (n ≡ at + length (endIf owed kind id)) × (now (out .exit) ≡ putAt (now (out .entry)) at (endIf owed kind id)) ⌝ }
+    ensures { λ n. ⌜ (n ≡ at + length (endIf owed kind id))
+        × (now (out .exit) ≡ putAt (now (out .entry)) at (endIf owed kind id)) ⌝ }
 {
     if owed {
         return write_record(out, at, kind, id, b"");
@@ -90,7 +91,8 @@ fn write_end(out: &mut [u8], at: usize, owed: bool, kind: u8, id: u16) -> usize
 // status and 0.
 fn write_owed(out: &mut [u8], r: Request, app_status: u32) -> usize
     requires { ⌜ length (finishBytes r «app_status») ≤ length (now out) ⌝ }
-    ensures { λ n. ⌜ (n ≡ length (finishBytes r «app_status»)) × (now (out .exit) ≡ putAt (now (out .entry)) 0 (finishBytes r «app_status»)) ⌝ }
+    ensures { λ n. ⌜ (n ≡ length (finishBytes r «app_status»))
+        × (now (out .exit) ≡ putAt (now (out .entry)) 0 (finishBytes r «app_status»)) ⌝ }
 {
     let state = r.state;
     let a = write_end(out, 0, owes_out(state), names::STDOUT, r.id);
@@ -157,7 +159,8 @@ fn refused(c: Conn, why: Refusal) -> Finished
 // The request of that id ends (finish): what it still owes is written at the start of out. With KEEP_CONN its slot and
 // its area are given back; without, the connection closes and the store is zeroed. Refusals 2, 9, 1, 3, 6.
 pub fn finish(c: Conn, store: &mut [u8], id: u16, app_status: u32, out: &mut [u8]) -> Finished
-    ensures { λ r. ⌜ finishedBy r (now (store .exit)) (now (out .exit)) ≡ finish c (now (store .entry)) id «app_status» (now (out .entry)) ⌝ }
+    ensures { λ r. ⌜ finishedBy r (now (store .exit)) (now (out .exit))
+        ≡ finish c (now (store .entry)) id «app_status» (now (out .entry)) ⌝ }
 {
     let admitted = admit_lent(c, store, id);
     match admitted {

@@ -28,7 +28,8 @@ use Rattle.call_admit.specs.Admission.{admittedBy, lentAdmission}
 use Rattle.call_admit.specs.AdmissionLaws.{let-through, refused-by}
 use Rattle.call_list.specs.Listing.{Listing, unlisted, partOf, listing}
 
--- A call that rows 2, 9, 1 and 3 let through: the store has its size, the slot is one of the table's, and the list fits its area.
+-- A call that rows 2, 9, 1 and 3 let through: the store has its size, the slot is one of the table's, and the list
+-- fits its area.
 pub record Through (c : Conn) (store : List ℕ) (id i : ℕ) : Type 0 where
   pub none : (lentRefusal c store id =? 0) ≡ true
   pub slot : slotOf c id ≡ i

@@ -13,7 +13,7 @@ use Rattle.connection.specs.RequestCalls as Of
 use Rattle.connection.specs.Calls.{lentRefusal, slotOf}
 use Rattle.call_list.specs.declared.Listed.{Listed}
 
--- row 4 is about the marks alone
+-- row 4 is about the state alone
 abbrev pub noListOf : RequestState → Bool
 noListOf m = if Of.inParams (m .turn) then true else Of.isFaulted (m .life)
 

@@ -1,4 +1,4 @@
--- What the calls that write a request's output answer, read in the scope's numbers and values.
+-- What the calls that write a request's output answer, read in the rules' numbers and values.
 use Prim.Native.Nat.{ℕ}
 use mathlib.Core.List.{List}
 use Rattle.connection.specs.declared.answer.Written.{Written as Call}

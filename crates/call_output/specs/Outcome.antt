@@ -1,4 +1,5 @@
--- What say and the end of a stream come to, said once for both: refused they leave everything as it was, else the bytes are written and the request is put back.
+-- What say and the end of a stream come to, said once for both: refused they leave everything as it was, else the
+-- bytes are written and the request is put back.
 use Prim.Native.Nat.{ℕ, _+_, _≤_, _<_}
 use mathlib.Core.Path.{_≡_, refl, sym, ap, _∙_}
 use mathlib.Core.Bool.{Bool, true, false, not}

@@ -67,7 +67,8 @@ spoken kind id bytes h =
     })
 
 -- ---- the calls
--- Say reads back (SY9): the bytes written split into records of that type and id, none empty, whose contents joined are the data.
+-- Say reads back: the bytes written split into records of that type and id, none empty, whose contents joined
+-- are the data.
 pub say-read-back : (c : Conn) (id : ℕ) (output : Output) (bytes buffer : List ℕ) → say c id output bytes buffer .refusal ≡ 0 → id < 65536
     → Spoken (outputType output) id bytes (split (take (say c id output bytes buffer .written) (say c id output bytes buffer .buffer)))
 say-read-back c id output bytes buffer e h =
@@ -77,7 +78,7 @@ say-read-back c id output bytes buffer e h =
     let own : requestOf c id .id ≡ id = named-id c id (did c id output f g buffer e′ .called) in
     rw (say-is c id output bytes buffer, front c id output f g buffer e′, own) (spoken (outputType output) id bytes h)
 
--- The end of a stream reads back (EN5): one empty record of that type and id.
+-- The end of a stream reads back: one empty record of that type and id.
 pub end-read-back : (c : Conn) (id : ℕ) (output : Output) (buffer : List ℕ) → endStream c id output buffer .refusal ≡ 0 → id < 65536
     → split (take (endStream c id output buffer .written) (endStream c id output buffer .buffer)) ≡ record { records = recordOf (outputType output) id [] ∷ []; rest = [] }
 end-read-back c id output buffer e h =
@@ -91,7 +92,7 @@ end-read-back c id output buffer e h =
     ∙ record-read-back kind id [] [] h (omega arith)
     ∙ ap (λ (t : Split). (recordOf kind id [] ∷ []) then-split t) no-rest)
 
--- Bytes after those written stay, and the buffer keeps its length (SY10).
+-- Bytes after those written stay, and the buffer keeps its length.
 pub say-behind : (c : Conn) (id : ℕ) (output : Output) (bytes buffer : List ℕ)
     → (drop (say c id output bytes buffer .written) (say c id output bytes buffer .buffer) ≡ drop (say c id output bytes buffer .written) buffer)
     × (length (say c id output bytes buffer .buffer) ≡ length buffer)
@@ -114,7 +115,7 @@ unfolding saidOn
 unsaid Output.Stdout r = refl
 unsaid Output.Stderr r = refl
 
--- Empty data (SY7): nothing is written, nothing changes (STDERR is not used by it), and no buffer is too short for it.
+-- Empty data: nothing is written, nothing changes (STDERR is not used by it), and no buffer is too short for it.
 pub say-nothing : (c : Conn) (id : ℕ) (output : Output) (buffer : List ℕ)
     → (say c id output [] buffer ≡ unwritten (say c id output [] buffer .refusal) c buffer) × (say c id output [] buffer .refusal ≡ 6 → ⊥)
 say-nothing c id output buffer =

@@ -1,4 +1,4 @@
--- What say and the end of a stream leave of the state: everything but the marks of the request's output.
+-- What say and the end of a stream leave of the state: everything but the state of the request's output.
 use Prim.Native.Nat.{ℕ}
 use mathlib.Core.Path.{_≡_, refl, ap}
 use mathlib.Core.List.{List}
@@ -21,7 +21,7 @@ use Rattle.connection.specs.RequestCalls.{sayBytes, endBytes, saidOn, endedOn}
 use Rattle.connection.specs.Calls.{slotOf, unwritten, putsRequest, say, endStream}
 use Rattle.call_output.specs.Outcome.{requestOf, outputCall, say-is, end-is, did, did-not, by-outcome}
 
--- ---- a request, but for the marks of its output
+-- ---- a request, but for the state of its output
 pub record SameRequest (r r′ : Request) : Type 0 where
   pub id : r′ .id ≡ r .id
   pub length : r′ .length ≡ r .length
@@ -58,7 +58,7 @@ module _ (t : Table) (i : ℕ) (r : Request) (stays : SameRequest (requestAt t i
   target-stays (Target.Stdin j) gathered left = rw (put-occupied t i r)
   target-stays (Target.Data j) gathered left = rw (put-occupied t i r)
 
-  -- the slot's mark is the one put, or there is no such slot
+  -- the slot's state is the one put, or there is no such slot
   state-put : (P : RequestState → Type 0) → P (requestAt t i .state) → P (r .state) → P (requestAt (putRequest t i r) i .state)
   unfolding requestAt putRequest
   state-put P old new =
@@ -84,7 +84,8 @@ puts-shape c i r stays =
     rw (target-stays (c .table) i r stays (c .frame .target) (c .frame .gathered) (c .frame .position .content), ids-stay (c .table) i r stays, lengths-stay (c .table) i r stays, put-occupied (c .table) i r)
 
 -- ---- what a call leaves
--- Frame, opening and occupancy stay; a slot that is not the request's has its request, and the request's slot has it but for the marks of its output; arrays keep their lengths.
+-- Frame, opening and occupancy stay; a slot that is not the request's has its request, and the request's slot has it
+-- but for the state of its output; arrays keep their lengths.
 pub record Left (c : Conn) (i : ℕ) (c′ : Conn) : Type 0 where
   pub shape : inShape c′ ≡ inShape c
   pub frame : c′ .frame ≡ c .frame
@@ -123,7 +124,8 @@ module _ (c : Conn) (id : ℕ) (output : Output) (bytes : Request → List ℕ) 
       let d = did c id output bytes after buffer e in
       rw (d .is) (request-of-put (c .table) (slotOf c id) (after (requestOf c id)) sized (d .called .holds .low))
 
--- Say and the end of a stream keep a state's shape (R9.16), and all of it but the marks of the request's output (SY10, EN2).
+-- Say and the end of a stream keep a state's shape, and all of it but the state of the request's output
+--.
 pub say-left : (c : Conn) (id : ℕ) (output : Output) (bytes buffer : List ℕ) → Left c (slotOf c id) (say c id output bytes buffer .conn)
 say-left c id output bytes buffer =
     rw (say-is c id output bytes buffer) (left c id output (λ r. sayBytes r output bytes) (λ r. saidOn r output bytes) buffer (same-said output bytes))
@@ -132,7 +134,8 @@ pub end-left : (c : Conn) (id : ℕ) (output : Output) (buffer : List ℕ) → L
 end-left c id output buffer =
     rw (end-is c id output buffer) (left c id output (λ r. endBytes r output) (λ r. endedOn r output) buffer (same-ended output))
 
--- Not refused, those marks are the ones that the definition says (SY10, EN2): STDERR used by data said on it, or that stream ended.
+-- Not refused, its outputs are the ones that the definition says: STDERR used by data said on it, or that
+-- stream ended.
 pub say-own : (c : Conn) (id : ℕ) (output : Output) (bytes buffer : List ℕ) → Sized (c .table) → say c id output bytes buffer .refusal ≡ 0
     → requestAt (say c id output bytes buffer .conn .table) (slotOf c id) ≡ saidOn (requestOf c id) output bytes
 say-own c id output bytes buffer sized e =
@@ -145,7 +148,7 @@ end-own c id output buffer sized e =
     let e′ = rw (end-is c id output buffer) at e in
     rw (end-is c id output buffer) (changed c id output (λ r. endBytes r output) (λ r. endedOn r output) buffer sized e′)
 
--- Refused, nothing changes and nothing is written (D1.2).
+-- Refused, nothing changes and nothing is written.
 pub say-refused-stays : (c : Conn) (id : ℕ) (output : Output) (bytes buffer : List ℕ) → (say c id output bytes buffer .refusal ≡ 0 → ⊥)
     → say c id output bytes buffer ≡ unwritten (say c id output bytes buffer .refusal) c buffer
 say-refused-stays c id output bytes buffer e =

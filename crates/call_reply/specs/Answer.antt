@@ -1,4 +1,4 @@
--- What the call that writes an owed reply answers, read in the scope's numbers.
+-- What the call that writes an owed reply answers, read in the rules' numbers.
 use mathlib.Core.Bool.{Bool}
 use mathlib.Core.List.{List, []}
 use lib.ListN.{length}

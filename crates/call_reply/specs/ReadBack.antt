@@ -48,7 +48,7 @@ module _ (e : Event) (buffer : List ℕ) where
   pub reply-front : reply .refusal ≡ 0 → take (reply .written) (reply .buffer) ≡ owed e
   reply-front h = rw (done h) (take-at (owed e) (drop (0 + length (owed e)) buffer) (length (owed e)) refl)
 
-  -- Bytes after them stay, and the buffer keeps its length (OR8).
+  -- Bytes after them stay, and the buffer keeps its length.
   pub reply-behind : (drop (reply .written) (reply .buffer) ≡ drop (reply .written) buffer) × (length (reply .buffer) ≡ length buffer)
   unfolding replied
   reply-behind =
@@ -62,7 +62,7 @@ alone : (bytes : List ℕ) (r : Record) → ((rest : List ℕ) → split (bytes 
 unfolding split splitIn
 alone bytes r back = ap split (sym (append-nil bytes)) ∙ back []
 
--- ---- an END_REQUEST to a refused opening, and an UNKNOWN_TYPE (OR9)
+-- ---- an END_REQUEST to a refused opening, and an UNKNOWN_TYPE
 pub refuse-reads-back : (id n : ℕ) (buffer : List ℕ) → replied (Event.Refuse id n) buffer .refusal ≡ 0 → id < 65536
     → (split (take (replied (Event.Refuse id n) buffer .written) (replied (Event.Refuse id n) buffer .buffer)) ≡ record { records = recordOf END-REQUEST id (endBodyBytes 0 n) ∷ []; rest = [] })
     × (endBodyOf (endBodyBytes 0 n) ≡ record { appStatus = 0; protocolStatus = n })
@@ -120,7 +120,8 @@ values-written conns reqs mpxs =
     ∙ ap₂ (λ (x y : List ℕ). x ++ y) (written-if conns MAX-CONNS (49 ∷ []))
     (written-append b d ∙ ap₂ (λ (x y : List ℕ). x ++ y) (written-if reqs MAX-REQS (49 ∷ 54 ∷ [])) (written-if mpxs MPXS-CONNS (49 ∷ []))))
 
--- The result reads back (OR9): one GET_VALUES_RESULT record of id 0, whose list is well formed and has exactly the pairs asked for.
+-- The result reads back: one GET_VALUES_RESULT record of id 0, whose list is well formed and has exactly the
+-- pairs asked for.
 pub query-reads-back : (conns reqs mpxs : Bool) (buffer : List ℕ) → replied (Event.Query conns reqs mpxs) buffer .refusal ≡ 0
     → (split (take (replied (Event.Query conns reqs mpxs) buffer .written) (replied (Event.Query conns reqs mpxs) buffer .buffer)) ≡ record { records = recordOf GET-VALUES-RESULT 0 (valuesOf conns reqs mpxs) ∷ []; rest = [] })
     × (contents (valuesOf conns reqs mpxs) ≡ askedFor conns reqs mpxs)
@@ -162,7 +163,7 @@ some-record kind id x e = omega (arith, record-length kind id x, record-long (le
 not-false : true ≡ false → ⊥
 not-false e = let z : _≡_ {A = ℕ} 0 1 = cc in omega arith
 
--- Replies are owed for exactly three kinds of event (D2.4): refuse, query, unknown.
+-- Replies are owed for exactly three kinds of event: refuse, query, unknown.
 pub three-kinds : (e : Event) → (owes e ≡ false → owed e ≡ []) × (owed e ≡ [] → owes e ≡ false)
 unfolding owed
 three-kinds (Event.Refuse id n) = (λ e. absurd (not-false e), λ e. absurd (some-record END-REQUEST id (endBodyBytes 0 n) e))
@@ -204,7 +205,8 @@ two-or-three : (s : Status) → (2 ≤ statusNumber s) × (statusNumber s ≤ 3)
 two-or-three Status.Overloaded = (omega arith, omega arith)
 two-or-three Status.UnknownRole = (omega arith, omega arith)
 
--- Status 1 cannot be sent (W10): a reply's END_REQUEST says 2 or 3, whatever the event of the code (its id is a number of two bytes).
+-- Status 1 cannot be sent: a reply's END_REQUEST says 2 or 3, whatever the event of the code (its id is a
+-- number of two bytes).
 pub reply-status : (e : CodeEvent) → ((id : ℕ) (status : Status) → e ≡ CodeEvent.Refuse id status → id < 65536)
     → Statuses (λ n. (2 ≤ n) × (n ≤ 3)) (split (owed (eventOf e)) .records)
 unfolding owed split splitIn

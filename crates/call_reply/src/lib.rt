@@ -25,7 +25,8 @@ ghost use Rattle.call_reply.specs.Answer.{repliedBy, filledBy, namedPair
 // One record at the start of out, if it fits.
 fn one_record(out: &mut [u8], kind: u8, id: u16, content: &[u8]) -> Wrote
     requires { ⌜ length (now content) ≤ 65535 ⌝ }
-    ensures { λ r. ⌜ repliedBy r (now (out .exit)) ≡ filledBy (recordBytes kind id (now (content .entry))) (now (out .entry)) ⌝ }
+    ensures { λ r. ⌜ repliedBy r (now (out .exit))
+        ≡ filledBy (recordBytes kind id (now (content .entry))) (now (out .entry)) ⌝ }
 {
     if record_fits(content.len(), 0, out.len()) {
         return Wrote::Bytes(write_record(out, 0, kind, id, content));
@@ -46,8 +47,11 @@ fn count_of(wrote: PairWrote) -> usize
 
 // A pair at a place, if it is asked for; answers the place after it.
 fn put_named(list: &mut [u8], at: usize, asked: bool, name: &[u8], value: &[u8]) -> usize
-    requires { ⌜ (length (now name) ≤ 65535) × (length (now value) ≤ 65535) × (at + length (pairBytes (now name) (now value)) ≤ length (now list)) ⌝ }
-    ensures { λ r. ⌜ (r ≡ at + length (namedPair asked (now (name .entry)) (now (value .entry)))) × (now (list .exit) ≡ putAt (now (list .entry)) at (namedPair asked (now (name .entry)) (now (value .entry)))) ⌝ }
+    requires { ⌜ (length (now name) ≤ 65535) × (length (now value) ≤ 65535)
+        × (at + length (pairBytes (now name) (now value)) ≤ length (now list)) ⌝ }
+    ensures { λ r. ⌜ (r ≡ at + length (namedPair asked (now (name .entry)) (now (value .entry))))
+        × (now (list .exit)
+        ≡ putAt (now (list .entry)) at (namedPair asked (now (name .entry)) (now (value .entry)))) ⌝ }
 {
     if asked {
         let e = list.len();
@@ -60,7 +64,8 @@ fn put_named(list: &mut [u8], at: usize, asked: bool, name: &[u8], value: &[u8])
 // The values that a query asks for, in their order: FCGI_MAX_CONNS is 1, FCGI_MAX_REQS is 16, FCGI_MPXS_CONNS is 1.
 fn put_values(list: &mut [u8], conns: bool, reqs: bool, mpxs: bool) -> usize
     requires { ⌜ 52 ≤ length (now list) ⌝ }
-    ensures { λ r. ⌜ (r ≡ length (valuesOf conns reqs mpxs)) × (now (list .exit) ≡ putAt (now (list .entry)) 0 (valuesOf conns reqs mpxs)) ⌝ }
+    ensures { λ r. ⌜ (r ≡ length (valuesOf conns reqs mpxs))
+        × (now (list .exit) ≡ putAt (now (list .entry)) 0 (valuesOf conns reqs mpxs)) ⌝ }
 {
     let a = put_named(list, 0, conns, b"FCGI_MAX_CONNS", b"1");
     let b = put_named(list, a, reqs, b"FCGI_MAX_REQS", b"16");

@@ -16,7 +16,8 @@ ghost use Rattle.call_start.specs.Answer.{startedBy};
 // Start: an open connection with no requests, the store and the gathered bytes zeroed. With a store of another size
 // it is refused, a closed connection comes back, and the lent bytes stay as they are.
 pub fn start(store: &mut [u8], gathered: &mut [u8; QUERY]) -> Started
-    ensures { λ r. ⌜ startedBy r (now (gathered .exit)) (now (store .exit)) ≡ started (now (gathered .entry)) (now (store .entry)) ⌝ }
+    ensures { λ r. ⌜ startedBy r (now (gathered .exit)) (now (store .exit))
+        ≡ started (now (gathered .entry)) (now (store .entry)) ⌝ }
 {
     if store.len() == STORE {
         clear(store);

@@ -1,4 +1,4 @@
--- What step answers, read in the scope's numbers and values.
+-- What step answers, read in the rules' numbers and values.
 use Prim.Native.Nat.{ℕ}
 use mathlib.Core.List.{List}
 use Rattle.connection.specs.declared.answer.StepResult.{StepResult}

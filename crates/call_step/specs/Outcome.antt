@@ -17,7 +17,7 @@ use Rattle.call_step.specs.declared.Outcome.{Outcome}
 use Rattle.call_step.specs.Answer.{toldNumber, toldEvent}
 use Rattle.connection.specs.Step.{stateOf}
 
--- rows 2, 9 and 1 by the store's size, the state's shape and the open mark; then the empty piece
+-- rows 2, 9 and 1 by the store's size, the state's shape and the open flag; then the empty piece
 unfoldable pub checkedStep : ℕ → Bool → Bool → ℕ → StepCheck
 checkedStep size fits is-open bytes =
     if size =? STORE then

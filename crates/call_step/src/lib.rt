@@ -50,8 +50,10 @@ fn decide(
     phase: Phase,
     p: Position,
 ) -> Decision
-    requires { ⌜ (length (now store) ≡ STORE) × (Aimed (f .target) t (f .gathered) (f .position .content)) × (length (now bytes) ≤ 65535) ⌝ }
-    ensures { λ r. ⌜ applied r t (now (gathered .exit)) (now (store .exit)) ≡ onPhase phase (openState t f (now (gathered .entry))) (now (store .entry)) (now (bytes .entry)) p ⌝ }
+    requires { ⌜ (length (now store) ≡ STORE) × (Aimed (f .target) t (f .gathered) (f .position .content))
+        × (length (now bytes) ≤ 65535) ⌝ }
+    ensures { λ r. ⌜ applied r t (now (gathered .exit)) (now (store .exit))
+        ≡ onPhase phase (openState t f (now (gathered .entry))) (now (store .entry)) (now (bytes .entry)) p ⌝ }
 {
     match phase {
         Phase::Content => feed(t, f, store, gathered, bytes, p),
@@ -109,8 +111,11 @@ fn stay(f: Frame, result: StepResult) -> Outcome
 
 // A step that is not refused, over a piece that is not empty.
 fn go_on(t: Table, f: Frame, store: &mut [u8], gathered: &mut [u8; QUERY], piece: &[u8]) -> Outcome
-    requires { ⌜ (length (now store) ≡ STORE) × (Aimed (f .target) t (f .gathered) (f .position .content)) × (Placed (f .position)) ⌝ }
-    ensures { λ r. ⌜ outcomeOf r t true (now (gathered .exit)) (now (store .exit)) ≡ advances (openState t f (now (gathered .entry))) (now (store .entry)) (now (piece .entry)) (advanced (f .position) (now (piece .entry))) ⌝ }
+    requires { ⌜ (length (now store) ≡ STORE) × (Aimed (f .target) t (f .gathered) (f .position .content))
+        × (Placed (f .position)) ⌝ }
+    ensures { λ r. ⌜ outcomeOf r t true (now (gathered .exit)) (now (store .exit))
+        ≡ advances (openState t f (now (gathered .entry))) (now (store .entry)) (now (piece .entry))
+        (advanced (f .position) (now (piece .entry))) ⌝ }
 {
     let position = f.position;
     let a = advance(position, piece);
@@ -139,8 +144,12 @@ fn settle(
     gathered: &mut [u8; QUERY],
     piece: &[u8],
 ) -> Outcome
-    requires { ⌜ (check ≡ StepCheck.Read → (length (now store) ≡ STORE) × (Aimed (f .target) t (f .gathered) (f .position .content)) × (Placed (f .position))) ⌝ }
-    ensures { λ r. ⌜ ((o : Bool) → check ≡ checkedStep (length (now (store .entry))) (inShape (connOf t f o)) o (length (now (piece .entry))) → outcomeOf r t o (now (gathered .exit)) (now (store .exit)) ≡ stepped (stateOf (connOf t f o) (now (gathered .entry))) (now (store .entry)) (now (piece .entry))) ⌝ }
+    requires { ⌜ (check ≡ StepCheck.Read → (length (now store) ≡ STORE)
+        × (Aimed (f .target) t (f .gathered) (f .position .content)) × (Placed (f .position))) ⌝ }
+    ensures { λ r. ⌜ ((o : Bool) → check
+        ≡ checkedStep (length (now (store .entry))) (inShape (connOf t f o)) o (length (now (piece .entry)))
+        → outcomeOf r t o (now (gathered .exit)) (now (store .exit))
+        ≡ stepped (stateOf (connOf t f o) (now (gathered .entry))) (now (store .entry)) (now (piece .entry))) ⌝ }
 {
     match check {
         StepCheck::Refused(why) => stay(f, StepResult::Refused(why)),
@@ -152,7 +161,8 @@ fn settle(
 // One step over a piece: it stays in one phase and uses as many bytes as that phase still needs or the piece has.
 // The table is changed in place and has one way out: each way out that carried it would copy it once more.
 pub fn step(c: Conn, store: &mut [u8], gathered: &mut [u8; QUERY], piece: &[u8]) -> Stepped
-    ensures { λ r. ⌜ steppedBy r (now (gathered .exit)) (now (store .exit)) ≡ stepped (stateOf c (now (gathered .entry))) (now (store .entry)) (now (piece .entry)) ⌝ }
+    ensures { λ r. ⌜ steppedBy r (now (gathered .exit)) (now (store .exit))
+        ≡ stepped (stateOf c (now (gathered .entry))) (now (store .entry)) (now (piece .entry)) ⌝ }
 {
     let mut t = c.table;
     let f = c.frame;

@@ -1,4 +1,4 @@
--- What the calls that read parameters answer, read in the scope's numbers and values.
+-- What the calls that read parameters answer, read in the rules' numbers and values.
 use Rattle.connection.specs.Codes.{refusalNumber}
 use Rattle.connection.specs.RequestCalls as Of
 use Rattle.call_value.specs.declared.Source.{Source}

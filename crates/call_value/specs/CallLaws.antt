@@ -49,7 +49,7 @@ module _ (c : Conn) (store : List ℕ) (id : ℕ) (name : List ℕ) where
       refused : (listing c store id .refusal =? 0) ≡ false → (fallback : List ℕ) → value c store id name fallback ≡ fallback
       refused t fallback = value-listed c store id name fallback ∙ simp (refused-empty c store id t, first-in-none)
 
-  -- VS2: found exactly when value's answer is the store's, whatever the fallback.
+  -- found exactly when value's answer is the store's, whatever the fallback.
   pub found-is-stores : (source c store id name ≡ Of.FromStore) ↔ ((f g : List ℕ) → value c store id name f ≡ value c store id name g)
   found-is-stores = (λ e f g. same (source c store id name) says e f g, λ h. only (source c store id name) says h)
     where
@@ -67,7 +67,7 @@ module _ (c : Conn) (store : List ℕ) (id : ℕ) (name : List ℕ) where
       only Of.FromFallback h k = absurd (differ h k)
       only (Of.SourceRefused n) h k = absurd (differ h k)
 
-  -- VS2: it is then the value of the first pair of that name in the request's list.
+  -- it is then the value of the first pair of that name in the request's list.
   pub found-value : source c store id name ≡ Of.FromStore
       → (p : Pair) × (firstNamed (listIn c store id) name ≡ Found.At p) × ((fallback : List ℕ) → value c store id name fallback ≡ valueOf (listIn c store id) p)
   unfolding source Of.sourceIn value Of.valueIn
@@ -84,7 +84,7 @@ module _ (c : Conn) (store : List ℕ) (id : ℕ) (name : List ℕ) where
       at-pair t u (Found.At p) h w = (p, h, λ fallback. simp (t, u, h))
       at-pair t u Found.Nothing h w = let z : _≡_ {A = ℕ} 0 1 = cc in absurd (omega arith)
 
-  -- VS2: where it is the fallback's, value is the fallback, for every one.
+  -- where it is the fallback's, value is the fallback, for every one.
   pub fallback-is-value : source c store id name ≡ Of.FromFallback → (fallback : List ℕ) → value c store id name fallback ≡ fallback
   fallback-is-value e = subst Says e says
 
@@ -130,7 +130,7 @@ module _ (c : Conn) (store : List ℕ) (id : ℕ) where
       (λ t. byTest (Of.noList (requestAt (c .table) (slotOf c id))) (λ u. simp (t, u) (sym (read-refusal ∙ simp (t, u)))) (λ u. simp (t, u) (sym (read-refusal ∙ simp (t, u)))))
       (λ t. simp t (sym (read-refusal ∙ simp t)))
 
-  -- VS1: the sister is refused by the first of rows 2, 9, 1, 3 and 4 that holds.
+  -- the sister is refused by the first of rows 2, 9, 1, 3 and 4 that holds.
   pub sister-refusal : (name : List ℕ) (n : ℕ) → (source c store id name ≡ Of.SourceRefused n) ↔ ((n ≡ readRefusal c store id) × (n ≡ 0 → ⊥))
   sister-refusal name n = (λ e. told (sym (source-listed c store id name) ∙ e), λ r. source-listed c store id name ∙ refuses (r .0) (r .1))
     where
@@ -157,7 +157,7 @@ module _ (c : Conn) (store : List ℕ) (id : ℕ) where
       (λ u. absurd (r .1 (r .0 ∙ read-refusal ∙ simp (t, u)))))
       (λ t. simp t (r .0 ∙ read-refusal ∙ simp t))
 
-  -- PN4: the pair of a number lies in the request's list.
+  -- the pair of a number lies in the request's list.
   pub pair-lies : (k : ℕ) (p : Pair) → pairAtNumber c store id k ≡ Of.PairIs p → LiesIn (listIn c store id) p
   unfolding pairAtNumber Of.pairIn
   pair-lies k p e =
@@ -171,7 +171,7 @@ module _ (c : Conn) (store : List ℕ) (id : ℕ) where
       found (Found.At q) h w = let z : q ≡ p = cc in subst (LiesIn (listIn c store id)) z (number-within (listIn c store id) k q h)
       found Found.Nothing h w = let z : _≡_ {A = ℕ} 0 1 = cc in absurd (omega arith)
 
-  -- PN4, in numbers: the value begins where the name ends, and ends within the request's length.
+  -- In numbers: the value begins where the name ends, and ends within the request's length.
   pub pair-in-length : (k : ℕ) (p : Pair) → pairAtNumber c store id k ≡ Of.PairIs p
       → (p .name + p .«name_len» ≡ p .value) × (p .value + p .«value_len» ≤ requestAt (c .table) (slotOf c id) .length)
   pair-in-length k p e =

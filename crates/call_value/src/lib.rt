@@ -14,7 +14,7 @@ ghost use Rattle.pairs.specs.Pair.{valueOf};
 ghost use Rattle.pair_list.specs.List.{firstNamed};
 ghost use Rattle.call_value.specs.Answer.{sourceBy, numberedBy};
 
-// Where value finds its answer (01: its sister call).
+// Where `value` finds its answer.
 pub enum Source {
     Store,
     Fallback,
@@ -29,7 +29,9 @@ pub enum Numbered {
 
 // The first value of that name in a list, or the fallback.
 fn value_in<'a>(list: &'a [u8], name: &[u8], fallback: &'a [u8]) -> &'a [u8]
-    ensures { λ r. ⌜ now r ≡ onFound (firstNamed (now (list .entry)) (now (name .entry))) (valueOf (now (list .entry))) (now (fallback .entry)) ⌝ }
+    ensures { λ r. ⌜ now r
+        ≡ onFound (firstNamed (now (list .entry)) (now (name .entry))) (valueOf (now (list .entry)))
+        (now (fallback .entry)) ⌝ }
 {
     let found = first_named(list, name);
     let Found::At(p) = found else {

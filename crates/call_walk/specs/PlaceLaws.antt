@@ -1,4 +1,5 @@
--- What holds of reading on: it goes through the pairs that have a number, in their order, and stays where there is none.
+-- What holds of reading on: it goes through the pairs that have a number, in their order, and stays where there is
+-- none.
 use Prim.Native.Nat.{ℕ, zero, suc, _-_, _≤_, _<_}
 use mathlib.Core.Path.{_≡_, refl, sym, ap, _∙_}
 use mathlib.Core.List.{List, []}
@@ -21,17 +22,17 @@ use Rattle.call_list.specs.Laws.{refused-empty, pair-listed, walk-listed}
 use Rattle.call_walk.specs.Place.{pastAt, placeAfter, foundBy, pastPair, pastPairs}
 use Rattle.call_walk.specs.declared.Walk.{Walk}
 
--- WK3: a pair moves the place on, within the list.
+-- a pair moves the place on, within the list.
 pub pair-moves : (s : List ℕ) (place : ℕ) (p : Pair) (next : ℕ) → pairAt s place ≡ Read.Pair p next → (pastAt s place ≡ next) × (place < next) × (next ≤ length s)
 unfolding pastAt
 pair-moves s place p next e = let i = pair-in s place p next e in (simp e, omega arith, i .within)
 
--- WK3: at the end the place stays.
+-- at the end the place stays.
 pub end-stays : (s : List ℕ) (place : ℕ) → pairAt s place ≡ Read.End → pastAt s place ≡ place
 unfolding pastAt
 end-stays s place e = simp e
 
--- WK3: before a malformed pair it stays.
+-- before a malformed pair it stays.
 pub malformed-stays : (s : List ℕ) (place m : ℕ) → pairAt s place ≡ Read.Malformed m → pastAt s place ≡ place
 unfolding pastAt
 malformed-stays s place m e = simp e
@@ -66,7 +67,7 @@ after-from s (suc k) place = go (λ next. after-from s k next) (pairAt s place) 
     go f Read.End e = none Read.End e (end-stays s place e) refl (rw (pairs-step s place, e))
     go f (Read.Malformed m) e = none (Read.Malformed m) e (malformed-stays s place m e) refl (rw (pairs-step s place, e))
 
--- WK5: reading on k times from place 0 gives the pair of number k, for every list and every k.
+-- reading on k times from place 0 gives the pair of number k, for every list and every k.
 pub read-on-number : (s : List ℕ) (k : ℕ) → foundBy (pairAt s (placeAfter s k 0)) ≡ pairNumber s k
 unfolding pairNumber
 read-on-number s k = after-from s k 0
@@ -77,11 +78,11 @@ unfolding pastPairs placeAfter
 past-pairs zero w = refl
 past-pairs (suc k) w = past-pairs k (pastPair w)
 
--- WK5, of the walk itself: moved past k pairs from place 0, what it reads there is the pair of number k of its list.
+-- Of the walk itself: moved past k pairs from place 0, what it reads there is the pair of number k of its list.
 pub walk-number : (w : Walk) (k : ℕ) → w .place ≡ 0 → foundBy (pairAt (now (pastPairs k w .list)) (pastPairs k w .place)) ≡ pairNumber (now (w .list)) k
 walk-number w k e = rw (past-pairs k w, e) (read-on-number (now (w .list)) k)
 
--- WK3, of the walk itself: where it reads no pair, at the end or before a malformed one, it stays.
+-- Of the walk itself: where it reads no pair, at the end or before a malformed one, it stays.
 pub walk-stays : (w : Walk) → foundBy (pairAt (now (w .list)) (w .place)) ≡ Found.Nothing → pastPair w ≡ w
 walk-stays w e = ap (λ (n : ℕ). record { list = w .list; place = n; refusal = w .refusal }) (go (pairAt (now (w .list)) (w .place)) refl e)
   where
@@ -91,22 +92,22 @@ walk-stays w e = ap (λ (n : ℕ). record { list = w .list; place = n; refusal =
     go (Read.Malformed m) q f = malformed-stays (now (w .list)) (w .place) m q
 
 module _ (c : Conn) (store : List ℕ) (id : ℕ) where
-  -- WK5, of a request: the walk and pair by number give the same pairs, and are refused alike.
+  -- Of a request: the walk and pair by number give the same pairs, and are refused alike.
   pub walk-is-number : (k : ℕ) → pairAtNumber c store id k
       ≡ (if walk c store id .refusal =? 0 then Of.onFound (foundBy (pairAt (walk c store id .list) (placeAfter (walk c store id .list) k 0))) Of.PairIs (Of.PairRefused 7)
       else Of.PairRefused (walk c store id .refusal))
   walk-is-number k = pair-listed c store id k ∙ simp (walk-listed c store id, read-on-number)
 
-  -- WK2: a refused walk holds no bytes.
+  -- a refused walk holds no bytes.
   pub refused-no-bytes : (walk c store id .refusal ≡ 0 → ⊥) → walk c store id .list ≡ []
   refused-no-bytes some =
       let e = walk-listed c store id in
       ap (λ (w : Of.Walk). w .list) e ∙ refused-empty c store id (ne-eqb _ 0 (λ z. some (ap (λ (w : Of.Walk). w .refusal) e ∙ z)))
 
-  -- WK4: a refused walk gives no pair, at any place.
+  -- a refused walk gives no pair, at any place.
   pub refused-no-pair : (walk c store id .refusal ≡ 0 → ⊥) → (place : ℕ) → pairAt (walk c store id .list) place ≡ Read.End
   refused-no-pair some place = rw (refused-no-bytes some) (pair-end [] place (omega arith))
 
--- WK4: nor does a walk whose place is at the end of its bytes or past it.
+-- nor does a walk whose place is at the end of its bytes or past it.
 pub past-no-pair : (w : Walk) → length (now (w .list)) ≤ w .place → pairAt (now (w .list)) (w .place) ≡ Read.End
 past-no-pair w h = pair-end (now (w .list)) (w .place) h

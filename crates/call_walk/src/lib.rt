@@ -22,7 +22,8 @@ pub struct Walk<'a> {
 
 // The list of the request that a call names, as the part of the store that it is; an empty part when refused.
 pub fn list_of<'a>(c: Conn, store: &'a [u8], id: u16) -> &'a [u8]
-    ensures { λ r. ⌜ (now r ≡ walk c (now (store .entry)) id .list) × PartAt (store .entry) r (listing c (now (store .entry)) id .from) ⌝ }
+    ensures { λ r. ⌜ (now r ≡ walk c (now (store .entry)) id .list)
+        × PartAt (store .entry) r (listing c (now (store .entry)) id .from) ⌝ }
 {
     let listed = list_at(c, store, id);
     let Listed::At(a, e) = listed else {
@@ -57,7 +58,9 @@ pub fn past(list: &[u8], place: usize) -> usize
 
 // The walk at the first pair of a request's list. Refused (2, 9, 1, 3, 4): no bytes, the place 0 and the number.
 pub fn walk_pairs<'a>(c: Conn, store: &'a [u8], id: u16) -> Walk<'a>
-    ensures { λ r. ⌜ (now (r .list) ≡ walk c (now (store .entry)) id .list) × PartAt (store .entry) (r .list) (listing c (now (store .entry)) id .from) × (r .place ≡ 0) × (r .refusal ≡ walk c (now (store .entry)) id .refusal) ⌝ }
+    ensures { λ r. ⌜ (now (r .list) ≡ walk c (now (store .entry)) id .list)
+        × PartAt (store .entry) (r .list) (listing c (now (store .entry)) id .from) × (r .place ≡ 0)
+        × (r .refusal ≡ walk c (now (store .entry)) id .refusal) ⌝ }
 {
     let list = list_of(c, store, id);
     let refusal = list_refusal(c, store, id);

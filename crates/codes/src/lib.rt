@@ -1,4 +1,4 @@
-// What each case of an answer is in the scope's numbers.
+// What each case of an answer is in the rules' numbers.
 use connection::answer::Output;
 use connection::answer::Refusal;
 use connection::event::Close;
@@ -8,7 +8,8 @@ use connection::event::Stream;
 use connection::request::Role;
 use record::names;
 ghost use mathlib.Core.Path.{_≡_};
-ghost use Rattle.connection.specs.Codes.{roleNumber, streamType, outputType, statusNumber, faultNumber, closeNumber, refusalNumber};
+ghost use Rattle.connection.specs.Codes.{roleNumber, streamType, outputType, statusNumber, faultNumber, closeNumber};
+ghost use Rattle.connection.specs.Codes.{refusalNumber};
 
 pub fn role_number(role: Role) -> u8
     ensures { λ r. ⌜ r ≡ roleNumber role ⌝ }

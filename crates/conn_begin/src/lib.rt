@@ -27,7 +27,8 @@ ghost use Rattle.connection.specs.Decision.{openState, applied};
 
 // A known role: the request is opened in the lowest-numbered free slot, if there is one.
 fn open_in(free: usize, id: u16, role: Role, b: BeginBody, f: Frame) -> Decision
-    ensures { λ r. ⌜ ((t : Table) (fr : Frame) (g s : List ℕ) → freeSlotOf t ≡ free → applied r t g s ≡ opens (openState t fr g) s id b role f) ⌝ }
+    ensures { λ r. ⌜ ((t : Table) (fr : Frame) (g s : List ℕ) → freeSlotOf t ≡ free → applied r t g s
+        ≡ opens (openState t fr g) s id b role f) ⌝ }
 {
     let keep = b.keep;
     if free < SLOTS {
@@ -53,7 +54,8 @@ fn open_in(free: usize, id: u16, role: Role, b: BeginBody, f: Frame) -> Decision
 
 // A BEGIN_REQUEST body that is whole.
 fn begin(free: usize, id: u16, b: BeginBody, f: Frame) -> Decision
-    ensures { λ r. ⌜ ((t : Table) (fr : Frame) (g s : List ℕ) → freeSlotOf t ≡ free → applied r t g s ≡ begun (openState t fr g) s id b f) ⌝ }
+    ensures { λ r. ⌜ ((t : Table) (fr : Frame) (g s : List ℕ) → freeSlotOf t ≡ free → applied r t g s
+        ≡ begun (openState t fr g) s id b f) ⌝ }
 {
     let role = b.role;
     if role == names::RESPONDER {
@@ -77,7 +79,8 @@ fn begin(free: usize, id: u16, b: BeginBody, f: Frame) -> Decision
 // Bytes of a BEGIN_REQUEST body.
 pub fn of_begin(f: Frame, free: usize, id: u16, bytes: &[u8], p: Position) -> Decision
     requires { ⌜ (f .gathered ≤ QUERY) × (length (now bytes) ≤ 65535) ⌝ }
-    ensures { λ r. ⌜ ((t : Table) (g s : List ℕ) → freeSlotOf t ≡ free → applied r t g s ≡ ofBegin (openState t f g) s id (now (bytes .entry)) p) ⌝ }
+    ensures { λ r. ⌜ ((t : Table) (g s : List ℕ) → freeSlotOf t ≡ free → applied r t g s
+        ≡ ofBegin (openState t f g) s id (now (bytes .entry)) p) ⌝ }
 {
     let n = f.gathered;
     let mut body = f.body;

@@ -7,7 +7,7 @@ use Rattle.connection.specs.declared.state.Target.{Target}
 use Rattle.connection.specs.declared.state.Frame.{Frame}
 use Rattle.connection.specs.Shape.{dueFits, targetFits, inShape}
 
--- a table with these ids, lengths and slots taken; its marks do not matter
+-- a table with these ids, lengths and slots taken; its states do not matter
 abbrev pub tableOf : List ℕ → List ℕ → ℕ → Table
 tableOf ids lengths occupied = record { ids = ids; lengths = lengths; states = []; occupied = occupied }
 

@@ -36,7 +36,8 @@ ghost use Rattle.connection.specs.Decision.{openState, applied};
 // Bytes of a query.
 fn of_query(f: Frame, gathered: &mut [u8], bytes: &[u8], p: Position) -> Decision
     requires { ⌜ (f .gathered ≤ QUERY) × (length (now bytes) ≤ 65535) ⌝ }
-    ensures { λ r. ⌜ ((t : Table) (s : List ℕ) → applied r t (now (gathered .exit)) s ≡ ofQuery (openState t f (now (gathered .entry))) s (now (bytes .entry)) p) ⌝ }
+    ensures { λ r. ⌜ ((t : Table) (s : List ℕ) → applied r t (now (gathered .exit)) s
+        ≡ ofQuery (openState t f (now (gathered .entry))) s (now (bytes .entry)) p) ⌝ }
 {
     let n = f.gathered;
     copy_into(gathered, n, bytes);
@@ -55,7 +56,9 @@ fn of_query(f: Frame, gathered: &mut [u8], bytes: &[u8], p: Position) -> Decisio
 
 // PARAMS content for the request in slot i; its own area is lent.
 fn of_params(area: &mut [u8], r: Request, i: usize, f: Frame, bytes: &[u8], p: Position) -> Decision
-    ensures { λ x. ⌜ ((t : Table) (g s : List ℕ) → requestAt t i ≡ r → areaAt s i ≡ now (area .entry) → applied x t g (putArea s i (now (area .exit))) ≡ ofRequest (openState t f g) s Due.Params i (now (bytes .entry)) p) ⌝ }
+    ensures { λ x. ⌜ ((t : Table) (g s : List ℕ) → requestAt t i ≡ r → areaAt s i ≡ now (area .entry)
+        → applied x t g (putArea s i (now (area .exit)))
+        ≡ ofRequest (openState t f g) s Due.Params i (now (bytes .entry)) p) ⌝ }
 {
     let grown = grow(r, area, bytes);
     let gathered = f.gathered;
@@ -70,7 +73,8 @@ fn of_params(area: &mut [u8], r: Request, i: usize, f: Frame, bytes: &[u8], p: P
 
 // Content that is shown or skipped: only the frame changes.
 fn passed(f: Frame, p: Position, e: Event) -> Decision
-    ensures { λ x. ⌜ ((t : Table) (g s : List ℕ) → applied x t g s ≡ reads (openState t f g) s (frameWithin f p (f .gathered) (f .body)) (eventOf e)) ⌝ }
+    ensures { λ x. ⌜ ((t : Table) (g s : List ℕ) → applied x t g s
+        ≡ reads (openState t f g) s (frameWithin f p (f .gathered) (f .body)) (eventOf e)) ⌝ }
 {
     let gathered = f.gathered;
     let body = f.body;
@@ -87,8 +91,10 @@ pub fn feed(
     bytes: &[u8],
     p: Position,
 ) -> Decision
-    requires { ⌜ (length (now store) ≡ STORE) × (Aimed (f .target) t (f .gathered) (f .position .content)) × (length (now bytes) ≤ 65535) ⌝ }
-    ensures { λ r. ⌜ applied r t (now (gathered .exit)) (now (store .exit)) ≡ onTarget (f .target) (openState t f (now (gathered .entry))) (now (store .entry)) (now (bytes .entry)) p ⌝ }
+    requires { ⌜ (length (now store) ≡ STORE) × (Aimed (f .target) t (f .gathered) (f .position .content))
+        × (length (now bytes) ≤ 65535) ⌝ }
+    ensures { λ r. ⌜ applied r t (now (gathered .exit)) (now (store .exit))
+        ≡ onTarget (f .target) (openState t f (now (gathered .entry))) (now (store .entry)) (now (bytes .entry)) p ⌝ }
 {
     let target = f.target;
     match target {

@@ -1,4 +1,5 @@
-// The frame, which is the record being read; what a step decides where nothing else changes; and how a connection closes.
+// The frame, which is the record being read; what a step decides where nothing else changes; and how a connection
+// closes.
 use connection::decision::Change;
 use connection::decision::Decision;
 use connection::event::Close;
@@ -102,7 +103,8 @@ pub fn only_frame(f: Frame, e: Event) -> Decision
 
 // The connection closes.
 pub fn closing(why: Close) -> Decision
-    ensures { λ r. ⌜ ((t : Table) (fr : Frame) (g s : List ℕ) → applied r t g s ≡ closes (openState t fr g) s (closeNumber why)) ⌝ }
+    ensures { λ r. ⌜ ((t : Table) (fr : Frame) (g s : List ℕ) → applied r t g s
+        ≡ closes (openState t fr g) s (closeNumber why)) ⌝ }
 {
     Decision {
         change: Change::Close,

@@ -58,7 +58,8 @@ fn due_to(due: Due, i: usize) -> Target
 // Rules 5 to 10: the request in slot i decides; its own area is lent.
 fn on_active(area: &mut [u8], r: Request, i: usize, h: Header) -> Decision
     requires { ⌜ i < SLOTS ⌝ }
-    ensures { λ x. ⌜ ((t : Table) (fr : Frame) (g s : List ℕ) → requestAt t i ≡ r → areaAt s i ≡ now (area .entry) → applied x t g (putArea s i (now (area .exit))) ≡ onActive (openState t fr g) s h i) ⌝ }
+    ensures { λ x. ⌜ ((t : Table) (fr : Frame) (g s : List ℕ) → requestAt t i ≡ r → areaAt s i ≡ now (area .entry)
+        → applied x t g (putArea s i (now (area .exit))) ≡ onActive (openState t fr g) s h i) ⌝ }
 {
     let ruling = on_header(r, area, h.kind, h.content);
     let due = ruling.due;
@@ -76,7 +77,8 @@ fn on_active(area: &mut [u8], r: Request, i: usize, h: Header) -> Decision
 // Rules 1 to 10.
 pub fn judge(t: Table, store: &mut [u8], h: Header) -> Decision
     requires { ⌜ length (now store) ≡ STORE ⌝ }
-    ensures { λ r. ⌜ ((fr : Frame) (g : List ℕ) → applied r t g (now (store .exit)) ≡ judged (openState t fr g) (now (store .entry)) h) ⌝ }
+    ensures { λ r. ⌜ ((fr : Frame) (g : List ℕ) → applied r t g (now (store .exit))
+        ≡ judged (openState t fr g) (now (store .entry)) h) ⌝ }
 {
     if h.version != names::VERSION {
         return closing(Close::Version);

@@ -49,7 +49,8 @@ fn query_event(list: &[u8]) -> Event
 
 // A query that is whole.
 pub fn on_query(list: &[u8], f: Frame) -> Decision
-    ensures { λ r. ⌜ ((t : Table) (fr : Frame) (g s : List ℕ) → applied r t g s ≡ queried (openState t fr g) s (now (list .entry)) f) ⌝ }
+    ensures { λ r. ⌜ ((t : Table) (fr : Frame) (g s : List ℕ) → applied r t g s
+        ≡ queried (openState t fr g) s (now (list .entry)) f) ⌝ }
 {
     if well_formed(list) {
         let e = query_event(list);
@@ -60,7 +61,8 @@ pub fn on_query(list: &[u8], f: Frame) -> Decision
 
 // Rules 2 and 3: a header with id 0.
 pub fn on_management(h: Header) -> Decision
-    ensures { λ r. ⌜ ((t : Table) (fr : Frame) (g s : List ℕ) → applied r t g s ≡ onManagement (openState t fr g) s h) ⌝ }
+    ensures { λ r. ⌜ ((t : Table) (fr : Frame) (g s : List ℕ) → applied r t g s
+        ≡ onManagement (openState t fr g) s h) ⌝ }
 {
     if h.kind != names::GET_VALUES {
         return only_frame(

@@ -16,7 +16,8 @@ unfoldable pub showing : ℕ → ℕ → List ℕ → List Note
 showing id stream [] = []
 showing id stream (b ∷ bytes) = Note.Shown id stream b ∷ showing id stream bytes
 
--- An event over the bytes that it came with: none tells nothing, data of n bytes shows the first n of them one by one, any other is told as it is.
+-- An event over the bytes that it came with: none tells nothing, data of n bytes shows the first n of them one by
+-- one, any other is told as it is.
 abbrev pub notes : Event → List ℕ → List Note
 notes Event.None bytes = []
 notes (Event.Open id role keep) bytes = Note.Told (Event.Open id role keep) ∷ []
@@ -69,7 +70,8 @@ leftOf zero st store bytes = bytes
 leftOf (suc k) st store bytes =
     leftOf k (stepped st store bytes .state) (stepped st store bytes .store) (drop (stepped st store bytes .used) bytes)
 
--- what the bytes one at a time leave unread: all that comes when a step is refused, as it is after a byte that closed the connection
+-- what the bytes one at a time leave unread: all that comes when a step is refused, as it is after a byte that closed
+-- the connection
 unfoldable pub unread : State → List ℕ → List ℕ → List ℕ
 unread st store [] = []
 unread st store (b ∷ bytes) =

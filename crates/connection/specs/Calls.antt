@@ -22,7 +22,8 @@ use Rattle.connection.specs.Slots.{requestAt, areaAt, heldAt, putRequest
 use Rattle.connection.specs.Shape.{inShape}
 use Rattle.connection.specs.Step.{MAX-CONNS, MAX-REQS, MPXS-CONNS, closedConn}
 
--- Rows 2, 9, 1 and 3 of a call that is lent the store; rows 9, 1 and 3 of one that is not; rows 9 and 1 of the active number.
+-- Rows 2, 9, 1 and 3 of a call that is lent the store; rows 9, 1 and 3 of one that is not; rows 9 and 1 of the active
+-- number.
 unfoldable pub lentRefusal : Conn → List ℕ → ℕ → ℕ
 lentRefusal c store id =
     refusal
@@ -120,7 +121,8 @@ released c i =
       «open» = c .«open»;
     }
 
--- With KEEP_CONN the slot and its area are given back; without, the connection closes, all requests are freed and the store is zeroed.
+-- With KEEP_CONN the slot and its area are given back; without, the connection closes, all requests are freed and the
+-- store is zeroed.
 unfoldable pub finishes : Conn → List ℕ → ℕ → Bool → Of.Writing → Finished
 finishes c store i keep w =
     if w .refusal =? 0 then

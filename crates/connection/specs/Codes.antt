@@ -1,4 +1,4 @@
--- What each case of the code's enums is in the scope's numbers and values.
+-- What each case of the code's enums is in the rules' numbers and values.
 use Prim.Native.Nat.{ℕ}
 use Rattle.record.specs.Names.{RESPONDER, AUTHORIZER, FILTER, STDIN, STDOUT, STDERR, DATA, OVERLOADED, UNKNOWN-ROLE}
 use Rattle.connection.specs.declared.request.Role.{Role}

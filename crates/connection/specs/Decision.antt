@@ -1,4 +1,4 @@
--- What the code decides in a step (its `Moved`), read as what the rules leave.
+-- What the code decides in a step (its `Decision`), read as what the rules leave.
 use Prim.Native.Nat.{ℕ}
 use mathlib.Core.List.{List}
 use lib.ListN.{length}
@@ -28,7 +28,7 @@ storeAfter (Change.Put i r) store = store
 storeAfter (Change.Take i r) store = store
 storeAfter Change.Close store = zeros (length store)
 
--- what is left of a table, the gathered bytes and the store
+-- a decision applied to a table, the gathered bytes and the store
 abbrev pub applied : Decision → Table → List ℕ → List ℕ → Left
 applied m t gathered store =
     record {

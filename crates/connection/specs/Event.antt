@@ -1,8 +1,9 @@
--- Events in the scope's numbers and values.
+-- Events in the rules' numbers and values.
 use Prim.Native.Nat.{ℕ}
 use mathlib.Core.Bool.{Bool}
 
--- An event: the id of its request first; roles, end statuses, faults and closes by their numbers, streams by their record type.
+-- An event: the id of its request first; roles, end statuses, faults and closes by their numbers, streams by their
+-- record type.
 pub data Event : Type 0 where
   None : Event
   Open : ℕ → ℕ → Bool → Event

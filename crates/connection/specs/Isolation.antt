@@ -51,7 +51,8 @@ pub record Isolated (R : ℕ) (A B : WholeRun) : Type 0 where
   -- B had all of R's items, and ends open and between two records
   pub all-items : timelineOf B ≡ purge R (timelineOf A)
   pub ends-between : EndsBetweenRecords B
-  -- the same events of R, data byte by byte, and the same answers to R's calls, in one order, with R's request and area before and after each call
+  -- the same events of R, data byte by byte, and the same answers to R's calls, in one order, with R's request and
+  -- area before and after each call
   pub same-observed : observed R B ≡ observed R A
   -- the same request and area of R at the end
   pub same-request : requestOf R (ending B) ≡ requestOf R (ending A)

@@ -1,4 +1,5 @@
--- When the station says no: the table's numbers in their one order. A call names its own rows and takes the first that holds.
+-- When the station says no: the table's numbers in their one order. A call names its own rows and takes the first
+-- that holds.
 use Prim.Native.Nat.{ℕ}
 use mathlib.Core.Bool.{Bool, false}
 use mathlib.Core.List.{List, [], _∷_}

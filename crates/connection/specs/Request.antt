@@ -1,4 +1,5 @@
--- The rules for one request. They see the request's record and its own area, and nothing else: no slot, no other request.
+-- The rules for one request. They see the request's record and its own area, and nothing else: no slot, no other
+-- request.
 use Prim.Native.Nat.{ℕ, _+_}
 use mathlib.Core.Bool.{Bool, true, false}
 use mathlib.Core.List.{List}
@@ -16,6 +17,7 @@ use Rattle.connection.specs.declared.request.Due.{Due}
 use Rattle.connection.specs.Event.{Event}
 use Rattle.connection.specs.Sizes.{AREA}
 
+-- What a slot holds: a request, and the area that is its own.
 pub record Held : Type 0 where
   pub request : Request
   pub area : List ℕ
@@ -24,7 +26,7 @@ pub record Held : Type 0 where
 abbrev pub listOf : Held → List ℕ
 listOf h = take (h .request .length) (h .area)
 
--- ---- marks
+-- ---- the state of a request
 unfoldable pub withTurn : RequestState → Turn → RequestState
 withTurn m t =
     record { role = m .role; turn = t; life = m .life; keep = m .keep; «out_ended» = m .«out_ended»; «err_used» = m .«err_used»; «err_ended» = m .«err_ended» }
@@ -147,7 +149,8 @@ unfoldable pub onHeader : ℕ → ℕ → Held → Ruled
 onHeader kind n h = if isSpent (h .request .state .life) then skipped h else onLive kind n h
 
 -- ---- what content does to its request
--- PARAMS content goes into the area after the list, and the list grows by it. (In a state in shape it does not pass AREA.)
+-- PARAMS content goes into the area after the list, and the list grows by it. (In a state in shape it does not pass
+-- AREA.)
 unfoldable pub grown : Held → List ℕ → Held
 grown h bytes =
     if h .request .length + length bytes ≤? AREA then record {

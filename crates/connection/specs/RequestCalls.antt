@@ -88,7 +88,8 @@ abbrev pub isEnded : Output → RequestState → Bool
 isEnded Output.Stdout m = m .«out_ended»
 isEnded Output.Stderr m = m .«err_ended»
 
--- What a call that writes comes to: the number of its refusal, 0 for none; the bytes written; the request and the lent buffer afterwards.
+-- What a call that writes comes to: the number of its refusal, 0 for none; the bytes written; the request and the
+-- lent buffer afterwards.
 pub record Writing : Type 0 where
   pub refusal : ℕ
   pub written : ℕ
@@ -147,7 +148,8 @@ unfoldable pub endIn : Request → Output → List ℕ → Writing
 endIn r output buffer =
     writes (outputRefusal r output (endBytes r output) buffer) (endBytes r output) (endedOn r output) r buffer
 
--- ---- finish: an empty STDOUT record if STDOUT isn't ended, an empty STDERR record if STDERR was used and isn't ended, then END with status 0
+-- ---- finish: an empty STDOUT record if STDOUT isn't ended, an empty STDERR record if STDERR was used and isn't
+-- ended, then END with status 0
 unfoldable pub owesOut : RequestState → Bool
 owesOut m = not (m .«out_ended»)
 

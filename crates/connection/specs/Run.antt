@@ -27,7 +27,8 @@ pub data Operation : Type 0 where
   CallFor : ℕ → Argument → Operation
   CountActive : Operation
 
--- What is observed: what a step tells, data byte by byte; and a call of an id with its arguments, its answer, and the request of that id with its area before and after it.
+-- What is observed: what a step tells, data byte by byte; and a call of an id with its arguments, its answer, and the
+-- request of that id with its area before and after it.
 pub data Observed : Type 0 where
   Heard : Note → Observed
   Answered : ℕ → Argument → Answer → Option Held → Option Held → Observed
@@ -131,7 +132,8 @@ PiecesOk (StepOver piece ∷ os) = AllBytes piece × PiecesOk os
 PiecesOk (CallFor id a ∷ os) = PiecesOk os
 PiecesOk (CountActive ∷ os) = PiecesOk os
 
--- A whole run: what the gathered bytes and the store held before its start, and its operations. The store has its size, so the start is not refused; the other sizes are those of the code's types.
+-- A whole run: what the gathered bytes and the store held before its start, and its operations. The store has its
+-- size, so the start is not refused; the other sizes are those of the code's types.
 pub record WholeRun : Type 0 where
   pub gathered : List ℕ
   pub store : List ℕ

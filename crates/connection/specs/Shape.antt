@@ -40,7 +40,8 @@ positionFits p = (p .held ≤? 7) and ((p .content ≤? 65535) and (p .padding �
 abbrev pub dueFits : Table → ℕ → Bool
 dueFits t i = (i <? SLOTS) and taken i (t .occupied)
 
--- What the content is for, with the bytes gathered and those left: of a BEGIN body they make 8, for an id that is neither 0 nor active; of a query they do not
+-- What the content is for, with the bytes gathered and those left: of a BEGIN body they make 8, for an id that is
+-- neither 0 nor active; of a query they do not
 -- pass QUERY; PARAMS content does not pass AREA.
 abbrev pub targetFits : Target → Table → ℕ → ℕ → Bool
 targetFits Target.Skip t gathered left = true

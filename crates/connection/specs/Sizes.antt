@@ -1,11 +1,11 @@
 -- Sizes, each in one place. The code has the same names in src/sizes.rt.
 use Prim.Native.Nat.{ℕ, _*_}
 
--- requests that can be active at once
+-- requests that can be active at once (house rule)
 abbrev pub SLOTS : ℕ
 SLOTS = 16
 
--- bytes of the store that belong to one slot
+-- bytes of the store that belong to one slot, so the most that the parameters of a request can have (house rule)
 abbrev pub AREA : ℕ
 AREA = 2048
 

@@ -80,7 +80,7 @@ closedConn = record { table = noRequests; frame = noFrame; «open» = false }
 abbrev pub reads : State → List ℕ → Frame → Event → Left
 reads st store f e = record { conn = openWith (st .conn .table) f; gathered = st .gathered; store = store; event = e }
 
--- closing frees all requests and zeroes the store
+-- A close frees all requests and zeroes the store. (The closes 11 to 14 are house rules.)
 unfoldable pub closes : State → List ℕ → ℕ → Left
 closes st store n =
     record { conn = closedConn; gathered = st .gathered; store = zeros (length store); event = Event.Closed n }
@@ -116,12 +116,12 @@ names list name = isNamed (firstNamed list name)
 unfoldable pub queryOf : List ℕ → Event
 queryOf list = Event.Query (names list MAX-CONNS) (names list MAX-REQS) (names list MPXS-CONNS)
 
--- at its last byte: malformed pairs close the connection by 14
+-- At its last byte: malformed pairs close the connection by 14 (house rule).
 unfoldable pub queried : State → List ℕ → List ℕ → Frame → Left
 queried st store list f = if wellFormed list then reads st store f (queryOf list) else closes st store 14
 
 -- ---- the eighth header byte
--- Rules 2 and 3: id 0.
+-- Rules 2 and 3: id 0. A query that is too long closes the connection by 13 (house rule).
 unfoldable pub onManagement : State → List ℕ → Header → Left
 onManagement st store h =
     if h .kind =? GET-VALUES then
@@ -130,7 +130,7 @@ onManagement st store h =
     else reads st store (frameAfter h Target.Query) Event.None)
     else reads st store (frameAfter h Target.Skip) (Event.Unknown (h .kind))
 
--- Rule 4: the id is not active.
+-- Rule 4: the id is not active. A BEGIN_REQUEST that has not 8 bytes closes the connection by 12 (house rule).
 unfoldable pub onInactive : State → List ℕ → Header → Left
 onInactive st store h =
     if h .kind =? BEGIN-REQUEST then
@@ -151,7 +151,7 @@ rules st store h i r = putsBack st store i (r .held) (frameAfter h (dueTo (r .du
 unfoldable pub onActive : State → List ℕ → Header → ℕ → Left
 onActive st store h i = rules st store h i (onHeader (h .kind) (h .content) (heldAt (st .conn .table) store i))
 
--- Rules 1 to 10.
+-- Rules 1 to 10. A version other than 1 closes the connection by 11 (house rule).
 unfoldable pub judged : State → List ℕ → Header → Left
 judged st store h =
     if h .version =? VERSION then
@@ -160,7 +160,8 @@ judged st store h =
     else closes st store 11
 
 -- ---- content bytes; p is the position after them
--- A BEGIN body's eighth byte: an unknown role is refused by 3, else no free slot by 2; else the request is opened in the lowest-numbered free slot.
+-- A BEGIN body's eighth byte: an unknown role is refused by 3, else no free slot by 2 (house rule); else the request is
+-- opened in the lowest-numbered free slot. A refused opening never closes the connection (house rule).
 abbrev pub onRole {ℓ} : {A : Type ℓ} → ℕ → (Role → A) → A → A
 onRole n f other =
     if n =? RESPONDER then f Role.Responder
@@ -257,7 +258,8 @@ pub record Started : Type 0 where
   pub state : State
   pub store : List ℕ
 
--- An open connection with no requests, the store and the gathered bytes zeroed; refused by 2, a closed one with no requests.
+-- An open connection with no requests, the store and the gathered bytes zeroed; refused by 2, a closed one with no
+-- requests.
 unfoldable pub started : List ℕ → List ℕ → Started
 started gathered store =
     if length store =? STORE then record {

@@ -18,7 +18,8 @@ LONGEST = 27
 abbrev pub digit : ℕ → ℕ
 digit d = 48 + d
 
--- A number in decimal: the digits of its tenth, and after them its last. (The first argument bounds the number of digits.)
+-- A number in decimal: the digits of its tenth, and after them its last. (The first argument bounds the number of
+-- digits.)
 unfoldable pub decimalIn : ℕ → ℕ → List ℕ
 decimalIn zero n = []
 decimalIn (suc k) n = if n <? 10 then digit n ∷ [] else decimalIn k (n / 10) ++ (digit (n % 10) ∷ [])

@@ -15,7 +15,8 @@ ghost use Rattle.event_text.specs.Draft.{textOf};
 
 // Puts text into out at place `at`, if there is room for all of it.
 fn put_text(out: &mut [u8], at: usize, text: &[u8]) -> usize
-    ensures { λ r. ⌜ record { next = r; buffer = now (out .exit) } ≡ linePlaced (now (out .entry)) at (now (text .entry)) ⌝ }
+    ensures { λ r. ⌜ record { next = r; buffer = now (out .exit) }
+        ≡ linePlaced (now (out .entry)) at (now (text .entry)) ⌝ }
 {
     if out.len() < at {
         return at;
@@ -39,14 +40,16 @@ fn put_draft(out: &mut [u8], at: usize, d: Draft) -> usize
 // Writes the line of an event into out at place `at`, and answers the place after it.
 // Where there is not room for all of it, nothing is written and the answer is `at`.
 pub fn write_line(out: &mut [u8], at: usize, e: Event) -> usize
-    ensures { λ r. ⌜ record { next = r; buffer = now (out .exit) } ≡ linePlaced (now (out .entry)) at (eventLine (eventOf e)) ⌝ }
+    ensures { λ r. ⌜ record { next = r; buffer = now (out .exit) }
+        ≡ linePlaced (now (out .entry)) at (eventLine (eventOf e)) ⌝ }
 {
     put_draft(out, at, text::event_line(e))
 }
 
 // Writes the line of a data byte in the same way.
 pub fn write_byte_line(out: &mut [u8], at: usize, id: u16, stream: Stream, byte: u8) -> usize
-    ensures { λ r. ⌜ record { next = r; buffer = now (out .exit) } ≡ linePlaced (now (out .entry)) at (byteLine id (streamType stream) byte) ⌝ }
+    ensures { λ r. ⌜ record { next = r; buffer = now (out .exit) }
+        ≡ linePlaced (now (out .entry)) at (byteLine id (streamType stream) byte) ⌝ }
 {
     put_draft(out, at, text::byte_line(id, stream, byte))
 }

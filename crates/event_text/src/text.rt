@@ -23,8 +23,10 @@ ghost use mathlib.Core.List.{[], _∷_};
 ghost use Prim.Native.Nat.{_≤_};
 ghost use lib.ListN.{length};
 ghost use Rattle.connection.specs.Codes.{roleNumber, streamType, statusNumber, faultNumber, closeNumber, eventOf};
-ghost use Rattle.event_text.specs.Line.{LONGEST, decimal, flag, roleWord, streamWord, keptWord, line, eventLine, byteLine};
-ghost use Rattle.event_text.specs.Words.{openWord, readyWord, endWord, abortWord, refuseWord, faultWord, queryWord, unknownWord, closedWord};
+ghost use Rattle.event_text.specs.Line.{LONGEST, decimal, flag, roleWord, streamWord, keptWord, line};
+ghost use Rattle.event_text.specs.Line.{eventLine, byteLine};
+ghost use Rattle.event_text.specs.Words.{openWord, readyWord, endWord, abortWord, refuseWord, faultWord};
+ghost use Rattle.event_text.specs.Words.{queryWord, unknownWord, closedWord};
 ghost use Rattle.event_text.specs.Draft.{Says};
 
 // A line of a word and one number.

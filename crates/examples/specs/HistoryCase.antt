@@ -1,4 +1,5 @@
--- The history of a small timeline, computed: request 1 is opened, takes three bytes of PARAMS in a record with padding, and is aborted; what comes then is not added.
+-- The history of a small timeline, computed: request 1 is opened, takes three bytes of PARAMS in a record with
+-- padding, and is aborted; what comes then is not added.
 use mathlib.Core.Path.{_≡_, refl}
 use mathlib.Core.List.{List, [], _∷_, _++_}
 use Prim.Native.Nat.{ℕ}

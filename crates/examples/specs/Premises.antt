@@ -42,15 +42,18 @@ others =
     begin 2 ++ begin 3 ++ begin 4 ++ begin 5 ++ begin 6 ++ begin 7 ++ begin 8 ++ begin 9 ++ begin 10 ++ begin 11 ++ begin 12 ++ begin 13 ++ begin 14 ++ begin 15 ++ begin 16 ++ begin 17
 
 pub record Premises : Type 0 where
-  -- The whole run ends open. Here a record of 2 has the version 2 and closes the connection; alone, 1 would still be there.
+  -- The whole run ends open. Here a record of 2 has the version 2 and closes the connection; alone, 1 would still be
+  -- there.
   closed-by-another : leftOfOne (begin 1 ++ (StepOver (2 ∷ 1 ∷ 0 ∷ 2 ∷ 0 ∷ 8 ∷ 0 ∷ 0 ∷ []) ∷ [])) ≡ none
   not-alone : leftOfOne (begin 1) ≡ one 0 Turn.Params (zeros AREA)
-  -- It ends between two records. Here it ends in a header of 1, and so does the run of what is left: four bytes are held.
+  -- It ends between two records. Here it ends in a header of 1, and so does the run of what is left: four bytes are
+  -- held.
   cut-in-header : finalMemory fresh (StepOver (1 ∷ 1 ∷ 0 ∷ 1 ∷ []) ∷ []) .state .conn .frame .position .held ≡ 4
   -- 1 is not refused for want of a slot. Here sixteen others are active; alone, 1 would open.
   refused-for-others : seenOfOne (others ++ begin 1) ≡ Heard (Note.Told (Event.Refuse 1 OVERLOADED)) ∷ []
   opens-alone : seenOfOne (begin 1) ≡ opened-one ∷ []
-  -- The second run has all of 1's items, or is closed. Here it has only the header of the BEGIN record: nothing is told of 1 yet.
+  -- The second run has all of 1's items, or is closed. Here it has only the header of the BEGIN record: nothing is
+  -- told of 1 yet.
   stops-early : seenOfOne (header 1 1 8 ∷ []) ≡ []
 
 pub premises : Premises

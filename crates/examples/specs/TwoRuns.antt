@@ -49,7 +49,9 @@ buffer = zeros 40
 abbrev beginBody : List ℕ
 beginBody = 0 ∷ 1 ∷ 1 ∷ 0 ∷ 0 ∷ 0 ∷ 0 ∷ 0 ∷ []
 
--- A: 2 opens, 1 opens; 2 ends PARAMS; 1 gets a pair and ends PARAMS; a value of 1 is looked up and something said for 2; of three STDIN bytes of 1 two come after the finish of 2; something is said for 1, and 1 is finished within its record, of which the rest comes then; 1 is opened again.
+-- A: 2 opens, 1 opens; 2 ends PARAMS; 1 gets a pair and ends PARAMS; a value of 1 is looked up and something said for
+-- 2; of three STDIN bytes of 1 two come after the finish of 2; something is said for 1, and 1 is finished within its
+-- record, of which the rest comes then; 1 is opened again.
 abbrev pub both : List Operation
 both =
     StepOver (1 ∷ 1 ∷ 0 ∷ 2 ∷ 0 ∷ 8 ∷ 0 ∷ 0 ∷ [])
@@ -137,7 +139,8 @@ one n t used area =
 abbrev pairArea : List ℕ
 pairArea = 1 ∷ 1 ∷ 65 ∷ 66 ∷ zeros 2044
 
--- It opens and is ready with four bytes; the value of A is B; two of its STDIN bytes are shown; B goes out on STDERR; the finish ends both streams and writes the status 938; it opens again.
+-- It opens and is ready with four bytes; the value of A is B; two of its STDIN bytes are shown; B goes out on STDERR;
+-- the finish ends both streams and writes the status 938; it opens again.
 pub observed-of-one : observed 1 A
     ≡ Heard (Note.Told (Event.Open 1 1 true))
     ∷ Heard (Note.Told (Event.Ready 1 4))

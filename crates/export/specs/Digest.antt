@@ -49,7 +49,8 @@ pub record Fed : Type 0 where
   pub store : List ℕ
   pub sum : ℕ
 
--- Step after step from a place on, to the input's end or to a step that reads nothing. (The first argument bounds the number of steps.)
+-- Step after step from a place on, to the input's end or to a step that reads nothing. (The first argument bounds the
+-- number of steps.)
 unfoldable pub fedIn : ℕ → State → List ℕ → List ℕ → ℕ → ℕ → ℕ → ℕ → Fed
 fedIn zero st store input piece at end sum = record { state = st; store = store; sum = sum }
 fedIn (suc k) st store input piece at end sum =

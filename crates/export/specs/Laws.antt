@@ -48,7 +48,8 @@ at-end st store input piece at end sum h =
     let n : length input - at ≡ 0 = omega arith in
     rw n
 
--- A step over what is left of a piece: it stays within the input; if it read some, the rest from here is the rest from there; if it read nothing, all ends here.
+-- A step over what is left of a piece: it stays within the input; if it read some, the rest from here is the rest
+-- from there; if it read nothing, all ends here.
 pub record LoopTurn (st : State) (store input : List ℕ) (piece at end sum next : ℕ) (s : Stepped) : Type 0 where
   pub inside : at + s .used ≤ next
   pub onward : (s .used ≡ 0 → ⊥) → restOf st store input piece at end sum ≡ restOf (s .state) (s .store) input piece (at + s .used) next (mixed sum (s .refusal) (s .event))

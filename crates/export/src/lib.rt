@@ -17,7 +17,8 @@ ghost use Prim.Native.Nat.{_≤_, _<_};
 ghost use Rattle.call_step.specs.Answer.{toldNumber, toldEvent};
 ghost use Rattle.connection.specs.Step.{stateOf};
 ghost use Rattle.connection.specs.Codes.{eventOf};
-ghost use Rattle.export.specs.Digest.{flagNumber, packed, weight, toldWeight, mixed, nextEnd, fedBy, fedAll, digestBy, digest};
+ghost use Rattle.export.specs.Digest.{flagNumber, packed, weight, toldWeight, mixed, nextEnd, fedBy, fedAll};
+ghost use Rattle.export.specs.Digest.{digestBy, digest};
 
 fn flag(b: bool) -> u8
     ensures { λ r. ⌜ r ≡ flagNumber b ⌝ }
@@ -111,7 +112,8 @@ fn feed_all(
     input: &[u8],
     piece: usize,
 ) -> Fed
-    ensures { λ r. ⌜ fedBy r (now (gathered .exit)) (now (store .exit)) ≡ fedAll (stateOf c (now (gathered .entry))) (now (store .entry)) (now (input .entry)) piece ⌝ }
+    ensures { λ r. ⌜ fedBy r (now (gathered .exit)) (now (store .exit))
+        ≡ fedAll (stateOf c (now (gathered .entry))) (now (store .entry)) (now (input .entry)) piece ⌝ }
 {
     let mut conn = c;
     let mut sum: u64 = 0;

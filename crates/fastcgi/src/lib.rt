@@ -29,7 +29,8 @@ pub use call_value::pair_at;
 pub use call_value::value;
 pub use call_value::value_source;
 
-// The pairs in order: a walk, the pair at its place, the walk past that pair, the walk at another place. `pair_from` reads
+// The pairs in order: a walk, the pair at its place, the walk past that pair, the walk at another place. `pair_from`
+// reads
 // on from a place without holding a walk.
 pub use call_walk::moved_to;
 pub use call_walk::next_pair;

@@ -221,6 +221,7 @@ module _ (M : Machine) (U : Bulk M) where
   pub run-is-timeline : (s : Connection M) (os : List (Operation M)) → operated M U s os ≡ ran M s (timeline M U s os)
   run-is-timeline s os = ap₂ {C = Ran M} (λ a b. record { state = a; seen = b }) (run-state s os) (run-observations s os)
 
-  -- Two runs that use the same bytes and make the same calls in the same order end in the same state and show the same, however the bytes were cut.
+  -- Two runs that use the same bytes and make the same calls in the same order end in the same state and show the
+  -- same, however the bytes were cut.
   pub cut-anyhow : (s : Connection M) (os ps : List (Operation M)) → timeline M U s os ≡ timeline M U s ps → operated M U s os ≡ operated M U s ps
   cut-anyhow s os ps e = run-is-timeline s os ∙ ap (ran M s) e ∙ sym (run-is-timeline s ps)

@@ -31,8 +31,15 @@ module _ (M : Machine) (R : ℕ) where
   both-between (InOwnRecord x) d = cc
   both-between (InOthersRecord x) d = refl
 
-  -- The item theorem. Take any timeline t, bytes and calls of many requests in any order, and what purging leaves of it: R's records and R's calls. Run both from a fresh start with the same number of slots. Then the run of what is left ends open and between two records; it shows the same events of R and gives R's calls the same answers, in the same order and with the same request before and after each; and the request of R at the end is the same.
-  -- Why each premise. R is not 0: records of id 0 are management records and belong to no request. The whole run ends open: a close by others ends R too. It ends between two records: the bytes of a header that is cut off belong to no id yet, and what is said of the end of the second run is said of a whole number of records. R is nowhere refused for want of a slot: that others hold all slots is the one thing of them that R can notice. There is a slot at all (suc n), as R needs one.
+  -- The item theorem. Take any timeline t, bytes and calls of many requests in any order, and what purging leaves of
+  -- it: R's records and R's calls. Run both from a fresh start with the same number of slots. Then the run of what is
+  -- left ends open and between two records; it shows the same events of R and gives R's calls the same answers, in
+  -- the same order and with the same request before and after each; and the request of R at the end is the same.
+  -- Why each premise. R is not 0: records of id 0 are management records and belong to no request. The whole run ends
+  -- open: a close by others ends R too. It ends between two records: the bytes of a header that is cut off belong to
+  -- no id yet, and what is said of the end of the second run is said of a whole number of records. R is nowhere
+  -- refused for want of a slot: that others hold all slots is the one thing of them that R can notice. There is a
+  -- slot at all (suc n), as R needs one.
   pub isolation : (n : ℕ) (t : List (Item (M .Argument))) → 0 < R → BetweenRecords M (ranFresh M n t .state) → NeverOverloaded M R (ranFresh M n t)
       → Isolated (ranFresh M n t) (ranFresh M n (purge R t))
   isolation n t z a r =

@@ -11,7 +11,9 @@ use Rattle.machine.specs.Pieces.{Operation, operatedFresh, timelineFresh
 use Rattle.machine.specs.Cutting.{run-is-timeline}
 
 module _ (M : Machine) (U : Bulk M) (R : ℕ) where
-  -- A is any run from a fresh start that ends open and between two records and never refuses R for want of a slot. B is any run for R's items: its timeline begins what purging leaves of A's, and is all of that, or B is closed at its end. How either cuts its bytes into pieces does not matter.
+  -- A is any run from a fresh start that ends open and between two records and never refuses R for want of a slot. B
+  -- is any run for R's items: its timeline begins what purging leaves of A's, and is all of that, or B is closed at
+  -- its end. How either cuts its bytes into pieces does not matter.
   pub isolation-of-runs : (n : ℕ) (os ps : List (Operation M)) → 0 < R
       → BetweenRecords M (operatedFresh M U n os .state) → NeverOverloaded M R (operatedFresh M U n os)
       → RunsFor M R (timelineFresh M U n os) (timelineFresh M U n ps) (operatedFresh M U n ps .state)

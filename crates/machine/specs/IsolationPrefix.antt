@@ -11,7 +11,8 @@ use Rattle.machine.specs.Simulation.{NeverOverloaded}
 use Rattle.machine.specs.Isolation.{BetweenRecords, Isolated, isolation}
 
 module _ (M : Machine) (R : ℕ) where
-  -- A run is for R's items of t: its timeline u begins what purging leaves of t, and is all of that, or the run is closed at its end, s.
+  -- A run is for R's items of t: its timeline u begins what purging leaves of t, and is all of that, or the run is
+  -- closed at its end, s.
   pub record RunsFor (t u : List (Item (M .Argument))) (s : Connection M) : Type 0 where
     pub rest : List (Item (M .Argument))
     pub prefix : u ++ rest ≡ purge R t
@@ -36,7 +37,8 @@ module _ (M : Machine) (R : ℕ) where
     pub all-items : u ≡ purge R t
     pub isolated : Isolated M R A B
 
-  -- The theorem for prefixes, with the premises of the item theorem on the whole run. So R's run cannot be stopped by a close where the whole run was not.
+  -- The theorem for prefixes, with the premises of the item theorem on the whole run. So R's run cannot be stopped by
+  -- a close where the whole run was not.
   pub isolation-of-prefix : (n : ℕ) (t u : List (Item (M .Argument))) → 0 < R → BetweenRecords M (ranFresh M n t .state) → NeverOverloaded M R (ranFresh M n t)
       → RunsFor t u (ranFresh M n u .state)
       → AllIsolated t u (ranFresh M n t) (ranFresh M n u)

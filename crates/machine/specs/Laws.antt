@@ -1,5 +1,9 @@
--- What a machine of one request has to show. Isolation asks nothing of it. `Bulk` is asked for cutting: content at once is content byte by byte. `Laws` is asked for shape: what a request decides keeps it in shape.
--- What a change of one request has to show again. A new field: what RequestOk says of it, in header-ok, byte-ok, begin-ok and call-ok, and same-request if content changes it. A new fault: header-ok where a header gives it; byte-ok and both laws of Bulk where content does. A new call: call-ok. A new stream: what StreamOk says of it, in header-ok and byte-ok, and both laws of Bulk. Nothing else of this crate is touched by any of them.
+-- What a machine of one request has to show. Isolation asks nothing of it. `Bulk` is asked for cutting: content at
+-- once is content byte by byte. `Laws` is asked for shape: what a request decides keeps it in shape.
+-- What a change of one request has to show again. A new field: what RequestOk says of it, in header-ok, byte-ok,
+-- begin-ok and call-ok, and same-request if content changes it. A new fault: header-ok where a header gives it;
+-- byte-ok and both laws of Bulk where content does. A new call: call-ok. A new stream: what StreamOk says of it, in
+-- header-ok and byte-ok, and both laws of Bulk. Nothing else of this crate is touched by any of them.
 use mathlib.Core.Path.{_≡_}
 use mathlib.Core.List.{List, [], _∷_, _++_}
 use mathlib.Core.Option.{Option, none, some}

@@ -1,4 +1,5 @@
--- What is observed of R in any run is a life of its machine: headers, bytes and calls that the machine decides on, one after another.
+-- What is observed of R in any run is a life of its machine: headers, bytes and calls that the machine decides on,
+-- one after another.
 use mathlib.Core.Path.{_≡_, refl, ap, _∙_}
 use mathlib.Core.List.{List, _++_}
 use mathlib.Core.Option.{Option, none, some}
@@ -35,7 +36,8 @@ module _ (M : Machine) (R : ℕ) where
   life-observed LifeEnds = refl
   life-observed (LifeGoesOn {o = o} {os = os} x h) = step-observed os x ∙ ap (λ l. asList M o ++ l) (life-observed h)
 
-  -- In a run from a fresh start that ends open and never refuses R for want of a slot, what is observed of R is a life that ends with R as it stands.
+  -- In a run from a fresh start that ends open and never refuses R for want of a slot, what is observed of R is a
+  -- life that ends with R as it stands.
   pub life-of : (n : ℕ) (t : List (Item (M .Argument))) → 0 < R → EndsOpen M R (ranFresh M n t) → NeverOverloaded M R (ranFresh M n t)
       → Lifetime M R none (observed M R (ranFresh M n t .seen)) (requestIn M R (ranFresh M n t .state))
   life-of n t z o r =

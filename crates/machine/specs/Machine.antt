@@ -1,4 +1,5 @@
--- A connection over any machine of one request: it finds the request of a record or a call by its id, lets that request decide, and puts it back. Definitions only.
+-- A connection over any machine of one request: it finds the request of a record or a call by its id, lets that
+-- request decide, and puts it back. Definitions only.
 use mathlib.Core.List.{List, [], _∷_, _++_}
 use mathlib.Core.Option.{Option, none, some}
 use mathlib.Core.Bool.{Bool, true, false}
@@ -57,7 +58,8 @@ pub record Machine : Type 1 where
   -- a whole BEGIN body for an id, and the event where no slot is free for it
   pub onBegin : ℕ → List ℕ → BeginOutcome Leftover Request Event
   pub overloaded : Event
-  -- a header of an id that is not active, a header of id 0 (type and content length), a whole query (none: it is malformed)
+  -- a header of an id that is not active, a header of id 0 (type and content length), a whole query (none: it is
+  -- malformed)
   pub onInactive : ℕ → ℕ → InactiveOutcome
   pub onManagement : ℕ → ℕ → ManagementOutcome Notice
   pub onQuery : List ℕ → Option Notice
@@ -70,7 +72,8 @@ module _ (M : Machine) where
   open Machine M using (Leftover, clean, Request, Stream, Event, Notice, Argument, Answer, onHeader, onByte, onBegin, overloaded, onInactive, onManagement, onQuery, onCall, whenInactive, whenClosed)
 
   -- ---- states
-  -- What the content of a record goes to: nobody, the BEGIN body of an id or a query (with the bytes gathered), or a stream of the request in a slot.
+  -- What the content of a record goes to: nobody, the BEGIN body of an id or a query (with the bytes gathered), or a
+  -- stream of the request in a slot.
   pub data Target : Type 0 where
     Skip : Target
     ToBegin : ℕ → List ℕ → Target
@@ -96,7 +99,8 @@ module _ (M : Machine) where
   fresh n = Open (replicate n (Vacant clean)) (AtHeader [])
 
   -- ---- observations
-  -- What is observed: an event of a request, one of a management record, a close with its number, the slots that the active number is counted from (none: closed), and the answer of a call with the request before and after it.
+  -- What is observed: an event of a request, one of a management record, a close with its number, the slots that the
+  -- active number is counted from (none: closed), and the answer of a call with the request before and after it.
   pub data Observation : Type 0 where
     RequestEvent : ℕ → Event → Observation
     NoticeEvent : Notice → Observation
@@ -113,7 +117,8 @@ module _ (M : Machine) where
   eventFrom id none = none
   eventFrom id (some e) = some (RequestEvent id e)
 
-  -- Past a header or a byte, with so much left of the record. With its last content byte a record's target is forgotten, with its last byte the record.
+  -- Past a header or a byte, with so much left of the record. With its last content byte a record's target is
+  -- forgotten, with its last byte the record.
   unfoldable pub withLeft : Target → ℕ → ℕ → Reading
   withLeft s zero zero = AtHeader []
   withLeft s zero (suc p) = PastHeader Skip zero (suc p)

@@ -1,4 +1,5 @@
--- Progress: a piece is used up in at most as many steps as it has bytes, while the connection is open. So any cutting of a timeline into pieces can be run.
+-- Progress: a piece is used up in at most as many steps as it has bytes, while the connection is open. So any cutting
+-- of a timeline into pieces can be run.
 use mathlib.Core.Path.{_≡_, refl, ap, ap₂, sym, _∙_}
 use mathlib.Core.List.{List, [], _∷_, _++_, append-assoc}
 use Prim.Native.Nat.{ℕ, zero, suc, _≤_, _<_}
@@ -111,7 +112,8 @@ module _ (M : Machine) (U : Bulk M) (L : Laws M) where
   open-behind : (s : Connection M) (t u : List (Item (M .Argument))) → (stateAfter M s (t ++ u) ≡ Closed → ⊥) → stateAfter M (stateAfter M s t) u ≡ Closed → ⊥
   open-behind s t u a e = a (state-append M s t u ∙ e)
 
-  -- Any bytes and calls, cut into pieces in any way, can be run: the steps use all of them, in order, if they leave the connection open.
+  -- Any bytes and calls, cut into pieces in any way, can be run: the steps use all of them, in order, if they leave
+  -- the connection open.
   pub all-stepped : (s : Connection M) (os : List (Operation M)) → WellShaped M L s → ItemsOk M (itemsOf M os) → (stateAfter M s (itemsOf M os) ≡ Closed → ⊥)
       → timeline M U s (allStepped s os) ≡ itemsOf M os
   unfolding allStepped itemsOf timeline stateAfter

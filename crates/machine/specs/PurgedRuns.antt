@@ -1,4 +1,5 @@
--- A run of R's items exists, in every cutting of their bytes into pieces: what isolation says of such runs is said of something.
+-- A run of R's items exists, in every cutting of their bytes into pieces: what isolation says of such runs is said of
+-- something.
 use mathlib.Core.Path.{_≡_, refl, _∙_, subst}
 use mathlib.Core.List.{List, [], _∷_, append-nil}
 use mathlib.Core.Bool.{Bool, true, false}
@@ -30,7 +31,8 @@ module _ (M : Machine) (R : ℕ) where
   items-purged m (ItemsMore {x = CallItem c} p h) = items-kept (isOwnCall R c) (CallItem c) _ p (items-purged m h)
 
 module _ (M : Machine) (U : Bulk M) (L : Laws M) (R : ℕ) where
-  -- Cut what purging leaves of t into pieces in any way, os, and step over each piece until it is used up: this run has all of R's items. The premises on t are those of isolation.
+  -- Cut what purging leaves of t into pieces in any way, os, and step over each piece until it is used up: this run
+  -- has all of R's items. The premises on t are those of isolation.
   pub purged-runs : (n : ℕ) (t : List (Item (M .Argument))) (os : List (Operation M)) → L .slotCount ≡ suc n → ItemsOk M t → 0 < R
       → BetweenRecords M (ranFresh M n t .state) → NeverOverloaded M R (ranFresh M n t) → itemsOf M os ≡ purge R t
       → RunsFor M R t (timelineFresh M U n (allStepped M U L (fresh M (suc n)) os)) (operatedFresh M U n (allStepped M U L (fresh M (suc n)) os) .state)

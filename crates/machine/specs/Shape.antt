@@ -45,7 +45,8 @@ module _ (M : Machine) (L : Laws M) where
     pub once : (i j id : ℕ) (r q : Request) → slotAt clean T i ≡ HeldBy id r → slotAt clean T j ≡ HeldBy id q → i ≡ j
 
   -- ---- where a reader stands
-  -- A target with c content bytes left: a BEGIN body becomes eight bytes, for an id that is not 0 and not active; a query stays within its limit; a stream is of a slot that is held, and its request may take so much.
+  -- A target with c content bytes left: a BEGIN body becomes eight bytes, for an id that is not 0 and not active; a
+  -- query stays within its limit; a stream is of a slot that is held, and its request may take so much.
   abbrev pub TargetOk : Slots M → Target M → ℕ → Type 0
   TargetOk T Skip c = Unit {0}
   TargetOk T (ToBegin id g) c = (length g + c ≡ 8) × (0 < id) × IsAbsent id T

@@ -1,4 +1,5 @@
--- How two runs go together: the whole run, with all requests, and the purged run, which has R alone. What holds of their states after each item.
+-- How two runs go together: the whole run, with all requests, and the purged run, which has R alone. What holds of
+-- their states after each item.
 use mathlib.Core.Path.{_≡_, refl}
 use mathlib.Core.List.{List, [], _∷_, _++_}
 use mathlib.Core.Option.{Option, none, some}
@@ -25,7 +26,8 @@ module _ (M : Machine) (R : ℕ) where
   abbrev pub aloneSlots : ℕ → Option Request → Slots M
   aloneSlots n v = aloneSlot v ∷ replicate n (Vacant clean)
 
-  -- Where content goes in a record of R: to nobody in both runs, to a BEGIN body of R in both while R is not active, or to the same stream of R, in its slot there and in slot 0 here.
+  -- Where content goes in a record of R: to nobody in both runs, to a BEGIN body of R in both while R is not active,
+  -- or to the same stream of R, in its slot there and in slot 0 here.
   pub data SameTargets (T : Slots M) : Option Request → Target M → Target M → Type 0 where
     SameSkip : {v : Option Request} → SameTargets T v Skip Skip
     SameBegin : {g : List ℕ} → SameTargets T none (ToBegin R g) (ToBegin R g)
@@ -38,7 +40,9 @@ module _ (M : Machine) (R : ℕ) where
     OthersQuery : {g : List ℕ} → OthersTarget T (ToQuery g)
     OthersSlot : {i : ℕ} {k : Stream} → OfOthers clean R (slotAt clean T i) → OthersTarget T (ToSlot i k)
 
-  -- Where the two runs read, with l the bytes of the whole run that still come: both in the same header if it is R's, and the purged run between records if it is not; both as far in a record of R; the purged run between records while the whole run is in a record of others.
+  -- Where the two runs read, with l the bytes of the whole run that still come: both in the same header if it is R's,
+  -- and the purged run between records if it is not; both as far in a record of R; the purged run between records
+  -- while the whole run is in a record of others.
   pub data Readings (T : Slots M) (l : List ℕ) (v : Option Request) : Scan → Reading M → Reading M → Type 0 where
     BothInHeader : {h : List ℕ} (k : Bool) → eqb (headerId (h ++ l)) R ≡ k → Readings T l v (ScanHeader h) (AtHeader h) (AtHeader (if k then h else []))
     InOwnRecord : {s s′ : Target M} {c p : ℕ} → SameTargets T v s s′ → Readings T l v (ScanRest true c p) (PastHeader s c p) (PastHeader s′ c p)
@@ -57,7 +61,8 @@ module _ (M : Machine) (R : ℕ) where
     CallLeaves : {r : Request} {n : Answer} (a : Argument) → onCall a r ≡ Leaves n → LifeStep (some r) (some (CallAnswer R a n (some r) none)) none
 
   -- ---- one item in both runs
-  -- The effects A in the whole run and B in the purged run: the states still go together, and the same of R is observed. v₀ is R before the item, m where the whole run stands after it.
+  -- The effects A in the whole run and B in the purged run: the states still go together, and the same of R is
+  -- observed. v₀ is R before the item, m where the whole run stands after it.
   pub record StepTogether (v₀ : Option Request) (n : ℕ) (l : List ℕ) (m : Scan) (A B : Effect M) : Type 0 where
     pub slots : Slots M
     pub reading : Reading M

@@ -1,4 +1,5 @@
--- The slots of a connection: where an id stands, the lowest free slot, and what a write to one slot does to the request of one id.
+-- The slots of a connection: where an id stands, the lowest free slot, and what a write to one slot does to the
+-- request of one id.
 use mathlib.Core.Path.{_≡_, refl, ap, sym, _∙_}
 use mathlib.Core.List.{List, [], _∷_}
 use mathlib.Core.Option.{Option, none, some}

@@ -1,4 +1,5 @@
--- Timelines: the bytes that the steps of a run used and the calls that it made, in order; and what purging (striking out) leaves of one. Definitions only. They know no connection: a call is an id and an argument of any type.
+-- Timelines: the bytes that the steps of a run used and the calls that it made, in order; and what purging (striking
+-- out) leaves of one. Definitions only. They know no connection: a call is an id and an argument of any type.
 use mathlib.Core.List.{List, [], _∷_, _++_}
 use mathlib.Core.Bool.{Bool, true, false}
 use Prim.Native.Nat.{ℕ, zero, suc}
@@ -50,7 +51,8 @@ unfoldable pub headerPadding : List ℕ → ℕ
 headerPadding h = headerOf h .padding
 
 -- ---- purging: of the bytes those of R's records stay, of the calls those that name R
--- Where the next byte stands: in a header, with the bytes of it that are in; or past a header, with whether the record is R's and its content and padding left.
+-- Where the next byte stands: in a header, with the bytes of it that are in; or past a header, with whether the
+-- record is R's and its content and padding left.
 pub data Scan : Type 0 where
   ScanHeader : List ℕ → Scan
   ScanRest : Bool → ℕ → ℕ → Scan
@@ -73,7 +75,8 @@ scanNext R (ScanRest k (suc c) p) b = scanLeft k c p
 scanNext R (ScanRest k zero (suc p)) b = scanLeft k zero p
 scanNext R (ScanRest k zero zero) b = ScanHeader []
 
--- Is the first of the bytes that still come one of R's record? A byte of a header belongs to the record that it becomes part of: its id is read from the bytes that are in and those that still come.
+-- Is the first of the bytes that still come one of R's record? A byte of a header belongs to the record that it
+-- becomes part of: its id is read from the bytes that are in and those that still come.
 unfoldable pub isOwn : ℕ → Scan → List ℕ → Bool
 isOwn R (ScanHeader h) l = headerId (h ++ l) =? R
 isOwn R (ScanRest k c p) l = k

@@ -17,7 +17,8 @@ use Rattle.connection.specs.Step.{onInactive, onActive, judged, opens, begun, o
 use Rattle.connection.specs.Bytewise.{Note, showing}
 use Rattle.meaning.specs.Meaning.{contentMeans, headerMeans, restMeans, recordsMean, means}
 
--- BEGIN_REQUEST of a responder with KEEP_CONN, its content of eight bytes and two of padding; the end of PARAMS; two bytes of STDIN and one of padding; and a
+-- BEGIN_REQUEST of a responder with KEEP_CONN, its content of eight bytes and two of padding; the end of PARAMS; two
+-- bytes of STDIN and one of padding; and a
 -- record of STDIN that is cut after the first of its three bytes
 abbrev pub some : List ℕ
 some =

@@ -1,4 +1,5 @@
--- What bytes mean, record by record: the records of their split, each header judged and its content given at once to what it is for. Here is no phase and no step.
+-- What bytes mean, record by record: the records of their split, each header judged and its content given at once to
+-- what it is for. Here is no phase and no step.
 use Prim.Native.Nat.{ℕ, _-_}
 use mathlib.Core.List.{List, [], _∷_}
 use lib.ListN.{length, take, drop}
@@ -33,7 +34,8 @@ contentMeans content padding x st store =
 abbrev pub withPadding : Header → ℕ → Header
 withPadding h padding = record { version = h .version; kind = h .kind; id = h .id; content = h .content; padding = padding }
 
--- A header is judged, and then comes its content, or the part of it that there is; so much of content and padding is yet to come.
+-- A header is judged, and then comes its content, or the part of it that there is; so much of content and padding is
+-- yet to come.
 unfoldable pub headerMeans : State → List ℕ → Header → List ℕ → ℕ → ℕ → Run
 headerMeans st store h x content padding = ran (judged st store (withPadding h padding)) [] then-run contentMeans content padding x
 
@@ -44,7 +46,8 @@ headerFor r = record { version = r .version; kind = r .kind; id = r .id; content
 abbrev pub recordMeans : State → List ℕ → Record → Run
 recordMeans st store r = headerMeans st store (headerFor r) (r .content) 0 0
 
--- The cut rest: a header that is not whole is held; a header that is whole is judged, and then comes what there is of its content.
+-- The cut rest: a header that is not whole is held; a header that is whole is judged, and then comes what there is of
+-- its content.
 unfoldable pub restMeans : State → List ℕ → List ℕ → Run
 restMeans st store b =
     if length b <? HEADER-LEN then

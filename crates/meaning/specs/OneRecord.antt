@@ -1,4 +1,5 @@
--- One record, from a state between two records: its header is judged, its content is given at once to what it is for, its padding is silent.
+-- One record, from a state between two records: its header is judged, its content is given at once to what it is for,
+-- its padding is silent.
 use Prim.Native.Nat.{ℕ, suc, _-_, _≤_, _<_}
 use mathlib.Core.Path.{_≡_, refl, sym, ap, _∙_, subst}
 use mathlib.Core.Bool.{true, false}

@@ -1,4 +1,5 @@
--- Where the rules lead: a header and its content leave the connection closed, or open with a frame that the rules do not choose.
+-- Where the rules lead: a header and its content leave the connection closed, or open with a frame that the rules do
+-- not choose.
 use Prim.Native.Nat.{ℕ}
 use mathlib.Core.Bool.{Bool, true, false}
 use mathlib.Core.List.{List, []}

@@ -151,7 +151,8 @@ front-read st store b k all t =
     ∙ ap (λ (n : ℕ). headerMeans st store (record { version = headerOf b .version; kind = headerOf b .kind; id = headerOf b .id; content = n; padding = p }) x 0 0) (sym hx)
 
 -- ---- all of the bytes
--- Where a whole record left the connection open it stands between two records, and what holds from there holds; a closed one stays as it is.
+-- Where a whole record left the connection open it stands between two records, and what holds from there holds; a
+-- closed one stays as it is.
 behind-front : (st : State) (store b rest : List ℕ) (s : Split) → Between st store → AllBytes b → wholeFront b ≡ true
     → ((st′ : State) (store′ : List ℕ) → Between st′ store′ → byByte st′ store′ rest ≡ recordsMean (s .records) (s .rest) st′ store′)
     → recordMeans st store (front b) then-run reading rest ≡ recordMeans st store (front b) then-run recordsMean (s .records) (s .rest)
@@ -192,7 +193,8 @@ byte-by-byte-means =
     ∙ sym (records-next (front b) (s .records) (s .rest) st store (k .is-open))
     ∙ ap (λ (s : Split). recordsMean (s .records) (s .rest) st store) (sym (split-whole b t)))
 
--- Fed in any pieces, from a state between two records, bytes come to what they mean: the same state, the same store, the same notes.
+-- Fed in any pieces, from a state between two records, bytes come to what they mean: the same state, the same store,
+-- the same notes.
 pub any-cutting-means : (pieces : List (List ℕ)) (st : State) (store : List ℕ) → Between st store → AllBytes (joined pieces)
     → fedPieces st store pieces ≡ means st store (joined pieces)
 any-cutting-means pieces st store k all = pieces-by-byte pieces st store (k .sizes) ∙ byte-by-byte-means (joined pieces) st store k all

@@ -1,4 +1,5 @@
--- What holds of the pairs of a list. The bound of the definition is seen in `enough` only, and in the proof of `pairs-step`.
+-- What holds of the pairs of a list. The bound of the definition is seen in `enough` only, and in the proof of
+-- `pairs-step`.
 use mathlib.Core.Path.{_≡_, refl, sym, ap, _∙_, subst}
 use Prim.Native.Nat.{ℕ, zero, suc, _+_, _-_, _≤_, _<_}
 use native.Mathlib.Omega.{arith}
@@ -76,7 +77,8 @@ pub number-next : (s : List ℕ) (k at : ℕ) (p : Pair) (next : ℕ) → pairAt
 unfolding numberIn
 number-next s k at p next e = rw (pairs-next s at p next e)
 
--- what holds of no pairs, at the end or before a malformed one, and of a pair put in front of those after it, holds from any cursor
+-- what holds of no pairs, at the end or before a malformed one, and of a pair put in front of those after it, holds
+-- from any cursor
 pub pairs-induction : (s : List ℕ) (P : ℕ → Pairs → Type 0)
     → ((at : ℕ) → length s ≤ at → P at (ended Ending.End))
     → ((at place : ℕ) → pairAt s at ≡ Read.Malformed place → P at (ended (Ending.Malformed place)))

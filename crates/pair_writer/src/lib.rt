@@ -24,7 +24,8 @@ fn length_size(n: usize) -> usize
 // Writes a length at a place, and answers the place after it.
 fn put_length(out: &mut [u8], at: usize, n: usize) -> usize
     requires { ⌜ (n ≤ 65535) × (at + length (lengthBytes n) ≤ length (now out)) ⌝ }
-    ensures { λ r. ⌜ (r ≡ at + length (lengthBytes n)) × (now (out .exit) ≡ putAt (now (out .entry)) at (lengthBytes n)) ⌝ }
+    ensures { λ r. ⌜ (r ≡ at + length (lengthBytes n))
+        × (now (out .exit) ≡ putAt (now (out .entry)) at (lengthBytes n)) ⌝ }
 {
     if n < 128 {
         let one = [n as u8];
@@ -44,7 +45,8 @@ fn put_length(out: &mut [u8], at: usize, n: usize) -> usize
 
 // Writes a pair at the start of out, each length in its shorter form. What lies after it stays.
 pub fn write_pair(out: &mut [u8], name: &[u8], value: &[u8]) -> PairWrote
-    ensures { λ r. ⌜ answered r (now (out .exit)) ≡ pairWritten (now (out .entry)) (now (name .entry)) (now (value .entry)) ⌝ }
+    ensures { λ r. ⌜ answered r (now (out .exit))
+        ≡ pairWritten (now (out .entry)) (now (name .entry)) (now (value .entry)) ⌝ }
 {
     let n = name.len();
     let v = value.len();

@@ -12,7 +12,8 @@ use Rattle.pairs.specs.declared.length.Length.the-variants.{Is, Malforme
 unfoldable pub fourAt : List ℕ → ℕ → ℕ
 fourAt s at = number4 (byteAt s at - 128) (byteAt s (at + 1)) (byteAt s (at + 2)) (byteAt s (at + 3))
 
--- The length at a cursor, and the cursor after it: one byte below 128, or four bytes. A length that the list ends inside is malformed.
+-- The length at a cursor, and the cursor after it: one byte below 128, or four bytes. A length that the list ends
+-- inside is malformed.
 -- House rule: so is the four-byte form of a number below 128.
 unfoldable pub lengthAt : List ℕ → ℕ → Length
 lengthAt s at =

@@ -20,7 +20,8 @@ bodyAt s place n v at =
     else if length s - (at + n) <? v then Read.Malformed place
     else Read.Pair (record { name = at; «name_len» = n; value = at + n; «value_len» = v }) (at + n + v)
 
--- The pair at a cursor with the cursor after it; the end; or malformed, with the place where the unreadable pair starts.
+-- The pair at a cursor with the cursor after it; the end; or malformed, with the place where the unreadable pair
+-- starts.
 unfoldable pub pairAt : List ℕ → ℕ → Read
 pairAt s at =
     if length s ≤? at then Read.End

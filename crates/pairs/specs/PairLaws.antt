@@ -27,7 +27,8 @@ length-next s at n next e =
     (λ t4. let z : _≡_ {A = ℕ} 0 1 = cc (simp (t1, t2, t3, t4) at e) in absurd (omega arith))
     (λ t4. let q : at + 4 ≡ next = cc (simp (t1, t2, t3, t4) at e) in omega (arith, ltb-false (length s - at) 4 t3, leb-false (length s) at t1)))))
 
--- a pair that was read takes two bytes or more, lies within the list, and its name, its value and the cursor after it adjoin
+-- a pair that was read takes two bytes or more, lies within the list, and its name, its value and the cursor after it
+-- adjoin
 pub record PairIn (s : List ℕ) (at : ℕ) (p : Pair) (next : ℕ) : Type 0 where
   pub further : at + 2 ≤ next
   pub within : next ≤ length s
@@ -35,7 +36,8 @@ pub record PairIn (s : List ℕ) (at : ℕ) (p : Pair) (next : ℕ) : Type 0 whe
   pub named : p .name + p .«name_len» ≡ p .value
   pub valued : p .value + p .«value_len» ≡ next
 
--- what a reading says: of a pair, where it lies; of the end, that the cursor is there or past it; of a malformed pair, that it starts at the cursor
+-- what a reading says: of a pair, where it lies; of the end, that the cursor is there or past it; of a malformed
+-- pair, that it starts at the cursor
 abbrev pub ReadSays : List ℕ → ℕ → Read → Type 0
 ReadSays s at (Read.Pair p next) = PairIn s at p next
 ReadSays s at Read.End = length s ≤ at

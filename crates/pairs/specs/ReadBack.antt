@@ -21,7 +21,8 @@ use Rattle.pairs.specs.declared.length.Length.the-variants.{Is, Malforme
 use Rattle.pairs.specs.declared.pair.Pair.{Pair}
 use Rattle.pairs.specs.declared.pair.Read.{Read}
 
--- The top bit of a number in four bytes: the number without it, the number with it, and that it is set in what is written.
+-- The top bit of a number in four bytes: the number without it, the number with it, and that it is set in what is
+-- written.
 top-bit : (b3 b2 b1 b0 n : ℕ) → number4 b3 b2 b1 b0 ≡ n + 2147483648 → 128 ≤ b3 → number4 (b3 - 128) b2 b1 b0 ≡ n
 unfolding number4
 top-bit b3 b2 b1 b0 n e h = omega arith

@@ -10,12 +10,14 @@ use Rattle.wire.specs.Buffer.{byteAt, zeros}
 use Rattle.record.specs.Names.{KEEP-CONN}
 use Rattle.record.specs.declared.body.BeginBody.{BeginBody}
 
--- Section 5.1: the role in two bytes, then the flags. KEEP_CONN is the lowest flag bit, the other bits are ignored; five bytes are reserved.
+-- Section 5.1: the role in two bytes, then the flags. KEEP_CONN is the lowest flag bit, the other bits are ignored;
+-- five bytes are reserved.
 unfoldable pub beginBodyOf : List ℕ → BeginBody
 beginBodyOf b =
     record { role = number2 (byteAt b 0) (byteAt b 1); keep = byteAt b 2 % 2 =? KEEP-CONN }
 
--- Section 5.5, the struct FCGI_EndRequestBody: the application status in four bytes, the protocol status, three reserved bytes.
+-- Section 5.5, the struct FCGI_EndRequestBody: the application status in four bytes, the protocol status, three
+-- reserved bytes.
 pub record EndBody : Type 0 where
   pub appStatus : ℕ
   pub protocolStatus : ℕ

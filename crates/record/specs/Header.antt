@@ -6,7 +6,8 @@ use Rattle.wire.specs.Buffer.{byteAt}
 use Rattle.record.specs.Names.{VERSION}
 use Rattle.record.specs.declared.header.Header.{Header}
 
--- What the eight bytes say: version, type, request id, content length, padding length. The eighth is reserved and says nothing.
+-- What the eight bytes say: version, type, request id, content length, padding length. The eighth is reserved and
+-- says nothing.
 unfoldable pub headerOf : List ℕ → Header
 headerOf b =
     record {

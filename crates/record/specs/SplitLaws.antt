@@ -68,7 +68,8 @@ pub split-cut : (b : List ℕ) → wholeFront b ≡ false → split b ≡ allRes
 unfolding split splitIn
 split-cut b t = enough (length b) (suc (length b)) b (omega arith) (omega arith) ∙ simp t
 
--- What holds of a list with no whole record at its front, and of one with such a record if it holds after it, holds of all lists.
+-- What holds of a list with no whole record at its front, and of one with such a record if it holds after it, holds
+-- of all lists.
 pub by-records : (P : List ℕ → Type 0) → ((b : List ℕ) → wholeFront b ≡ false → P b)
     → ((b : List ℕ) → wholeFront b ≡ true → P (drop (frontLength b) b) → P b) → (b : List ℕ) → P b
 by-records P cut whole b = go (length b) b (omega arith)
@@ -103,7 +104,8 @@ module _ (b c : List ℕ) (w : Whole b) where
       ap (take (headerOf b .content)) (drop-append-le 8 b c (w .header)) ∙ take-append-le (headerOf b .content) (drop 8 b) c n in
       rw (h, t)
 
--- Bytes that come later change no record that is whole: the split of two lists is the records of the first, then the split of its rest and the second.
+-- Bytes that come later change no record that is whole: the split of two lists is the records of the first, then the
+-- split of its rest and the second.
 pub split-append : (c b : List ℕ) → split (b ++ c) ≡ split b .records then-split split (split b .rest ++ c)
 split-append c =
     by-records (λ b. split (b ++ c) ≡ split b .records then-split split (split b .rest ++ c))
@@ -122,7 +124,8 @@ rest-cut = by-records (λ b. wholeFront (split b .rest) ≡ false) (λ b t. rw (
 abbrev pub recordWith : Header → List ℕ → Record
 recordWith h content = record { version = h .version; kind = h .kind; id = h .id; content = content; padding = h .padding }
 
--- Eight header bytes, then content and padding of the lengths that they say, whatever bytes the padding has: that record, and then what follows.
+-- Eight header bytes, then content and padding of the lengths that they say, whatever bytes the padding has: that
+-- record, and then what follows.
 module _ (h x y rest : List ℕ) (eight : length h ≡ 8) (content : length x ≡ headerOf h .content) (padding : length y ≡ headerOf h .padding) where
   whole : List ℕ
   whole = h ++ (x ++ (y ++ rest))

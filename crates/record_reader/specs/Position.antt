@@ -29,7 +29,8 @@ afterHeader h = record { content = h .content; padding = h .padding; held = 0; h
 abbrev pub heldAnd : ℕ → List ℕ → ℕ → List ℕ → List ℕ
 heldAnd held header n piece = putAt header held (take n piece)
 
--- In a header: as many bytes as it still needs or the piece has. (A reader that holds eight header bytes or more, which no reading makes, uses none.)
+-- In a header: as many bytes as it still needs or the piece has. (A reader that holds eight header bytes or more,
+-- which no reading makes, uses none.)
 unfoldable pub inHeader : ℕ → List ℕ → List ℕ → Advanced
 inHeader held header piece =
     if HEADER-LEN ≤? held then record {

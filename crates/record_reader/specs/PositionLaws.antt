@@ -1,4 +1,5 @@
--- What holds of a reader's position: a step is its bytes one by one, so cutting does not matter; a step uses a byte; and the position agrees with the split.
+-- What holds of a reader's position: a step is its bytes one by one, so cutting does not matter; a step uses a byte;
+-- and the position agrees with the split.
 use Prim.Native.Nat.{ℕ, zero, suc, _+_, _-_, _≤_, _<_, min}
 use mathlib.Core.Path.{_≡_, refl, sym, ap, ap₂, _∙_}
 use mathlib.Core.Bool.{true, false}

@@ -21,7 +21,8 @@ unfoldable pub recordBytes : ℕ → ℕ → List ℕ → List ℕ
 recordBytes kind id content =
     headerBytes kind id (length content) (paddingOf (length content)) ++ content ++ zeros (paddingOf (length content))
 
--- Data cut into chunks of a given size, the last one shorter; no data, no chunk. (The first argument bounds their number.)
+-- Data cut into chunks of a given size, the last one shorter; no data, no chunk. (The first argument bounds their
+-- number.)
 unfoldable pub chunksIn : ℕ → ℕ → List ℕ → List (List ℕ)
 chunksIn zero size bytes = []
 chunksIn (suc k) size [] = []

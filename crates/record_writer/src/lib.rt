@@ -5,7 +5,8 @@ use wire::least;
 ghost use mathlib.Core.Path.{_≡_};
 ghost use Prim.Native.Nat.{_+_, _≤_, _<_};
 ghost use lib.ListN.{length};
-ghost use Rattle.record_writer.specs.Written.{Placed, paddingOf, recordLength, recordFits, streamFits, recordPlaced, streamPlaced};
+ghost use Rattle.record_writer.specs.Written.{Placed, paddingOf, recordLength, recordFits, streamFits};
+ghost use Rattle.record_writer.specs.Written.{recordPlaced, streamPlaced};
 
 // The padding of n content bytes: to a multiple of eight.
 fn padding_of(n: u16) -> u8
@@ -39,7 +40,8 @@ pub fn record_fits(n: usize, at: usize, room: usize) -> bool
 // Writes one record into out at place `at`, padded to a multiple of eight, and answers the place after it.
 // Where it does not fit, nothing is written and the answer is `at`.
 pub fn write_record(out: &mut [u8], at: usize, kind: u8, id: u16, content: &[u8]) -> usize
-    ensures { λ r. ⌜ record { next = r; buffer = now (out .exit) } ≡ recordPlaced (now (out .entry)) at kind id (now (content .entry)) ⌝ }
+    ensures { λ r. ⌜ record { next = r; buffer = now (out .exit) }
+        ≡ recordPlaced (now (out .entry)) at kind id (now (content .entry)) ⌝ }
 {
     let n = content.len();
     if !record_fits(n, at, out.len()) {
@@ -86,7 +88,8 @@ pub fn stream_fits(size: u16, n: usize, at: usize, room: usize) -> bool
 // Writes bytes into out from place `at` on, in records of `size` content bytes, the last one shorter, and answers
 // the place after them. No bytes, no record. Where they do not all fit, nothing is written and the answer is `at`.
 pub fn write_stream(out: &mut [u8], at: usize, kind: u8, id: u16, bytes: &[u8], size: u16) -> usize
-    ensures { λ r. ⌜ record { next = r; buffer = now (out .exit) } ≡ streamPlaced (now (out .entry)) at kind id (now (bytes .entry)) size ⌝ }
+    ensures { λ r. ⌜ record { next = r; buffer = now (out .exit) }
+        ≡ streamPlaced (now (out .entry)) at kind id (now (bytes .entry)) size ⌝ }
 {
     if !stream_fits(size, bytes.len(), at, out.len()) {
         return at;

@@ -1,4 +1,4 @@
--- What the output of one request comes to, read in the scope's numbers and values.
+-- What the output of one request comes to, read in the rules' numbers and values.
 use Prim.Native.Nat.{ℕ}
 use mathlib.Core.List.{List}
 use Rattle.connection.specs.Codes.{refusalNumber, wroteRefusal, wroteBytes}

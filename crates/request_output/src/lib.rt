@@ -18,7 +18,8 @@ ghost use mathlib.Core.Bool.{not};
 ghost use Prim.Native.Nat.{ℕ};
 ghost use lib.ListN.{length};
 ghost use lib.Dec.{ltb};
-ghost use Rattle.connection.specs.RequestCalls.{noOutput, isEnded, usesErr, outputRefusal, saidOn, endedOn, sayIn, endIn};
+ghost use Rattle.connection.specs.RequestCalls.{noOutput, isEnded, usesErr, outputRefusal, saidOn, endedOn, sayIn};
+ghost use Rattle.connection.specs.RequestCalls.{endIn};
 ghost use Rattle.request_output.specs.Answer.{saidBy, checkNumber};
 
 // Whether a request's own rows let a call through.
@@ -61,7 +62,8 @@ fn is_ended(output: Output, m: RequestState) -> bool
 
 // Rows 4, 5 and 6 of an output that fits into the buffer or not.
 fn output_check(r: Request, output: Output, fits: bool) -> Check
-    ensures { λ x. ⌜ ((bytes buffer : List ℕ) → fits ≡ not (ltb (length buffer) (length bytes)) → checkNumber x ≡ outputRefusal r output bytes buffer) ⌝ }
+    ensures { λ x. ⌜ ((bytes buffer : List ℕ) → fits ≡ not (ltb (length buffer) (length bytes)) → checkNumber x
+        ≡ outputRefusal r output bytes buffer) ⌝ }
 {
     if no_output(r) {
         return Check::Refused(Refusal::NotReady);

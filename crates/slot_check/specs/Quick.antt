@@ -1,4 +1,5 @@
--- The slots' part of row 9 in the form that is quick to compute: keys, and each compared with the eight after it, going round.
+-- The slots' part of row 9 in the form that is quick to compute: keys, and each compared with the eight after it,
+-- going round.
 use Prim.Native.Nat.{ℕ, zero, suc, _+_, _<_}
 use mathlib.Core.Path.{_≡_}
 use mathlib.Core.Bool.{Bool, false, not, _&&_, _||_}

@@ -103,7 +103,8 @@ module _ (ids lengths : List ℕ) (occupied : ℕ) where
         let z : _≡_ {A = ℕ} 0 1 = cc (no, yes) in
         omega arith
 
-    -- the later of two slots with one id is at most eight after the earlier one, or the earlier one at most seven after it, going round
+    -- the later of two slots with one id is at most eight after the earlier one, or the earlier one at most seven
+    -- after it, going round
     ordered : anyOf SLOTS (repeats keys) 0 ≡ false → (id i j : ℕ) → (id ≡ 0 → ⊥) → i < j → Holds slots id i → Holds slots id j → ⊥
     ordered none id i j some l a b =
         byTest (leb (j - i) 8)

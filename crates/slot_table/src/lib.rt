@@ -13,7 +13,8 @@ use slot_word::take_slot;
 ghost use mathlib.Core.Path.{_≡_};
 ghost use Prim.Native.Nat.{_-_, _<_};
 ghost use Rattle.connection.specs.Sizes.{SLOTS};
-ghost use Rattle.connection.specs.Slots.{noState, noRequest, noRequests, requestAt, putRequest, takeSlot, freeSlot, holdsId, findFrom};
+ghost use Rattle.connection.specs.Slots.{noState, noRequest, noRequests, requestAt, putRequest, takeSlot, freeSlot};
+ghost use Rattle.connection.specs.Slots.{holdsId, findFrom};
 
 // The state of a free slot.
 pub fn no_state() -> RequestState

@@ -99,7 +99,8 @@ module _ (st : State) (store : List ℕ) (h : Header) where
       of _ (Verdict.Long l) q = let z : _≡_ {A = ℕ} 13 11 = cc in absurd (omega arith)
       of _ (Verdict.Goes e g) q = let z : _≡_ {A = ℕ} 0 1 = cc (ap isClosing q) in absurd (omega arith)
 
-  -- By 12 where it is a BEGIN_REQUEST, for an id that is neither 0 nor active, whose content is not 8 bytes, and only there.
+  -- By 12 where it is a BEGIN_REQUEST, for an id that is neither 0 nor active, whose content is not 8 bytes, and only
+  -- there.
   pub header-closes-12 : (judged st store h .event ≡ Event.Closed 12) ↔ OddBegin st h
   unfolding judged onInactive closes
   header-closes-12 = (
@@ -142,7 +143,8 @@ module _ (st : State) (store : List ℕ) (h : Header) where
 abbrev pub asked : State → List ℕ → List ℕ
 asked st bytes = take (st .conn .frame .gathered + length bytes) (copied (st .gathered) (st .conn .frame .gathered) bytes)
 
--- Content of a query closes by 14 where it is the last of it and its list is malformed, and only there; and by no other number.
+-- Content of a query closes by 14 where it is the last of it and its list is malformed, and only there; and by no
+-- other number.
 pub query-closes : (st : State) (store bytes : List ℕ) (p : Position) (n : ℕ)
     → (ofQuery st store bytes p .event ≡ Event.Closed n) ↔ ((n ≡ 14) × (p .content ≡ 0) × (wellFormed (asked st bytes) ≡ false))
 unfolding ofQuery queried queryOf closes

@@ -107,7 +107,8 @@ pub told-means-closed : (st : State) (store piece : List ℕ) (n : ℕ) → step
     → (isCause n ≡ true) × (stepped st store piece .state .conn .«open» ≡ false)
 told-means-closed st store piece n e = let c = told-closed st store piece n e in (c .cause, ap (λ (x : Conn). x .«open») (c .freed))
 
--- Where a step tells a close, the connection afterwards is the one closed one, without requests, and the store is all zeros.
+-- Where a step tells a close, the connection afterwards is the one closed one, without requests, and the store is all
+-- zeros.
 pub closing-frees : (st : State) (store piece : List ℕ) (n : ℕ) → stepped st store piece .event ≡ Event.Closed n
     → (stepped st store piece .state .conn ≡ closedConn) × (stepped st store piece .store ≡ zeros (length store))
 closing-frees st store piece n e = let c = told-closed st store piece n e in (c .freed, c .zeroed)

@@ -238,7 +238,8 @@ by-byte-sizes [] st store s = s
 by-byte-sizes (b ∷ x) st store s = by-byte-sizes x (stepped st store (b ∷ []) .state) (stepped st store (b ∷ []) .store) (sizes-stay st store (b ∷ []) s)
 
 -- ---- cutting
--- Steps over what is left come to the bytes one by one, if there are as many steps as bytes. Where the connection closes in between, both stay there.
+-- Steps over what is left come to the bytes one by one, if there are as many steps as bytes. Where the connection
+-- closes in between, both stay there.
 pub cutting : (k : ℕ) (st : State) (store x : List ℕ) → Sizes st store → length x ≤ k → fed k st store x ≡ byByte st store x
 unfolding fed byByte
 cutting zero st store [] sizes l = refl

@@ -1,4 +1,5 @@
--- Where the connection closes on the way, it closes at the same byte, however the bytes are cut: the same bytes are left unread.
+-- Where the connection closes on the way, it closes at the same byte, however the bytes are cut: the same bytes are
+-- left unread.
 use Prim.Native.Nat.{ℕ, zero, suc, _≤_}
 use mathlib.Core.Path.{_≡_, refl, sym, ap, ap₂, _∙_}
 use mathlib.Core.List.{List, [], _∷_, _++_}

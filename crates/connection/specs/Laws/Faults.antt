@@ -76,7 +76,8 @@ step-other-slots st store piece j apart =
         record { request = other-of-take (st .conn .table) _ j _ (other _ k); area = refl; is-taken = taken-of-take-other (st .conn .table) _ j _ (other _ k) }
 
 -- ---- a request that a step spends
--- Of all slots only slot i changed: it holds request r and this area. No slot was taken or freed, and the rest of the record is skipped.
+-- Of all slots only slot i changed: it holds request r and this area. No slot was taken or freed, and the rest of the
+-- record is skipped.
 pub record Only (st : State) (store : List ℕ) (i : ℕ) (r : Request) (a : List ℕ) (s : Stepped) : Type 0 where
   pub request : requestAt (s .state .conn .table) i ≡ r
   pub area : areaAt (s .store) i ≡ a
@@ -150,14 +151,15 @@ abort-rule kind m h id =
     (λ t s e. let z : _≡_ {A = ℕ} 0 1 = cc in absurd (omega arith))
     kind m
 
--- Of a request's marks its life changes alone: role, turn, flag and output marks stay.
+-- Of a request's state its life changes alone: role, turn, flag and outputs stay.
 pub life-alone : (m : RequestState) (l : Life)
     → (withLife m l .life ≡ l) × (withLife m l .role ≡ m .role) × (withLife m l .turn ≡ m .turn) × (withLife m l .keep ≡ m .keep)
     × (withLife m l .«out_ended» ≡ m .«out_ended») × (withLife m l .«err_used» ≡ m .«err_used») × (withLife m l .«err_ended» ≡ m .«err_ended»)
 unfolding withLife
 life-alone m l = (refl, refl, refl, refl, refl, refl, refl)
 
--- A fault of its own request alone: the number is one of 21 to 25, the request keeps its id and all marks but its life, its length is 0 and its area zeros.
+-- A fault of its own request alone: the number is one of 21 to 25, the request keeps its id and all marks but its
+-- life, its length is 0 and its area zeros.
 abbrev pub FaultAlone : State → List ℕ → ℕ → ℕ → Stepped → Type 0
 FaultAlone st store id n s =
     (i : ℕ) × (find (st .conn .table) id ≡ Slot.At i) × (21 ≤ n) × (n ≤ 25)
@@ -184,7 +186,8 @@ fault-own-request st store piece id n sized e =
     ))
     (rw e refl) (rw e refl) e
 
--- An abort of its own request alone: the request keeps its id, its length and all marks but its life, and its area stays.
+-- An abort of its own request alone: the request keeps its id, its length and all of its state but its life, and its area
+-- stays.
 abbrev pub AbortAlone : State → List ℕ → ℕ → Stepped → Type 0
 AbortAlone st store id s =
     (i : ℕ) × (find (st .conn .table) id ≡ Slot.At i)

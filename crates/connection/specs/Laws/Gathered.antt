@@ -35,7 +35,8 @@ use Rattle.connection.specs.Step.{State, Left, targetIf, frameAfter, fra
 use Rattle.connection.specs.Laws.Progress.{admitted-fits}
 
 -- ---- the bytes that count
--- How many of the gathered bytes count: of a query those that are in, of anything else none. (The frame counts a BEGIN body too, which it holds itself.)
+-- How many of the gathered bytes count: of a query those that are in, of anything else none. (The frame counts a
+-- BEGIN body too, which it holds itself.)
 abbrev pub countFor : Target → ℕ → ℕ
 countFor Target.Skip n = 0
 countFor (Target.Begin id) n = 0
@@ -252,7 +253,8 @@ alike-without (Target.Stdin i) n g g′ other = refl
 alike-without (Target.Data i) n g g′ other = refl
 
 -- ---- gathered bytes that do not matter
--- Gathered bytes past those that count never matter: two states that differ in them alone give the same answer, and agree in those that count afterwards.
+-- Gathered bytes past those that count never matter: two states that differ in them alone give the same answer, and
+-- agree in those that count afterwards.
 pub past-count-forgotten : (c : Conn) (g g′ store piece : List ℕ) → length g ≡ QUERY → length g′ ≡ QUERY → Alike (countOf (c .frame)) g g′
     → Same g g′ (stepped (record { conn = c; gathered = g }) store piece) (stepped (record { conn = c; gathered = g′ }) store piece)
 past-count-forgotten c g g′ store piece full full′ a = step-agree c g g′ store (λ e. omega arith) (λ e. omega arith) a piece

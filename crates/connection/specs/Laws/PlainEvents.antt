@@ -1,4 +1,5 @@
--- The events of headers, of BEGIN bodies and of queries show no bytes: what they tell does not depend on the bytes they came with.
+-- The events of headers, of BEGIN bodies and of queries show no bytes: what they tell does not depend on the bytes
+-- they came with.
 use Prim.Native.Nat.{ℕ, _+_}
 use mathlib.Core.Path.{_≡_, refl}
 use mathlib.Core.List.{List, []}

@@ -1,4 +1,4 @@
--- Start and step leave a state in shape (demand R9.16), from every state in shape, also from one that no run reaches.
+-- Start and step leave a state in shape, from every state in shape, also from one that no run reaches.
 use mathlib.Core.Path.{_≡_, refl, sym, _∙_}
 use Prim.Native.Nat.{ℕ, _-_, min}
 use mathlib.Core.Bool.{true, false}

@@ -66,7 +66,8 @@ module _ (P : Ruled → Type 0) (h : Held) (waits : (d : Due) → P (ruled h d E
       (λ r. simp (t, s, i, r) (faults 22 (omega arith) (omega arith))))
       (λ i. simp (t, s, i) (faults 23 (omega arith) (omega arith)))))
 
-  -- What holds of a request left alone, of faults 21 to 25, of an abort and of a stream's end holds of what any header does to it.
+  -- What holds of a request left alone, of faults 21 to 25, of an abort and of a stream's end holds of what any
+  -- header does to it.
   pub by-rule : (kind n : ℕ) → P (onHeader kind n h)
   unfolding onHeader
   by-rule kind n = byTest (isSpent (h .request .state .life)) (λ t. simp t (waits Due.Skip)) (λ t. simp t (rule-live kind n))
@@ -115,7 +116,8 @@ isCause n = if n =? 11 then true else if n =? 12 then true else if n =? 13 then 
 abbrev pub gathering : State → List ℕ → State
 gathering st g = record { conn = st .conn; gathered = g }
 
--- A step that is about slot k, or about none: it reads on, closes the connection, rules by a header about the request of slot k, feeds it, or takes slot k.
+-- A step that is about slot k, or about none: it reads on, closes the connection, rules by a header about the request
+-- of slot k, feeds it, or takes slot k.
 pub data Way (st : State) (store : List ℕ) (k : Slot) : Left → Type 0 where
   Reads : (g : List ℕ) (f : Frame) (e : Event) → Nameless (st .conn .table) e → Way st store k (reads (gathering st g) store f e)
   Closes : (g : List ℕ) (n : ℕ) → isCause n ≡ true → Way st store k (closes (gathering st g) store n)

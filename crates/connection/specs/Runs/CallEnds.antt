@@ -1,4 +1,5 @@
--- How calls leave a connection: finish keeps its shape, for every state in shape; and of all calls only a finish without KEEP_CONN closes it.
+-- How calls leave a connection: finish keeps its shape, for every state in shape; and of all calls only a finish
+-- without KEEP_CONN closes it.
 use mathlib.Core.Path.{_≡_}
 use mathlib.Core.Bool.{Bool, true, false}
 use mathlib.Core.List.{List}

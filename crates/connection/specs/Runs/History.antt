@@ -1,4 +1,5 @@
--- The parameters of a request by history: PARAMS content that was used for it since it was opened, from the bytes and calls of a timeline and from what was observed of them. Definitions only.
+-- The parameters of a request by history: PARAMS content that was used for it since it was opened, from the bytes and
+-- calls of a timeline and from what was observed of them. Definitions only.
 use mathlib.Core.List.{List, [], _∷_, _++_}
 use mathlib.Core.Option.{Option, none, some}
 use mathlib.Core.Bool.{Bool, true, false}
@@ -81,7 +82,8 @@ unfoldable pub scanWholeParams : Bool → ℕ → List ℕ → Scan
 scanWholeParams true R h = ScanHeader h
 scanWholeParams false R h = scanLeft (isParamsHeader R h) (headerContent h) (headerPadding h)
 
--- Where the byte after b stands: in a header, or past one, with whether it is of a PARAMS record of R, and the content and padding left.
+-- Where the byte after b stands: in a header, or past one, with whether it is of a PARAMS record of R, and the
+-- content and padding left.
 unfoldable pub scanParams : ℕ → Scan → ℕ → Scan
 scanParams R (ScanHeader h) b = scanWholeParams (length (h ++ b ∷ []) <? 8) R (h ++ b ∷ [])
 scanParams R (ScanRest own (suc c) p) b = scanLeft own c p
@@ -138,7 +140,8 @@ contentBy (ScanRest own (suc c) p) k (CallItem a) = []
 abbrev pub parametersThen : ℕ → Option (Observation receiver) → List ℕ → List ℕ → List ℕ
 parametersThen R o content l = if emptiesAny R o then [] else l ++ content
 
--- R's parameters after the items of a timeline with what was observed at each, from a place in the bytes, from whether R takes PARAMS and from the parameters so far.
+-- R's parameters after the items of a timeline with what was observed at each, from a place in the bytes, from
+-- whether R takes PARAMS and from the parameters so far.
 unfoldable pub parametersBy : ℕ → Scan → Bool → List ℕ → List (Item Argument × Option (Observation receiver)) → List ℕ
 parametersBy R m k l [] = l
 parametersBy R m k l ((x, o) ∷ t) = parametersBy R (scanItem R m x) (takesThen R o k) (parametersThen R o (contentBy m k x) l) t
@@ -148,6 +151,7 @@ unfoldable pub witnessed : Connection receiver → List (Item Argument) → List
 witnessed s [] = []
 witnessed s (x ∷ t) = (x, (onItem receiver s x) .1) ∷ witnessed ((onItem receiver s x) .0) t
 
--- R's parameters by history: the timeline with what was observed of each item, from a start, where nothing is read and R takes nothing.
+-- R's parameters by history: the timeline with what was observed of each item, from a start, where nothing is read
+-- and R takes nothing.
 abbrev pub historyOf : ℕ → List (Item Argument) → List ℕ
 historyOf R t = parametersBy R (ScanHeader []) false [] (witnessed (fresh receiver SLOTS) t)

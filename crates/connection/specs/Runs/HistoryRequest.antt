@@ -155,7 +155,8 @@ isParamsDue Due.Params = true
 isParamsDue Due.Stdin = false
 isParamsDue Due.Data = false
 
--- a header of that type: whether the request takes PARAMS is told, and content is due to PARAMS just where it still takes them
+-- a header of that type: whether the request takes PARAMS is told, and content is due to PARAMS just where it still
+-- takes them
 pub record TakesBy (h : Held) (kind n : ℕ) (r : Ruled) : Type 0 where
   pub told : takes (r .held) ≡ takesAfter (r .event) (takes h)
   pub due : 0 < n → isParamsDue (r .due) ≡ (if eqb kind PARAMS then takes (r .held) else false)

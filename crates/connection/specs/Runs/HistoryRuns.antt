@@ -212,7 +212,8 @@ unfolding fresh lookup requestFound lookupFurther
 fresh-agrees R = (refl, refl)
 
 -- ---- every run
--- After any run from a start, what R's area holds up to its length is exactly R's parameters by history; there are none where R is not active.
+-- After any run from a start, what R's area holds up to its length is exactly R's parameters by history; there are
+-- none where R is not active.
 pub list-is-history : (R : ℕ) (r : WholeRun) → listFound (requestOf R (ending r)) ≡ historyOf R (timelineOf r)
 list-is-history R r =
     parameters-by-history R r

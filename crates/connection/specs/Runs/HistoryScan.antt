@@ -52,7 +52,8 @@ module _ (R : ℕ) where
   dueFor T (ToQuery g) = false
   dueFor T (ToSlot i due) = isParamsOf R (slotAt cleanArea T i) due
 
-  -- The place in the bytes is where the connection reads. Of a PARAMS record of R content is due to R just where R takes PARAMS.
+  -- The place in the bytes is where the connection reads. Of a PARAMS record of R content is due to R just where R
+  -- takes PARAMS.
   abbrev pub Placed : Slots receiver → Reading receiver → Scan → Type 0
   Placed T (AtHeader h) m = m ≡ ScanHeader h
   Placed T (PastHeader s zero p) m = (own : Bool) × (m ≡ ScanRest own zero p)

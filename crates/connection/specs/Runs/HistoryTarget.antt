@@ -1,4 +1,5 @@
--- A request's list, by the connection's target: it is emptied where the history says so, and content of PARAMS of R is added to it.
+-- A request's list, by the connection's target: it is emptied where the history says so, and content of PARAMS of R
+-- is added to it.
 use mathlib.Core.Path.{_≡_, refl, ap, sym, _∙_, subst}
 use mathlib.Core.List.{List, [], _∷_, _++_, append-nil}
 use mathlib.Core.Option.{Option, none, some}
@@ -58,7 +59,8 @@ contentOf R Closed x = []
 contentOf R (Open T F) (ByteItem b) = contentAt R T F b
 contentOf R (Open T F) (CallItem c) = []
 
--- R's parameters after the items of a timeline, which starts with l: emptied where R is opened or faults, is finished, or the connection closes; PARAMS content that is used for R is added.
+-- R's parameters after the items of a timeline, which starts with l: emptied where R is opened or faults, is
+-- finished, or the connection closes; PARAMS content that is used for R is added.
 unfoldable pub parametersAfter : ℕ → Connection receiver → List (Item Argument) → List ℕ → List ℕ
 parametersAfter R s [] l = l
 parametersAfter R s (x ∷ t) l = parametersAfter R ((onItem receiver s x) .0) t (parametersThen R ((onItem receiver s x) .1) (contentOf R s x) l)

@@ -1,4 +1,5 @@
--- What holds of every memory of a run: free areas are zero, areas are zero beyond their lists, a closed connection keeps nothing, and nothing is refused by 2 or 9.
+-- What holds of every memory of a run: free areas are zero, areas are zero beyond their lists, a closed connection
+-- keeps nothing, and nothing is refused by 2 or 9.
 use mathlib.Core.Path.{_≡_, refl, ap, sym, _∙_, subst}
 use mathlib.Core.List.{List, [], _∷_, _++_}
 use mathlib.Core.Bool.{Bool, true, false}

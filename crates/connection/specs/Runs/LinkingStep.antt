@@ -38,7 +38,8 @@ pub closed-loaded : (m : Memory) → m .state .conn .«open» ≡ false → load
 unfolding loadedWhen
 closed-loaded m e = rw e
 
--- What every memory of a run fulfils: the arrays and the store have their sizes, the state is in shape, and no header bytes are held within a record.
+-- What every memory of a run fulfils: the arrays and the store have their sizes, the state is in shape, and no header
+-- bytes are held within a record.
 pub record Steady (m : Memory) : Type 0 where
   pub sizes : Sizes (m .state) (m .store)
   pub arrays : Arrays (m .state .conn)

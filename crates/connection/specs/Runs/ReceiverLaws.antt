@@ -1,4 +1,5 @@
--- What the machine of one request has to show: what a request decides keeps it in shape. In shape is a request whose area is zero beyond its list.
+-- What the machine of one request has to show: what a request decides keeps it in shape. In shape is a request whose
+-- area is zero beyond its list.
 use mathlib.Core.Path.{_≡_, refl, ap, ap₂, sym, _∙_}
 use mathlib.Core.List.{List, [], _∷_, _++_}
 use mathlib.Core.Option.{Option, some}

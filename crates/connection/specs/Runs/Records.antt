@@ -1,4 +1,5 @@
--- Where a run stands, by the records that its used bytes make: an open run is between two records just where its used bytes split into records without a rest.
+-- Where a run stands, by the records that its used bytes make: an open run is between two records just where its used
+-- bytes split into records without a rest.
 use mathlib.Core.Path.{_≡_, refl, ap, sym, _∙_, subst}
 use mathlib.Core.List.{List, [], _∷_}
 use mathlib.Core.Bool.{Bool, true, false}

@@ -1,4 +1,5 @@
--- A run of R's items exists, in every cutting of their bytes into pieces: what isolation says of such runs is said of something.
+-- A run of R's items exists, in every cutting of their bytes into pieces: what isolation says of such runs is said of
+-- something.
 use mathlib.Core.Path.{_≡_, refl, ap, ap₂, sym, _∙_}
 use mathlib.Core.List.{List, [], _∷_, _++_, append-assoc, append-nil}
 use mathlib.Core.Bool.{true}
@@ -117,7 +118,8 @@ stepped-through (suc n) m (c ∷ x) z b l a =
 open-before : (s : Connection receiver) (t u : List (Item Argument)) → (stateAfter receiver s (t ++ u) ≡ Closed → ⊥) → stateAfter receiver s t ≡ Closed → ⊥
 open-before s t u a e = a (state-append receiver s t u ∙ ap (λ w. stateAfter receiver w u) e ∙ closed-stays receiver u)
 
--- Any bytes and calls, cut into pieces in any way, can be run: the steps use all of them, in order, if they leave the connection open.
+-- Any bytes and calls, cut into pieces in any way, can be run: the steps use all of them, in order, if they leave the
+-- connection open.
 pub all-stepped : (os : List Operation) (m : Memory) → Steady m → PiecesOk os → (stateAfter receiver (loadedOf m) (itemsIn os) ≡ Closed → ⊥)
     → timeline m (allStepped m os) ≡ itemsIn os
 unfolding allStepped itemsIn timeline stateAfter itemsOf
@@ -139,7 +141,8 @@ all-stepped (CountActive ∷ os) m z p a =
     ap (λ l. CallItem CountCall ∷ l)
     (all-stepped os (memoryAfter m CountActive) (k .steady) p (λ d. a (ap (λ w. stateAfter receiver w (itemsIn os)) (sym (k .state)) ∙ d)))
 
--- The second run. Take any run A as isolation does, cut what purging leaves of its timeline into pieces in any way, ps, and step over each piece until it is used up.
+-- The second run. Take any run A as isolation does, cut what purging leaves of its timeline into pieces in any way,
+-- ps, and step over each piece until it is used up.
 abbrev pub secondRun : (gathered store : List ℕ) (ps : List Operation) → length gathered ≡ QUERY → length store ≡ STORE → PiecesOk ps → WholeRun
 secondRun gathered store ps size full p =
     record {

@@ -1,4 +1,6 @@
--- Small runs, computed: one for each way in which a wrong definition would let request 1 notice another request. `whole` has both requests, `alone` what purging leaves for 1. The definitions alone are used here, no law: each wrong definition of must-fail/ that is named below makes a line false.
+-- Small runs, computed: one for each way in which a wrong definition would let request 1 notice another request.
+-- `whole` has both requests, `alone` what purging leaves for 1. The definitions alone are used here, no law: each
+-- wrong definition of must-fail/ that is named below makes a line false.
 use mathlib.Core.Path.{_≡_, refl}
 use mathlib.Core.List.{List, [], _∷_, _++_, flatten}
 use mathlib.Core.Option.{Option, none}
@@ -40,12 +42,14 @@ record Alike (whole alone : List Operation) (seen : List Observed) (left : Optio
 
 -- ---- the runs
 pub record SmallRuns : Type 0 where
-  -- 2 is finished inside its PARAMS record, of which a byte comes then; 1 opens where 2 was. (rest_not_skipped: the byte lies in the area of 1.)
+  -- 2 is finished inside its PARAMS record, of which a byte comes then; 1 opens where 2 was. (rest_not_skipped: the
+  -- byte lies in the area of 1.)
   rest-skipped : Alike (begin 2 ++ (header 4 2 1 ∷ finish 2) ++ (StepOver (7 ∷ []) ∷ begin 1)) (begin 1) (opened-one ∷ []) (one 0 Turn.Params (zeros AREA))
   -- 2 is finished inside a STDIN record of 1. (anyones_rest_skipped: the byte of 1 is not shown.)
   others-rest-read : Alike (begin 2 ++ begin 1 ++ paramsEnd 1 ++ (header 5 1 1 ∷ finish 2) ++ (StepOver (9 ∷ []) ∷ [])) (begin 1 ++ paramsEnd 1 ++ (header 5 1 1 ∷ StepOver (9 ∷ []) ∷ []))
       (opened-one ∷ Heard (Note.Told (Event.Ready 1 0)) ∷ Heard (Note.Shown 1 STDIN 9) ∷ []) (one 0 Turn.Stdin (zeros AREA))
-  -- 2 is finished when seven header bytes of 1 are in; the eighth, which is reserved, is 1. (held_bytes_dropped: it is taken for a version, the content of 1 for the rest of a header, and nothing of 1 is shown.)
+  -- 2 is finished when seven header bytes of 1 are in; the eighth, which is reserved, is 1. (held_bytes_dropped: it
+  -- is taken for a version, the content of 1 for the rest of a header, and nothing of 1 is shown.)
   held-bytes-stay : Alike
       (begin 2 ++ begin 1 ++ paramsEnd 1 ++ (StepOver (1 ∷ 5 ∷ 0 ∷ 1 ∷ 0 ∷ 7 ∷ 0 ∷ []) ∷ finish 2) ++ (StepOver (1 ∷ []) ∷ StepOver (0 ∷ 0 ∷ 0 ∷ 0 ∷ 0 ∷ 0 ∷ 0 ∷ []) ∷ []))
       (begin 1 ++ paramsEnd 1 ++ (StepOver (1 ∷ 5 ∷ 0 ∷ 1 ∷ 0 ∷ 7 ∷ 0 ∷ 1 ∷ []) ∷ StepOver (0 ∷ 0 ∷ 0 ∷ 0 ∷ 0 ∷ 0 ∷ 0 ∷ []) ∷ []))
@@ -55,13 +59,15 @@ pub record SmallRuns : Type 0 where
   faults-stay-home : Alike (begin 2 ++ begin 1 ++ oneParam 1 7 ++ begin 2) (begin 1 ++ oneParam 1 7) (opened-one ∷ []) (one 1 Turn.Params (7 ∷ zeros 2047))
   -- 1 opens, then 2. (taken_slot_opened: 1 is gone.)
   slots-apart : Alike (begin 1 ++ begin 2) (begin 1) (opened-one ∷ []) (one 0 Turn.Params (zeros AREA))
-  -- 2 is in the first slot, 1 in the second; the first pair of 1 is asked for. (offset_in_store: its name lies at 2,050.)
+  -- 2 is in the first slot, 1 in the second; the first pair of 1 is asked for. (offset_in_store: its name lies at
+  -- 2,050.)
   offsets-in-area : Alike (begin 2 ++ begin 1 ++ (header 4 1 2 ∷ StepOver (0 ∷ 0 ∷ []) ∷ []) ++ paramsEnd 1 ++ (CallFor 1 (ForPair 0) ∷ [])) (begin 1 ++ (header 4 1 2 ∷ StepOver (0 ∷ 0 ∷ []) ∷ []) ++ paramsEnd 1 ++ (CallFor 1 (ForPair 0) ∷ []))
       (opened-one ∷ Heard (Note.Told (Event.Ready 1 2))
       ∷ Answered 1 (ForPair 0) (PairAnswer (Of.PairIs (record { name = 2; «name_len» = 0; value = 2; «value_len» = 0 }))) (one 2 Turn.Stdin (zeros AREA)) (one 2 Turn.Stdin (zeros AREA))
       ∷ [])
       (one 2 Turn.Stdin (zeros AREA))
-  -- Something is said on STDERR for 2, then 1 is finished. (stderr_mark_shared: an end of STDERR is written for 1, too.)
+  -- Something is said on STDERR for 2, then 1 is finished. (stderr_mark_shared: an end of STDERR is written for 1,
+  -- too.)
   states-apart : Alike (begin 2 ++ begin 1 ++ paramsEnd 2 ++ (CallFor 2 (ForSay Output.Stderr (65 ∷ []) (zeros 16)) ∷ finish 1)) (begin 1 ++ finish 1)
       (opened-one
       ∷ Answered 1 (ForFinish 0 (zeros 32)) (FinishedWith 0 24 false ((1 ∷ 6 ∷ 0 ∷ 1 ∷ 0 ∷ 0 ∷ 0 ∷ 0 ∷ 1 ∷ 3 ∷ 0 ∷ 1 ∷ 0 ∷ 8 ∷ 0 ∷ 0 ∷ []) ++ zeros 16)) (one 0 Turn.Params (zeros AREA)) none

@@ -1,4 +1,5 @@
--- The proof of Isolation: runs of the receiver are runs of a machine of one request, for which it is shown in the crate `machine`.
+-- The proof of Isolation: runs of the receiver are runs of a machine of one request, for which it is shown in the
+-- crate `machine`.
 use mathlib.Core.Path.{_≡_, refl, ap, sym, _∙_, subst}
 use mathlib.Core.List.{List, [], _∷_, List·Memᴰ, List·Memᴰ·head, List·Memᴰ·tail, Memᴰ·append-left, Memᴰ·append-right}
 use mathlib.Core.Logic.{_⊎_, inl, inr}
@@ -97,7 +98,8 @@ pub record SameOf (R : ℕ) (A B : WholeRun) : Type 0 where
   pub same-observed : observed R A ≡ observed R B
   pub same-request : requestOf R (ending A) ≡ requestOf R (ending B)
 
--- Two runs with the same items of R, mixed differently among those of others: what is observed of R is the same, and so is R's request at the end.
+-- Two runs with the same items of R, mixed differently among those of others: what is observed of R is the same, and
+-- so is R's request at the end.
 pub mixed-differently : (R : ℕ) (A B : WholeRun) → 0 < R → EndsBetweenRecords A → EndsBetweenRecords B → NeverOverloaded R A → NeverOverloaded R B
     → purge R (timelineOf A) ≡ purge R (timelineOf B) → SameOf R A B
 mixed-differently R A B r ba bb ra rb e =
