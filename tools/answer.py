@@ -1,7 +1,8 @@
 #!/usr/bin/env python3
-"""answer.py CRATE FUNCTION: puts answers from standard input into a function's proof file.
+"""usage: tools/answer.py CRATE FUNCTION < ANSWERS    puts answers into the proof file of a function
 
-FUNCTION is the folder below proofs/, as step/step. Sections begin with a line `== NAME`:
+Run it at the top of the repository. FUNCTION is the folder below proofs/, as step or length/read_length. Sections of
+ANSWERS begin with a line `== NAME`:
   == use                    lines to add at the top
   == NEED                   the answer of that need (also Inv-loop and μ-loop)
   == NEED unfolding a b     the same under that line
@@ -9,11 +10,26 @@ FUNCTION is the folder below proofs/, as step/step. Sections begin with a line `
   == *                      the answer of every need that is still a hole
 In an answer .b7 stands for seven .before.
 """
+import os
 import re
 import sys
 
-crate, function = sys.argv[1:3]
+
+def stop(why):
+    print(why, __doc__.split('\n')[0], sep='\n', file=sys.stderr)
+    sys.exit(2)
+
+
+args = sys.argv[1:]
+if args and args[0] in ('-h', '--help'):
+    print(__doc__, end='')
+    sys.exit()
+if len(args) != 2:
+    stop('answer.py: it takes a crate and a function')
+crate, function = args
 path = 'crates/%s/proofs/%s/Proof.antt' % (crate, function)
+if not os.path.exists(path):
+    stop('answer.py: there is no %s' % path)
 text = open(path).read()
 sections = []
 for line in sys.stdin.read().split('\n'):

@@ -1,17 +1,33 @@
 #!/usr/bin/env python3
-"""goals.py CRATE [-g REGEX]: checks a crate with `rt dev` and shows only what is left to do.
+"""usage: tools/goals.py CRATE [-g REGEX]    checks a crate with `rt dev` and shows only what is left to do
 
-Errors, cut to a readable length, and functions that are not proved. With -g holes are allowed, and the goals of
-those whose line matches REGEX (a file, or the name of a need) are shown. A run of `.before` is written .bN.
-The whole output is kept in target/last-CRATE.out.
+Run it at the top of the repository. Shown are errors, cut to a readable length, and functions that are not proved.
+With -g holes are allowed, and the goals of those whose line matches REGEX (a file, or the name of a need) are shown.
+A run of `.before` is written .bN. The whole output is kept in target/last-CRATE.out.
 """
 import os
 import re
+import shutil
 import subprocess
 import sys
 
-crate = sys.argv[1]
-wanted = sys.argv[3] if len(sys.argv) > 3 and sys.argv[2] == '-g' else None
+
+def stop(why):
+    print(why, __doc__.split('\n')[0], sep='\n', file=sys.stderr)
+    sys.exit(2)
+
+
+args = sys.argv[1:]
+if args and args[0] in ('-h', '--help'):
+    print(__doc__, end='')
+    sys.exit()
+if len(args) not in (1, 3) or len(args) == 3 and args[1] != '-g':
+    stop('goals.py: it takes a crate, and -g with what to look for')
+crate, wanted = args[0], args[2] if len(args) == 3 else None
+if not os.path.isdir('crates/' + crate):
+    stop('goals.py: there is no crates/%s here' % crate)
+if not shutil.which('rt'):
+    stop('goals.py: rt is not on the PATH')
 words = ['--allow-holes'] if wanted else []
 ran = subprocess.run(['rt', 'dev', crate] + words, capture_output=True, text=True, env=dict(os.environ, RT_CUT='0'))
 out = ran.stdout + ran.stderr

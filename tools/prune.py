@@ -1,9 +1,18 @@
 #!/usr/bin/env python3
-"""prune.py FILE..: drops the names of `use M.{..}` lines that an antt file does not mention."""
+"""usage: tools/prune.py FILE..    drops the names of `use M.{..}` lines that an antt file does not mention"""
+import os
 import re
 import sys
 
-for path in sys.argv[1:]:
+paths = sys.argv[1:]
+if paths and paths[0] in ('-h', '--help'):
+    print(__doc__)
+    sys.exit()
+missing = [path for path in paths if not os.path.isfile(path)]
+if missing or not paths:
+    print('prune.py: there is no file %s' % missing[0] if missing else 'prune.py: it takes files', __doc__, sep='\n', file=sys.stderr)
+    sys.exit(2)
+for path in paths:
     text = open(path).read()
     lines = text.split('\n')
     body = '\n'.join(line for line in lines if not line.startswith('use '))
