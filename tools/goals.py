@@ -52,7 +52,7 @@ for line in out.split('\n'):
         blocks[-1].append(line)
 for block in blocks:
     head, text = block[0], '\n'.join(block)
-    if re.match(r'^(library|logic /|help|note|struct|enum)', head) or 'has-holes' in head:
+    if re.match(r'^(library|logic /|help|note|struct|enum)', head) or 'has-holes' in head or 'unchanged since' in head:
         continue
     if head.startswith('fn '):
         if not re.search(r': (proved|no holes)$', head):

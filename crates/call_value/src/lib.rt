@@ -8,10 +8,12 @@ use pair_list::first_named;
 use pair_list::pair_number;
 use pairs::pair::Pair;
 ghost use mathlib.Core.Path.{_≡_};
+ghost use mathlib.Core.Option.{none, some};
 ghost use Rattle.connection.specs.Calls.{value, source, pairAtNumber};
 ghost use Rattle.connection.specs.RequestCalls.{isFaulted, onFound, FromStore, FromFallback};
 ghost use Rattle.pairs.specs.Pair.{valueOf};
 ghost use Rattle.pair_list.specs.List.{firstNamed};
+ghost use Rattle.call_list.specs.Part.{PartOrElse, valuePlace};
 ghost use Rattle.call_value.specs.Answer.{sourceBy, numberedBy};
 
 // Where `value` finds its answer.
@@ -29,9 +31,11 @@ pub enum Numbered {
 
 // The first value of that name in a list, or the fallback.
 fn value_in<'a>(list: &'a [u8], name: &[u8], fallback: &'a [u8]) -> &'a [u8]
-    ensures { λ r. ⌜ now r
+    ensures { λ r. ⌜ (now r
         ≡ onFound (firstNamed (now (list .entry)) (now (name .entry))) (valueOf (now (list .entry)))
-        (now (fallback .entry)) ⌝ }
+        (now (fallback .entry)))
+        × PartOrElse (list .entry) (fallback .entry) r
+        (onFound (firstNamed (now (list .entry)) (now (name .entry))) (λ p. some (p .value)) none) ⌝ }
 {
     let found = first_named(list, name);
     let Found::At(p) = found else {
@@ -45,7 +49,8 @@ fn value_in<'a>(list: &'a [u8], name: &[u8], fallback: &'a [u8]) -> &'a [u8]
 // The value of the first pair with that name, as a part of the store; the fallback where there is none, and where
 // the call is refused (2, 9, 1, 3, 4).
 pub fn value<'a>(c: Conn, store: &'a [u8], id: u16, name: &[u8], fallback: &'a [u8]) -> &'a [u8]
-    ensures { λ r. ⌜ now r ≡ value c (now (store .entry)) id (now (name .entry)) (now (fallback .entry)) ⌝ }
+    ensures { λ r. ⌜ (now r ≡ value c (now (store .entry)) id (now (name .entry)) (now (fallback .entry)))
+        × PartOrElse (store .entry) (fallback .entry) r (valuePlace c (now (store .entry)) id (now (name .entry))) ⌝ }
 {
     let listed = list_at(c, store, id);
     let Listed::At(a, e) = listed else {

@@ -1,18 +1,17 @@
 -- A place in a list of pairs, and the place past the pair there.
-use mathlib.Core.Path.{_≡_}
 use Prim.Native.Nat.{ℕ, zero, suc, _+_}
 use mathlib.Core.List.{List}
-use denote.Ref.{RefT, now}
+use denote.Ref.{now}
 use Rattle.pairs.specs.Pair.{pairAt}
 use Rattle.pair_list.specs.List.{onRead}
 use Rattle.pairs.specs.declared.pair.Read.{Read}
 use Rattle.pair_list.specs.declared.Found.{Found}
+use Rattle.wire.specs.Test.{if_then_else_, _=?_}
+use Rattle.connection.specs.declared.state.Conn.{Conn}
+use Rattle.connection.specs.Codes.{refusalNumber}
+use Rattle.connection.specs.Calls.{walk}
 use Rattle.call_walk.specs.declared.Walk.{Walk}
-
--- A slice that is the part of another from byte k on: the same block of memory, k bytes further on.
-pub record PartAt (whole part : RefT (List ℕ)) (k : ℕ) : Type 0 where
-  pub block : part .ptr .0 ≡ whole .ptr .0
-  pub place : part .ptr .1 ≡ k + whole .ptr .1
+use Rattle.call_walk.specs.declared.ReadFrom.{ReadFrom}
 
 -- The place past the pair at a place; the same place at the end and before a malformed pair.
 unfoldable pub pastAt : List ℕ → ℕ → ℕ
@@ -35,3 +34,19 @@ pastPair w = record { list = w .list; place = pastAt (now (w .list)) (w .place);
 unfoldable pub pastPairs : ℕ → Walk → Walk
 pastPairs zero w = w
 pastPairs (suc k) w = pastPairs k (pastPair w)
+
+-- Reading on from a place of a request's list: what is read there, or the number of the walk's refusal.
+pub data ReadAnswer : Type 0 where
+  ReadIs : Read → ReadAnswer
+  ReadRefused : ℕ → ReadAnswer
+
+unfoldable pub readFrom : Conn → List ℕ → ℕ → ℕ → ReadAnswer
+readFrom c store id place =
+    if walk c store id .refusal =? 0 then ReadIs (pairAt (walk c store id .list) place) else ReadRefused (walk c store id .refusal)
+
+-- what the code answers, read in the rules' numbers
+abbrev pub readBy : ReadFrom → ReadAnswer
+readBy (ReadFrom.Pair p next) = ReadIs (Read.Pair p next)
+readBy ReadFrom.End = ReadIs Read.End
+readBy (ReadFrom.Malformed place) = ReadIs (Read.Malformed place)
+readBy (ReadFrom.Refused r) = ReadRefused (refusalNumber r)

@@ -4,14 +4,17 @@
 use call_list::Listed;
 use call_list::list_at;
 use codes::refusal_number;
+use connection::answer::Refusal;
 use connection::state::Conn;
+use pairs::pair::Pair;
 use pairs::pair::Read;
 use pairs::pair::read_pair;
 ghost use mathlib.Core.Path.{_≡_};
 ghost use Rattle.pairs.specs.Pair.{pairAt};
 ghost use Rattle.connection.specs.Calls.{walk};
 ghost use Rattle.call_list.specs.Listing.{listing};
-ghost use Rattle.call_walk.specs.Place.{PartAt, pastAt, pastPair};
+ghost use Rattle.call_list.specs.Part.{PartAt};
+ghost use Rattle.call_walk.specs.Place.{pastAt, pastPair, ReadIs, readBy, readFrom};
 
 // The list, a place in it, and the number of the refusal, 0 for none. A refused walk holds no bytes.
 pub struct Walk<'a> {
@@ -102,10 +105,40 @@ pub fn past_pair<'a>(w: Walk<'a>) -> Walk<'a>
     }
 }
 
-// Reading on from a place of a request's list, by the walk's own functions: for callers that hold a store and a number,
-// and no walk.
-pub fn pair_from(c: Conn, store: &[u8], id: u16, place: usize) -> Read
+// Reading on from a place of a request's list, by the walk's own functions.
+fn read_on(c: Conn, store: &[u8], id: u16, place: usize) -> Read
     ensures { λ r. ⌜ r ≡ pairAt (walk c (now (store .entry)) id .list) place ⌝ }
 {
     next_pair(moved_to(walk_pairs(c, store, id), place))
+}
+
+// What reading on from a place gives: a pair and the place after it, the end, a malformed pair and its place, or why
+// there is no walk.
+pub enum ReadFrom {
+    Pair(Pair, usize),
+    End,
+    Malformed(usize),
+    Refused(Refusal),
+}
+
+fn as_read(read: Read) -> ReadFrom
+    ensures { λ r. ⌜ readBy r ≡ ReadIs read ⌝ }
+{
+    match read {
+        Read::Pair(p, next) => ReadFrom::Pair(p, next),
+        Read::End => ReadFrom::End,
+        Read::Malformed(at) => ReadFrom::Malformed(at),
+    }
+}
+
+// Reading on from a place of a request's list, for callers that hold a store and a number and no walk. Refused as the
+// walk is (2, 9, 1, 3, 4).
+pub fn pair_from(c: Conn, store: &[u8], id: u16, place: usize) -> ReadFrom
+    ensures { λ r. ⌜ readBy r ≡ readFrom c (now (store .entry)) id place ⌝ }
+{
+    let listed = list_at(c, store, id);
+    match listed {
+        Listed::Refused(why) => ReadFrom::Refused(why),
+        Listed::At(_, _) => as_read(read_on(c, store, id, place)),
+    }
 }

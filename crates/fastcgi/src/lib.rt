@@ -56,6 +56,7 @@ pub use call_finish::FinishResult;
 pub use call_finish::Finished;
 pub use call_value::Numbered;
 pub use call_value::Source;
+pub use call_walk::ReadFrom;
 pub use call_walk::Walk;
 pub use connection::answer::Output;
 pub use connection::answer::Refusal;

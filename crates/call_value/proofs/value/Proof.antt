@@ -1,8 +1,13 @@
+use Prim.Native.Nat.{_-_}
 use native.Mathlib.Omega.{arith}
-use mathlib.Core.Path.{sym, ap, subst, _∙_}
+use native.Mathlib.Nat.{zero-add}
+use mathlib.Core.Path.{refl, sym, ap, subst, _∙_}
 use denote.Ref.{now}
+use lib.ListN.{take, drop}
+use Rattle.pair_list.specs.List.{firstNamed}
 use Rattle.call_list.specs.Listing.{listedBy}
 use Rattle.call_list.specs.Laws.{Within, listing-within, value-listed, first-in-none}
+use Rattle.call_list.specs.Part.{valuePlace, part-found}
 use borrow.Author.Needs.{needs}
 use Rattle.call_value.proofs.value.Statement.{statement}
 use Rattle.call_value.proofs.value.Tie as tie
@@ -17,7 +22,11 @@ enum-told : tie.Need-enum-told
 enum-told c = search needs
 
 returns : tie.Need-returns
-returns c = sym (value-listed _ _ _ _ _ ∙ simp (← c .before .before .list-at .ensures, c .enum-told .given .1, first-in-none))
+unfolding valuePlace
+returns c = (
+  sym (value-listed _ _ _ _ _ ∙ simp (← c .before .before .list-at .ensures, c .enum-told .given .1, first-in-none)),
+  rw (← c .before .before .list-at .ensures, c .enum-told .given .1, first-in-none) (record { block = refl; place = sym (zero-add _) }),
+)
 
 -- what is listed lies in the store
 inside : (c : tie.After-known-told)
@@ -39,7 +48,15 @@ value-in-requires : tie.Need-value-in-requires
 value-in-requires c κs = search needs
 
 returns-2 : tie.Need-returns-2
-returns-2 c = sym (value-listed _ _ _ _ _ ∙ simp (← c .before .before .before .before .before .list-at .ensures, c .before .before .before .listed .given .1, c .value-in .ensures))
+unfolding valuePlace
+returns-2 c =
+    let a = c .before .before .before .before .before .before .before .before .before .args in
+    let from = c .before .before .before .listed .given .0 .0 in
+    let to = c .before .before .before .listed .given .0 .1 .0 in (
+      sym (value-listed _ _ _ _ _ ∙ simp (← c .before .before .before .before .before .list-at .ensures, c .before .before .before .listed .given .1, c .value-in .ensures .0)),
+      rw (← c .before .before .before .before .before .list-at .ensures, c .before .before .before .listed .given .1)
+          (part-found (a .store) _ (a .fallback) (c .value-in .result) from (firstNamed (take (to - from) (drop from (now (a .store)))) (now (a .name))) (record { block = refl; place = refl }) (c .value-in .ensures .1)),
+    )
 
 pub value-spec : {M : Type 1} → statement M
 value-spec =

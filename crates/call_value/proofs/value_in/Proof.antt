@@ -1,6 +1,7 @@
 use Prim.Native.Nat.{_+_, _-_}
 use native.Mathlib.Omega.{arith}
-use mathlib.Core.Path.{_≡_, sym, _∙_}
+use native.Mathlib.Nat.{zero-add}
+use mathlib.Core.Path.{_≡_, refl, sym, _∙_}
 use denote.Ref.{now}
 use Rattle.pair_list.specs.ListLaws.{LiesIn, first-within}
 use borrow.Author.Needs.{needs}
@@ -17,7 +18,10 @@ enum-told : tie.Need-enum-told
 enum-told c = search needs
 
 returns : tie.Need-returns
-returns c = simp (← c .before .before .first-named .ensures, c .enum-told .given .1)
+returns c = (
+  simp (← c .before .before .first-named .ensures, c .enum-told .given .1),
+  rw (← c .before .before .first-named .ensures, c .enum-told .given .1) (record { block = refl; place = sym (zero-add _) }),
+)
 
 -- the pair that was found lies in the list
 found-in : (c : tie.After-struct-known) → LiesIn (now (c .before .before .before .before .before .before .before .before .args .list)) (c .before .before .found .given .0 .0)
@@ -38,8 +42,10 @@ part-result-end c = omega (arith, found-in c)
 returns-2 : tie.Need-returns-2
 returns-2 c =
     let p = c .before .before .before .found .given .0 .0 in
-    let n : p .value + p .«value_len» - p .value ≡ p .«value_len» = omega arith in
-    simp (n, ← c .before .before .before .before .before .first-named .ensures, c .before .before .before .found .given .1)
+    let n : p .value + p .«value_len» - p .value ≡ p .«value_len» = omega arith in (
+      simp (n, ← c .before .before .before .before .before .first-named .ensures, c .before .before .before .found .given .1),
+      rw (← c .before .before .before .before .before .first-named .ensures, c .before .before .before .found .given .1) (record { block = refl; place = refl }),
+    )
 
 pub value-in-spec : {M : Type 1} → statement M
 value-in-spec =

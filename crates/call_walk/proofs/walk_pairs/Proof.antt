@@ -45,7 +45,7 @@ use Rattle.connection.specs.Calls.{walk}
 use Rattle.connection.proofs.state.Conn as K
 use Rattle.connection.proofs.state.Conn.Laws as K′
 use Rattle.call_list.specs.Listing.{listing}
-use Rattle.call_walk.specs.Place.{PartAt}
+use Rattle.call_list.specs.Part.{PartAt}
 use Rattle.call_walk.specs.declared.Walk.{Walk}
 use Rattle.call_walk.proofs.Held.{Decl, laws, mach}
 use Rattle.call_walk.proofs.list_of as list-of

@@ -1,2 +1,0 @@
-pub mod Drained
-pub mod Laws
