@@ -1,50 +1,14 @@
--- What a machine of one request has to show. Isolation asks nothing of it. `Bulk` is asked for cutting: content at
--- once is content byte by byte. `Laws` is asked for shape: what a request decides keeps it in shape.
--- What a change of one request has to show again. A new field: what RequestOk says of it, in header-ok, byte-ok,
--- begin-ok and call-ok, and same-request if content changes it. A new fault: header-ok where a header gives it;
--- byte-ok and both laws of Bulk where content does. A new call: call-ok. A new stream: what StreamOk says of it, in
--- header-ok and byte-ok, and both laws of Bulk. Nothing else of this crate is touched by any of them.
+-- What a machine of one request has to show. Isolation asks nothing of it. `Laws` is asked for shape: what a request
+-- decides keeps it in shape. A change of one request has to show again: for a new field, what RequestOk says of it, in
+-- header-ok, byte-ok, begin-ok and call-ok; for a new fault, header-ok where a header gives it and byte-ok where
+-- content does; for a new call, call-ok; for a new stream, what StreamOk says of it, in header-ok and byte-ok. Nothing
+-- else of this crate is touched by any of them.
 use mathlib.Core.Path.{_≡_}
-use mathlib.Core.List.{List, [], _∷_, _++_}
-use mathlib.Core.Option.{Option, none, some}
+use mathlib.Core.List.{List}
+use mathlib.Core.Option.{none, some}
 use Prim.Native.Nat.{ℕ, suc, _≤_, _<_}
 use Rattle.machine.specs.Machine.{HeaderOutcome, Decided, BeginOutcome, Declined, Accepted, CallOutcome, Stays, Leaves, Closes, InactiveOutcome, WrongBegin, NewBegin, PassedOver, ManagementOutcome, QueryTooLong, Notices, Gathers, Machine}
 
--- ---- content at once
-module _ (M : Machine) where
-  open Machine M using (Request, Stream, Event, onByte)
-
-  -- the request after content bytes one by one
-  unfoldable pub requestAfter : Stream → List ℕ → Request → Request
-  requestAfter k [] r = r
-  requestAfter k (b ∷ x) r = requestAfter k x ((onByte k b r) .0)
-
-  -- an event, if there is one, as a list
-  unfoldable pub eventList : Option Event → List Event
-  eventList none = []
-  eventList (some e) = e ∷ []
-
-  -- and the events on the way
-  unfoldable pub eventsDuring : Stream → List ℕ → Request → List Event
-  eventsDuring k [] r = []
-  eventsDuring k (b ∷ x) r = eventList ((onByte k b r) .1) ++ eventsDuring k x ((onByte k b r) .0)
-
-  -- the events that one event over several bytes stands for
-  unfoldable pub eventsShown : {DataEvent : Type 0} → (DataEvent → List Event) → Option DataEvent → List Event
-  eventsShown f none = []
-  eventsShown f (some d) = f d
-
-  -- Content at once, with at most one event for all of it.
-  pub record Bulk : Type 1 where
-    pub DataEvent : Type 0
-    pub onContent : Stream → List ℕ → Request → Request × Option DataEvent
-    -- the events of single bytes that it counts as
-    pub eachByte : DataEvent → List Event
-    -- Both laws are for content that is not empty: no bytes are no content.
-    pub same-request : (k : Stream) (b : ℕ) (x : List ℕ) (r : Request) → (onContent k (b ∷ x) r) .0 ≡ requestAfter k (b ∷ x) r
-    pub same-events : (k : Stream) (b : ℕ) (x : List ℕ) (r : Request) → eventsShown eachByte ((onContent k (b ∷ x) r) .1) ≡ eventsDuring k (b ∷ x) r
-
--- ---- shape
 -- the request after a header is in shape, and so is the content that it takes
 abbrev pub HeaderOutcomeOk : {Request Stream Event : Type 0} → (Request → Type 0) → (Stream → ℕ → Request → Type 0) → ℕ → HeaderOutcome Request Stream Event → Type 0
 HeaderOutcomeOk RequestOk StreamOk c (Decided q e none) = RequestOk q

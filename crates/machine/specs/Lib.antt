@@ -11,17 +11,11 @@ pub mod SimulationCalls
 pub mod Simulation
 pub mod Isolation
 pub mod IsolationPrefix
-pub mod Life
 pub mod Shuffled
 pub mod Laws
-pub mod Pieces
-pub mod Cutting
-pub mod IsolationOfRuns
 pub mod Shape
 pub mod ShapeSlots
 pub mod ShapeHeader
 pub mod ShapeContent
 pub mod ShapeCalls
 pub mod ShapeKept
-pub mod Progress
-pub mod PurgedRuns

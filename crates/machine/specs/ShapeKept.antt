@@ -3,13 +3,11 @@ use mathlib.Core.Path.{_≡_, refl, sym, _∙_}
 use mathlib.Core.List.{List, [], _∷_}
 use Prim.Native.Nat.{ℕ, zero, suc}
 use native.Mathlib.Omega.{arith}
-use lib.ListN.{take, replicate, length-replicate}
+use lib.ListN.{replicate, length-replicate}
 use Rattle.machine.specs.Slots.{SlotState, Vacant, HeldBy, lookup, slotAt, lookup-right}
 use Rattle.machine.specs.Timeline.{RequestCall, CountCall, Item, ByteItem, CallItem, byteItems}
 use Rattle.machine.specs.Machine.{Machine, Connection, Open, Closed, fresh, onItem, stateAfter}
-use Rattle.machine.specs.Laws.{Bulk, Laws}
-use Rattle.machine.specs.Pieces.{needed, usedBytes, onPiece}
-use Rattle.machine.specs.Cutting.{piece-cut}
+use Rattle.machine.specs.Laws.{Laws}
 use Rattle.machine.specs.Shape.{BytesOk, ItemOk, ItemsOk, ItemsEnd, ItemsMore, SlotsOk, WellShaped}
 use Rattle.machine.specs.ShapeContent.{shape-record-byte}
 use Rattle.machine.specs.ShapeCalls.{shape-call}
@@ -58,19 +56,3 @@ module _ (M : Machine) where
   unfolding byteItems
   items-all [] h = ItemsEnd
   items-all (b ∷ x) h = ItemsMore (h 0) (items-all x (λ i. h (suc i)))
-
-  bytes-taken : (n : ℕ) (x : List ℕ) → BytesOk x → BytesOk (take n x)
-  bytes-taken zero x h i = omega arith
-  bytes-taken (suc n) [] h i = omega arith
-  bytes-taken (suc n) (b ∷ x) h zero = h 0
-  bytes-taken (suc n) (b ∷ x) h (suc i) = bytes-taken n x (λ j. h (suc j)) i
-
-  bytes-used : (s : Connection M) (x : List ℕ) → BytesOk x → BytesOk (usedBytes M s x)
-  unfolding usedBytes
-  bytes-used Closed x h i = omega arith
-  bytes-used (Open T F) x h i = bytes-taken (needed M F) x h i
-
-module _ (M : Machine) (U : Bulk M) (L : Laws M) where
-  -- a step over a piece of bytes
-  pub shape-piece : (s : Connection M) (x : List ℕ) → BytesOk x → WellShaped M L s → WellShaped M L ((onPiece M U s x) .0)
-  shape-piece s x b h = rw ((piece-cut M U s x) .same-state) (shape-after M L s (items-all M (usedBytes M s x) (bytes-used M s x b)) h)

@@ -2,7 +2,7 @@
 -- area is zero beyond its list.
 use mathlib.Core.Path.{_≡_, refl, ap, ap₂, sym, _∙_}
 use mathlib.Core.List.{List, [], _∷_, _++_}
-use mathlib.Core.Option.{Option, some}
+use mathlib.Core.Option.{Option}
 use mathlib.Core.Bool.{Bool, true, false}
 use mathlib.Core.Logic.{_⊎_, inl, inr}
 use Prim.Native.Nat.{ℕ, suc, _+_, _-_, _≤_, _<_}
@@ -17,7 +17,7 @@ use Rattle.wire.specs.BufferLaws.{copied-room, put-length}
 use Rattle.record.specs.Names.{BEGIN-REQUEST, ABORT-REQUEST, GET-VALUES, RESPONDER, AUTHORIZER, FILTER}
 use Rattle.record.specs.Body.{beginBodyOf}
 use Rattle.machine.specs.Machine.{Decided, Stays, Leaves, Closes}
-use Rattle.machine.specs.Laws.{Bulk, requestAfter, eventsDuring, eventsShown, Laws, HeaderOutcomeOk, BeginOutcomeOk, CallOutcomeOk, InactiveOutcomeOk, ManagementOutcomeOk}
+use Rattle.machine.specs.Laws.{Laws, HeaderOutcomeOk, BeginOutcomeOk, CallOutcomeOk, InactiveOutcomeOk, ManagementOutcomeOk}
 use Rattle.connection.specs.declared.request.Turn.{Turn}
 use Rattle.connection.specs.declared.request.Due.{Due}
 use Rattle.connection.specs.declared.request.Request.{Request}
@@ -25,7 +25,7 @@ use Rattle.connection.specs.declared.request.Role.{Role}
 use Rattle.connection.specs.declared.answer.Output.{Output}
 use Rattle.connection.specs.Sizes.{SLOTS, AREA, QUERY}
 use Rattle.connection.specs.Event.{Event}
-use Rattle.connection.specs.Request.{Held, listOf, isSpent, isInput, turnType, faulted, aborted, turned, paramsFault, paramsEnded, onParams, onStdin, onData, inTurn, onInput, onLive, onHeader, grown, onContent, opened}
+use Rattle.connection.specs.Request.{Held, listOf, isSpent, isInput, turnType, faulted, aborted, turned, paramsFault, paramsEnded, onParams, onStdin, onData, inTurn, onInput, onLive, onHeader, grown, opened}
 use Rattle.connection.specs.RequestCalls as Of
 use Rattle.connection.specs.Laws.RequestShape.{Room, keeps-header}
 use Rattle.connection.specs.Laws.CuttingContent.{grown-room}
@@ -253,20 +253,4 @@ receiver-laws =
       call-ok = call-ok;
       inactive-ok = inactive-ok;
       management-ok = management-ok;
-    }
-
--- ---- content at once
-pub shown : (l : List Note) → eventsShown receiver (λ (k : List Note). k) (some l) ≡ l
-unfolding eventsShown
-shown l = refl
-
--- What content comes to at once is what its bytes come to, one by one.
-abbrev pub receiver-bulk : Bulk receiver
-receiver-bulk =
-    record {
-      DataEvent = List Note;
-      onContent = λ due x h. (requestAfter receiver due x h, some (eventsDuring receiver due x h));
-      eachByte = λ l. l;
-      same-request = λ due b x h. refl;
-      same-events = λ due b x h. shown (eventsDuring receiver due (b ∷ x) h);
     }
