@@ -15,7 +15,7 @@ pub fn id(word: &str) -> Option<u16> {
 
 /// The room of a writer's buffer.
 pub fn room(word: &str) -> Option<usize> {
-    number(word, 65_536).map(|n| n as usize)
+    number(word, 70_000).map(|n| n as usize)
 }
 
 /// To the letter: `01` is none.

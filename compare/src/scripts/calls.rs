@@ -98,7 +98,7 @@ impl Draft {
             7 => 64,
             _ => needed + self.random.index(300),
         }
-        .min(65_536)
+        .min(70_000)
     }
 
     /// Mostly a name that the request has.

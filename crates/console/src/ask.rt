@@ -1,6 +1,7 @@
 // The questions: they change nothing.
 use crate::command::ACTIVE;
 use crate::command::AREA_OF;
+use crate::command::LONG;
 use crate::command::PAIR;
 use crate::command::STORE;
 use crate::command::VALUE;
@@ -14,24 +15,24 @@ use crate::page::put_number;
 use crate::words::count_of;
 use crate::words::part;
 use crate::write::put_refused;
-use call_count::Count;
-use call_count::active_count;
-use call_value::Numbered;
-use call_value::Source;
-use call_value::pair_at;
-use call_value::value;
-use call_value::value_source;
 use call_walk::list_of;
 use call_walk::list_refusal;
-use call_walk::pair_from;
-use codes::refusal_number;
-use connection::sizes::AREA;
-use connection::sizes::SLOTS;
-use connection::state::Conn;
 use connection::state::Slot;
 use connection::state::Table;
-use pairs::pair::Pair;
-use pairs::pair::Read;
+use fastcgi::AREA;
+use fastcgi::Conn;
+use fastcgi::Count;
+use fastcgi::Numbered;
+use fastcgi::Pair;
+use fastcgi::ReadFrom;
+use fastcgi::SLOTS;
+use fastcgi::Source;
+use fastcgi::active_count;
+use fastcgi::pair_at;
+use fastcgi::pair_from;
+use fastcgi::refusal_number;
+use fastcgi::value;
+use fastcgi::value_source;
 use slot_word::is_taken;
 use wire::least;
 
@@ -93,24 +94,33 @@ fn put_walk(page: &mut [u8], at: usize, c: Conn, lent: &[u8], id: u16) -> usize 
     let mut turns = u64::MAX;
     while turns > 0 {
         let read = pair_from(c, lent, id, place);
-        let Read::Pair(p, behind) = read else {
+        let ReadFrom::Pair(p, after) = read else {
             return put_stop(page, next, place);
         };
         next = put_pair(page, next, p, b",");
-        place = behind;
+        place = after;
         turns -= 1;
     }
     put_stop(page, next, place)
 }
 
+// A refused walk holds no bytes: one that did would be told as a change.
+fn put_no_walk(page: &mut [u8], why: u8, length: usize) -> usize {
+    let a = put_refused(page, 0, why);
+    if 0 < length {
+        return put(page, a, b" changed");
+    }
+    a
+}
+
 // The list's length and its pairs.
 fn ask_walk(page: &mut [u8], c: Conn, lent: &[u8], id: u16) -> usize {
     let why = list_refusal(c, lent, id);
-    if 0 < why {
-        return put_refused(page, 0, why);
-    }
     let list = list_of(c, lent, id);
     let length = list.len();
+    if 0 < why {
+        return put_no_walk(page, why, length);
+    }
     let a = put(page, 0, b"walk");
     let b = put_number(page, a, b" ", length as u64);
     put_walk(page, b, c, lent, id)
@@ -172,11 +182,41 @@ fn ask_area(page: &mut [u8], c: Conn, store: &[u8], id: u16) -> usize {
     put_hex(page, a, area_of(t, store, i))
 }
 
-// How many bytes of the store are not zero.
+// The place of the first byte that is not zero; 0 where all are.
+fn first_set(store: &[u8]) -> usize {
+    let mut i: usize = 0;
+    while i < store.len() {
+        if store[i] != 0 {
+            return i;
+        }
+        i += 1;
+    }
+    0
+}
+
+// The place of the last byte that is not zero; 0 where all are.
+fn last_set(store: &[u8]) -> usize {
+    let mut i = store.len();
+    while 0 < i {
+        i -= 1;
+        if store[i] != 0 {
+            return i;
+        }
+    }
+    0
+}
+
+// How many bytes of the store are not zero, and where the first and the last of them lie.
 fn ask_store(page: &mut [u8], store: &[u8]) -> usize {
     let zeros = count_of(store, 0);
+    let set = store.len() - zeros;
     let a = put(page, 0, b"store");
-    put_number(page, a, b" ", (store.len() - zeros) as u64)
+    let b = put_number(page, a, b" ", set as u64);
+    if set == 0 {
+        return b;
+    }
+    let d = put_number(page, b, b" ", first_set(store) as u64);
+    put_number(page, d, b" ", last_set(store) as u64)
 }
 
 // What a question is answered, over the store and as much of it as is lent.
@@ -200,6 +240,7 @@ fn put_answer<'a>(
         AREA_OF => ask_area(page, c, store, id),
         PAIR => ask_pair(page, c, seen, id, n),
         VALUE => ask_value(page, c, seen, id, part(bytes, 0, n), part(bytes, n, m)),
+        LONG => put(page, 0, b"long"),
         _ => put(page, 0, b"what"),
     }
 }

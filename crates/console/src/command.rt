@@ -2,7 +2,9 @@
 use crate::form::Form;
 use crate::form::UNKNOWN;
 use crate::form::read_form;
+use crate::poke::POKE;
 use crate::poke::TARGET;
+use crate::words::part;
 use crate::words::rest;
 use crate::words::word;
 use wire::same;
@@ -27,23 +29,46 @@ pub const LEND: u64 = 7;
 
 pub const STEP: u64 = 8;
 
+pub const FEED: u64 = 9;
+
 // Commands that write into a lent room.
-pub const OWED: u64 = 9;
+pub const OWED: u64 = 10;
 
-pub const END: u64 = 10;
+pub const END: u64 = 11;
 
-pub const PUT: u64 = 11;
+pub const PUT: u64 = 12;
 
-pub const FINISH: u64 = 12;
+pub const FINISH: u64 = 13;
 
-pub const SAY: u64 = 13;
+pub const SAY: u64 = 14;
 
-// Whether a line asks without changing anything; so does one that is no command.
+// A line that is too long.
+pub const LONG: u64 = 98;
+
+// Whether a line asks without changing anything; so does one that is too long or no command.
 pub fn is_question(kind: u64) -> bool {
     if kind < START {
         return true;
     }
-    kind == UNKNOWN
+    LONG <= kind
+}
+
+// The size of the pieces that bytes are fed in; 0 for a single step.
+pub fn size_of(f: Form) -> usize {
+    let values = f.values;
+    if f.kind == FEED {
+        return values[0] as usize;
+    }
+    0
+}
+
+// Where the bytes of a step or a feed end.
+pub fn end_of(f: Form) -> usize {
+    let values = f.values;
+    if f.kind == FEED {
+        return values[1] as usize;
+    }
+    values[0] as usize
 }
 
 // The room of a command that writes: its last argument.
@@ -58,11 +83,11 @@ pub fn room_of(f: Form) -> usize {
 }
 
 // A line that is no poke.
-pub fn read_command(line: &[u8], bytes: &mut [u8]) -> Form {
+fn read_command(line: &[u8], bytes: &mut [u8]) -> Form {
     read_form(
         line,
-        b"active store walk area pair value start lend step owed end put finish say",
-        b"- - i i ik ihh - l h m iom hhm ium iohm",
+        b"active store walk area pair value start lend step feed owed end put finish say",
+        b"- - i i ik ihh - l h nh m iom hhm ium iohm",
         bytes,
     )
 }
@@ -87,23 +112,44 @@ fn read_target(line: &[u8], bytes: &mut [u8]) -> Form {
     )
 }
 
-// The number of a target among the fields.
-fn as_field(target: u64) -> u64 {
-    if target < UNKNOWN {
-        return TARGET + target;
+// A number counted from another one on; what is in no table stays so.
+fn plus(first: u64, kind: u64) -> u64 {
+    if kind < UNKNOWN {
+        if first < UNKNOWN {
+            return first + kind;
+        }
     }
     UNKNOWN
 }
 
-// What stands after the word `poke`.
-pub fn read_poke(line: &[u8], bytes: &mut [u8]) -> Form {
+// A form with its number counted from another one on.
+fn counted_from(first: u64, f: Form) -> Form {
+    let values = f.values;
+    Form {
+        kind: plus(first, f.kind),
+        values: values,
+    }
+}
+
+// What stands behind the word `poke`.
+fn read_poke(line: &[u8], bytes: &mut [u8]) -> Form {
     if same(word(line, 0), b"target") {
-        let f = read_target(rest(line), bytes);
-        let values = f.values;
+        return counted_from(TARGET, read_target(rest(line), bytes));
+    }
+    counted_from(POKE, read_field(line, bytes))
+}
+
+// A line of so many characters.
+pub fn read_line(line: &[u8], held: usize, bytes: &mut [u8]) -> Form {
+    if line.len() < held {
         return Form {
-            kind: as_field(f.kind),
-            values: values,
+            kind: LONG,
+            values: [0; 4],
         };
     }
-    read_field(line, bytes)
+    let text = part(line, 0, held);
+    if same(word(text, 0), b"poke") {
+        return read_poke(rest(text), bytes);
+    }
+    read_command(text, bytes)
 }

@@ -4,11 +4,16 @@
 use crate::hex::decode;
 use crate::number::Number;
 use crate::number::number_of;
+use crate::state::WHOLE;
 use crate::words::choice;
 use crate::words::count_of;
 use crate::words::part;
 use crate::words::word;
+use fastcgi::QUERY;
 use wire::same;
+
+// The most bytes in hex that a line gives.
+pub const BYTES: usize = 70000;
 
 // The kind of a line that is in no table.
 pub const UNKNOWN: u64 = 99;
@@ -27,6 +32,18 @@ pub fn unknown() -> Form {
     }
 }
 
+// The size of a piece: a piece has at least one byte.
+fn piece_size(w: &[u8]) -> Number {
+    let read = number_of(w, 65536);
+    let Number::Is(n) = read else {
+        return Number::Not;
+    };
+    if n == 0 {
+        return Number::Not;
+    }
+    Number::Is(n)
+}
+
 // An argument that is a number: the letters say how large it may be.
 fn numeral(kind: u8, w: &[u8]) -> Number {
     match kind {
@@ -34,19 +51,20 @@ fn numeral(kind: u8, w: &[u8]) -> Number {
         b's' => number_of(w, 15),
         b'b' => number_of(w, 255),
         b'p' => number_of(w, 32767),
-        b'l' => number_of(w, 32768),
-        b'm' => number_of(w, 65536),
+        b'l' => number_of(w, WHOLE as u64),
+        b'm' => number_of(w, BYTES as u64),
+        b'n' => piece_size(w),
         b'u' => number_of(w, 4294967295),
         _ => number_of(w, u64::MAX),
     }
 }
 
-// An argument of any kind. Bytes in hex are put after those of the line that were put already.
+// An argument of any kind. Bytes in hex are put behind those of the line that were put already.
 fn argument(kind: u8, w: &[u8], bytes: &mut [u8], at: usize) -> Number {
     match kind {
-        b'h' => decode(w, 35000, bytes, at),
+        b'h' => decode(w, BYTES, bytes, at),
         b'8' => decode(w, 8, bytes, at),
-        b'5' => decode(w, 512, bytes, at),
+        b'5' => decode(w, QUERY, bytes, at),
         b'o' => choice(b"stdout stderr", w),
         b'f' => choice(b"0 1", w),
         b'r' => choice(b"1 2 3", w),
@@ -56,7 +74,7 @@ fn argument(kind: u8, w: &[u8], bytes: &mut [u8], at: usize) -> Number {
     }
 }
 
-// Where the bytes end after an argument.
+// Where the bytes end behind an argument.
 fn bytes_end(kind: u8, n: u64, before: usize) -> usize {
     if kind == b'h' {
         return n as usize;

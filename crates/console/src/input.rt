@@ -6,7 +6,7 @@ ghost use Prim.Native.Nat.{_≤_};
 ghost use lib.ListN.{length};
 
 // The most characters of a line.
-pub const LINE: usize = 70000;
+pub const LINE: usize = 140000;
 
 // What was read of the input and not cut into lines yet lies in a buffer between two places. Of the line that is being
 // cut so many characters are held, LINE + 1 of one that is too long. `more` says that the line is there.

@@ -2,9 +2,12 @@
 mod answer;
 mod ask;
 mod command;
+mod feeding;
 mod form;
 mod hex;
+mod image;
 mod input;
+mod kept;
 mod number;
 mod page;
 mod poke;
@@ -15,31 +18,15 @@ mod words;
 mod write;
 
 use crate::answer::answer;
-use crate::answer::tell;
+use crate::command::read_line;
+use crate::form::BYTES;
 use crate::input::Input;
 use crate::input::LINE;
 use crate::input::next_line;
-use crate::state::State;
+use crate::kept::KEPT;
+use crate::state::WHOLE;
 use crate::state::fresh;
-
-// Answers a line of so many characters.
-fn answer_line(
-    s: State,
-    line: &[u8],
-    held: usize,
-    store: &mut [u8],
-    gathered: &mut [u8; 512],
-    bytes: &mut [u8],
-    out: &mut [u8],
-    page: &mut [u8],
-) -> State {
-    if line.len() < held {
-        tell(page, b"long");
-        return s;
-    }
-    let z: usize = 0;
-    answer(s, &line[z..held], store, gathered, bytes, out, page)
-}
+use fastcgi::QUERY;
 
 // Answers every line. A proved loop has to end, and nothing says that the input does: so it counts its turns down, from
 // a number that no run uses up.
@@ -47,7 +34,8 @@ fn answer_all(
     piece: &mut [u8],
     line: &mut [u8],
     store: &mut [u8],
-    gathered: &mut [u8; 512],
+    gathered: &mut [u8; QUERY],
+    kept: &mut [u8],
     bytes: &mut [u8],
     out: &mut [u8],
     page: &mut [u8],
@@ -63,27 +51,30 @@ fn answer_all(
     while turns > 0 {
         turns -= 1;
         input = next_line(input, piece, line);
-        if !input.more {
+        if input.more {} else {
             return;
         }
-        state = answer_line(state, line, input.held, store, gathered, bytes, out, page);
+        let f = read_line(line, input.held, bytes);
+        state = answer(state, f, store, gathered, kept, bytes, out, page);
     }
 }
 
 // The buffers are made once.
 fn main() {
-    let mut store = [0u8; 32768];
-    let mut gathered = [0u8; 512];
+    let mut store = [0u8; WHOLE];
+    let mut gathered = [0u8; QUERY];
     let mut piece = io::large_buffer();
     let mut line = [0u8; LINE];
-    let mut bytes = [0u8; 35000];
-    let mut out = io::large_buffer();
+    let mut kept = [0u8; KEPT];
+    let mut bytes = [0u8; BYTES];
+    let mut out = [0u8; BYTES];
     let mut page = io::large_buffer();
     answer_all(
         &mut piece,
         &mut line,
         &mut store,
         &mut gathered,
+        &mut kept,
         &mut bytes,
         &mut out,
         &mut page,

@@ -11,7 +11,7 @@ fn flush(page: &[u8], at: usize) -> usize {
     z
 }
 
-// Where so many bytes go: after what the page holds, or at its start once that is written out.
+// Where so many bytes go: behind what the page holds, or at its start once that is written out.
 fn with_room(page: &[u8], at: usize, n: usize) -> usize {
     if at <= page.len() {
         if n <= page.len() - at {
@@ -21,8 +21,8 @@ fn with_room(page: &[u8], at: usize, n: usize) -> usize {
     flush(page, at)
 }
 
-// Puts text at a place that has room for it, and answers the place after it.
-fn put_at(page: &mut [u8], at: usize, text: &[u8]) -> usize {
+// Puts text at a place that has room for it, and answers the place behind it.
+pub fn put_at(page: &mut [u8], at: usize, text: &[u8]) -> usize {
     if page.len() < at {
         return at;
     }
@@ -33,7 +33,7 @@ fn put_at(page: &mut [u8], at: usize, text: &[u8]) -> usize {
     at + text.len()
 }
 
-// Puts text after what the page holds, and answers the place after it.
+// Puts text behind what the page holds, and answers the place behind it.
 pub fn put(page: &mut [u8], at: usize, text: &[u8]) -> usize {
     let place = with_room(page, at, text.len());
     put_at(page, place, text)
@@ -54,7 +54,7 @@ fn hex_digit(b: u8) -> u8 {
 }
 
 // Two hex digits for each byte.
-fn put_pairs(page: &mut [u8], at: usize, bytes: &[u8]) -> usize {
+pub fn put_pairs(page: &mut [u8], at: usize, bytes: &[u8]) -> usize {
     let mut place = at;
     let mut i: usize = 0;
     while i < bytes.len() {

@@ -1,67 +1,72 @@
-// Fields of the state set to whatever is given. A field has the number of its name in the table of fields.
+// Fields of the state set to whatever is given. A field has the number of its name in the table of fields, counted
+// from POKE on.
 use crate::number::low8;
 use crate::number::low16;
 use crate::words::part;
 use connection::request::Life;
 use connection::request::RequestState;
-use connection::request::Role;
 use connection::request::Turn;
-use connection::sizes::SLOTS;
-use connection::state::Conn;
 use connection::state::Frame;
 use connection::state::Table;
 use connection::state::Target;
+use fastcgi::Conn;
+use fastcgi::QUERY;
+use fastcgi::Role;
+use fastcgi::SLOTS;
 use record_reader::Position;
 use wire::clear;
 use wire::copy_into;
 use wire::least;
 
-// Fields that are one for the connection.
-const OPEN: u64 = 0;
+// The first field: smaller numbers are those of commands.
+pub const POKE: u64 = 50;
 
-const OCCUPIED: u64 = 1;
+// Fields that are one for the connection.
+const OPEN: u64 = 50;
+
+const OCCUPIED: u64 = 51;
 
 // Fields of a slot.
-const ID: u64 = 2;
+const ID: u64 = 52;
 
-const LENGTH: u64 = 3;
+const LENGTH: u64 = 53;
 
-const ROLE: u64 = 4;
+const ROLE: u64 = 54;
 
-const KEEP: u64 = 5;
+const KEEP: u64 = 55;
 
-const TURN: u64 = 6;
+const TURN: u64 = 56;
 
-const SPENT: u64 = 7;
+const SPENT: u64 = 57;
 
-const OUT_ENDED: u64 = 8;
+const OUT_ENDED: u64 = 58;
 
-const ERR_USED: u64 = 9;
+const ERR_USED: u64 = 59;
 
-const ERR_ENDED: u64 = 10;
+const ERR_ENDED: u64 = 60;
 
 // Fields of the record being read.
-const HELD: u64 = 11;
+const HELD: u64 = 61;
 
-const HEADER: u64 = 12;
+const HEADER: u64 = 62;
 
-const CONTENT: u64 = 13;
+const CONTENT: u64 = 63;
 
-const PADDING: u64 = 14;
+const PADDING: u64 = 64;
 
-const GATHERED: u64 = 15;
+const GATHERED: u64 = 65;
 
-const BODY: u64 = 16;
+const BODY: u64 = 66;
 
 // A byte of the store.
-const BYTE: u64 = 17;
+const BYTE: u64 = 67;
 
 // From here on, what the content of the record being read is for.
-pub const TARGET: u64 = 20;
+pub const TARGET: u64 = 70;
 
 // A role set or left; so are the other kinds of fields below.
 fn role_if(hit: bool, n: u64, before: Role) -> Role {
-    if !hit {
+    if hit {} else {
         return before;
     }
     match n {
@@ -73,7 +78,7 @@ fn role_if(hit: bool, n: u64, before: Role) -> Role {
 
 // A turn set or left.
 fn turn_if(hit: bool, n: u64, before: Turn) -> Turn {
-    if !hit {
+    if hit {} else {
         return before;
     }
     match n {
@@ -86,7 +91,7 @@ fn turn_if(hit: bool, n: u64, before: Turn) -> Turn {
 
 // A life set or left.
 fn life_if(hit: bool, n: u64, before: Life) -> Life {
-    if !hit {
+    if hit {} else {
         return before;
     }
     match n {
@@ -138,8 +143,8 @@ fn eight_if(hit: bool, bytes: &[u8], before: [u8; 8]) -> [u8; 8] {
     before
 }
 
-// The marks with a field set, if it is one of theirs.
-fn mark_with(m: RequestState, field: u64, n: u64) -> RequestState {
+// The state of a request with a field set, if it is one of its own.
+fn state_with(m: RequestState, field: u64, n: u64) -> RequestState {
     let role = m.role;
     let turn = m.turn;
     let life = m.life;
@@ -168,10 +173,10 @@ fn table_with(t: Table, field: u64, a: u64, b: u64) -> Table {
     let mut table = t;
     table.occupied = number_if(field == OCCUPIED, a, t.occupied);
     if i < SLOTS {
-        let mark = t.states[i];
+        let state = t.states[i];
         table.ids[i] = number_if(field == ID, b, t.ids[i]);
         table.lengths[i] = number_if(field == LENGTH, b, t.lengths[i]);
-        table.states[i] = mark_with(mark, field, b);
+        table.states[i] = state_with(state, field, b);
     }
     table
 }
@@ -197,18 +202,16 @@ fn frame_with(f: Frame, field: u64, n: u64, bytes: &[u8]) -> Frame {
 
 // The connection with a field set to a, or of slot a to b.
 pub fn poked(c: Conn, field: u64, a: u64, b: u64, bytes: &[u8]) -> Conn {
-    let t = c.table;
-    let f = c.frame;
     let eight = part(bytes, 0, least(a as usize, 8));
     Conn {
-        table: table_with(t, field, a, b),
-        frame: frame_with(f, field, a, eight),
+        table: table_with(c.table, field, a, b),
+        frame: frame_with(c.frame, field, a, eight),
         open: flag_if(field == OPEN, a, c.open),
     }
 }
 
 // A byte of the store set.
-pub fn poke_store(store: &mut [u8], field: u64, a: u64, b: u64) {
+fn poke_store(store: &mut [u8], field: u64, a: u64, b: u64) {
     let i = a as usize;
     if field == BYTE {
         if i < store.len() {
@@ -218,9 +221,22 @@ pub fn poke_store(store: &mut [u8], field: u64, a: u64, b: u64) {
 }
 
 // The gathered bytes set to the first n, zeros after those.
-pub fn poke_gathered(gathered: &mut [u8; 512], field: u64, n: u64, bytes: &[u8]) {
+fn poke_gathered(gathered: &mut [u8; QUERY], field: u64, n: u64, bytes: &[u8]) {
     if field == BODY {
         clear(gathered);
         copy_into(gathered, 0, part(bytes, 0, n as usize));
     }
+}
+
+// What a field sets beside the connection.
+pub fn poke_bytes(
+    field: u64,
+    a: u64,
+    b: u64,
+    store: &mut [u8],
+    gathered: &mut [u8; QUERY],
+    bytes: &[u8],
+) {
+    poke_store(store, field, a, b);
+    poke_gathered(gathered, field, a, bytes);
 }

@@ -1,7 +1,11 @@
 // What the console keeps from line to line, beside the buffers.
 use conn_frame::closed;
-use connection::event::Event;
-use connection::state::Conn;
+use fastcgi::Conn;
+use fastcgi::Event;
+use fastcgi::STORE;
+
+// The store has one byte more than a connection takes, so that one that is too long can be lent.
+pub const WHOLE: usize = STORE + 1;
 
 // The connection, the event of the last step that was not refused, and how many bytes of the store are lent.
 pub struct State {
@@ -10,13 +14,13 @@ pub struct State {
     pub lent: usize,
 }
 
-// A closed connection, no event, and the whole store lent.
+// A closed connection, no event, and a store of the right size lent.
 pub fn fresh() -> State {
     let c = closed();
     State {
         conn: c,
         event: Event::Nothing,
-        lent: 32768,
+        lent: STORE,
     }
 }
 

@@ -3,6 +3,9 @@ use crate::command::END;
 use crate::command::FINISH;
 use crate::command::PUT;
 use crate::command::SAY;
+use crate::form::Form;
+use crate::kept::is_changed;
+use crate::kept::keep;
 use crate::number::low16;
 use crate::number::low32;
 use crate::page::end_line;
@@ -11,20 +14,23 @@ use crate::page::put_hex;
 use crate::page::put_number;
 use crate::room::fill;
 use crate::room::touched;
+use crate::state::State;
 use crate::words::part;
-use call_finish::FinishResult;
-use call_finish::finish;
-use call_output::end_output;
-use call_output::write_output;
-use call_reply::owed_reply;
-use codes::refusal_number;
-use connection::answer::Output;
-use connection::answer::Refusal;
-use connection::answer::Wrote;
-use connection::event::Event;
-use connection::state::Conn;
-use pair_writer::PairWrote;
-use pair_writer::write_pair;
+use fastcgi::Conn;
+use fastcgi::Event;
+use fastcgi::FinishResult;
+use fastcgi::Output;
+use fastcgi::PairWrote;
+use fastcgi::QUERY;
+use fastcgi::Refusal;
+use fastcgi::Written;
+use fastcgi::Wrote;
+use fastcgi::end_output;
+use fastcgi::finish;
+use fastcgi::owed_reply;
+use fastcgi::refusal_number;
+use fastcgi::write_output;
+use fastcgi::write_pair;
 
 // The bytes written, of a finish with the connection left open or closed; or the number of the refusal.
 pub enum Effect {
@@ -34,7 +40,7 @@ pub enum Effect {
     Refused(u8),
 }
 
-// What a call came to, and the connection after it.
+// What a call came to, and the connection behind it.
 pub struct Called {
     pub effect: Effect,
     pub conn: Conn,
@@ -49,11 +55,11 @@ fn of_wrote(wrote: Wrote) -> Effect {
 }
 
 // What a pair came to.
-fn of_pairing(wrote: Pairing) -> Effect {
+fn of_pairing(wrote: PairWrote) -> Effect {
     match wrote {
-        Pairing::Bytes(n) => Effect::Bytes(n),
-        Pairing::TooLong => Effect::Refused(refusal_number(Refusal::TooLong)),
-        Pairing::NoRoom => Effect::Refused(refusal_number(Refusal::NoRoom)),
+        PairWrote::Bytes(n) => Effect::Bytes(n),
+        PairWrote::TooLong => Effect::Refused(refusal_number(Refusal::TooLong)),
+        PairWrote::NoRoom => Effect::Refused(refusal_number(Refusal::NoRoom)),
     }
 }
 
@@ -66,31 +72,29 @@ fn of_finish(finish: FinishResult) -> Effect {
     }
 }
 
-// Data to a request's STDOUT or STDERR.
-fn say(c: Conn, id: u16, output: Output, bytes: &[u8], room: &mut [u8]) -> Called {
-    let written = write_output(c, id, output, bytes, room);
+// What output came to, and the connection behind it.
+fn of_written(written: Written) -> Called {
     let wrote = written.wrote;
     let conn = written.conn;
     Called {
         effect: of_wrote(wrote),
         conn: conn,
     }
+}
+
+// Data to a request's STDOUT or STDERR.
+fn say(c: Conn, id: u16, output: Output, bytes: &[u8], room: &mut [u8]) -> Called {
+    of_written(write_output(c, id, output, bytes, room))
 }
 
 // The end of one of them.
 fn end_stream(c: Conn, id: u16, output: Output, room: &mut [u8]) -> Called {
-    let written = end_output(c, id, output, room);
-    let wrote = written.wrote;
-    let conn = written.conn;
-    Called {
-        effect: of_wrote(wrote),
-        conn: conn,
-    }
+    of_written(end_output(c, id, output, room))
 }
 
 // The reply that an event owes.
 fn owed(c: Conn, e: Event, room: &mut [u8]) -> Called {
-    let wrote = reply(e, room);
+    let wrote = owed_reply(e, room);
     Called {
         effect: of_wrote(wrote),
         conn: c,
@@ -107,9 +111,9 @@ fn pair(c: Conn, name: &[u8], value: &[u8], room: &mut [u8]) -> Called {
 }
 
 // The end of a request.
-fn finish(c: Conn, store: &mut [u8], id: u16, status: u32, room: &mut [u8]) -> Called {
-    let finished = end_request(c, store, id, status, room);
-    let end = finished.finish;
+fn finish_one(c: Conn, store: &mut [u8], id: u16, status: u32, room: &mut [u8]) -> Called {
+    let finished = finish(c, store, id, status, room);
+    let end = finished.result;
     let conn = finished.conn;
     Called {
         effect: of_finish(end),
@@ -143,23 +147,31 @@ fn call(
         SAY => say(c, id, output_of(b), part(bytes, 0, m), room),
         END => end_stream(c, id, output_of(b), room),
         PUT => pair(c, part(bytes, 0, a), part(bytes, a, b as usize), room),
-        FINISH => finish(c, store, id, low32(b), room),
+        FINISH => finish_one(c, store, id, low32(b), room),
         _ => owed(c, e, room),
     }
 }
 
 // The same call, into a room that is filled first.
-pub fn fill_and_call(
-    c: Conn,
-    e: Event,
-    kind: u64,
-    values: [u64; 4],
+fn fill_and_call(s: State, f: Form, store: &mut [u8], bytes: &[u8], room: &mut [u8]) -> Called {
+    let e = s.event;
+    let values = f.values;
+    fill(room);
+    call(s.conn, e, f.kind, values, store, bytes, room)
+}
+
+// The same call; what it finds is kept.
+pub fn kept_call(
+    s: State,
+    f: Form,
     store: &mut [u8],
+    gathered: &[u8; QUERY],
+    kept: &mut [u8],
     bytes: &[u8],
     room: &mut [u8],
 ) -> Called {
-    fill(room);
-    call(c, e, kind, values, store, bytes, room)
+    keep(kept, s.conn, store, gathered);
+    fill_and_call(s, f, store, bytes, room)
 }
 
 // `wrote N HEX` and a last word.
@@ -170,7 +182,7 @@ fn put_wrote(page: &mut [u8], at: usize, room: &[u8], n: usize, last: &[u8]) -> 
     put(page, d, last)
 }
 
-// ` touched` where a byte after what was written changed.
+// ` touched` where a byte behind what was written changed.
 fn put_touched(page: &mut [u8], at: usize, room: &[u8], n: usize) -> usize {
     if touched(room, n) {
         return put(page, at, b" touched");
@@ -179,7 +191,7 @@ fn put_touched(page: &mut [u8], at: usize, room: &[u8], n: usize) -> usize {
 }
 
 // What a call came to and left in the room.
-fn put_call(page: &mut [u8], at: usize, e: Effect, room: &[u8]) -> usize {
+fn put_call(page: &mut [u8], at: usize, e: Effect, changed: bool, room: &[u8]) -> usize {
     match e {
         Effect::Bytes(n) => {
             let a = put_wrote(page, at, room, n, b"");
@@ -194,15 +206,24 @@ fn put_call(page: &mut [u8], at: usize, e: Effect, room: &[u8]) -> usize {
             put_touched(page, a, room, n)
         }
         Effect::Refused(why) => {
-            let a = put_refused(page, at, why);
+            let a = put_refusal(page, at, why, changed);
             put_touched(page, a, room, 0)
         }
     }
 }
 
-// The line of a call.
-pub fn put_effect(page: &mut [u8], e: Effect, room: &[u8]) {
-    let at = put_call(page, 0, e, room);
+// The line of a call, which is compared with what is kept from before it.
+pub fn put_effect(
+    page: &mut [u8],
+    called: Called,
+    kept: &[u8],
+    store: &[u8],
+    gathered: &[u8; QUERY],
+    room: &[u8],
+) {
+    let changed = is_changed(kept, called.conn, store, gathered);
+    let e = called.effect;
+    let at = put_call(page, 0, e, changed, room);
     end_line(page, at);
 }
 
@@ -210,4 +231,13 @@ pub fn put_effect(page: &mut [u8], e: Effect, room: &[u8]) {
 pub fn put_refused(page: &mut [u8], at: usize, why: u8) -> usize {
     let a = put(page, at, b"refused");
     put_number(page, a, b" ", why as u64)
+}
+
+// `refused N`, and ` changed` where the call changed something all the same.
+pub fn put_refusal(page: &mut [u8], at: usize, why: u8, changed: bool) -> usize {
+    let a = put_refused(page, at, why);
+    if changed {
+        return put(page, a, b" changed");
+    }
+    a
 }

@@ -6,16 +6,16 @@ use Rattle.console.proofs.answer_all.Statement.{statement}
 use Rattle.console.proofs.answer_all.Tie as tie
 
 abbrev Inv-loop : tie.InvT-loop
-Inv-loop piece₀ line₀ store₀ gathered₀ bytes₀ out₀ page₀ input₀ state₀ turns₀ piece line store gathered bytes out page input state turns = (length piece ≡ length piece₀) × (length line ≡ length line₀) × (length store ≡ length store₀) × (length bytes ≡ length bytes₀) × (length out ≡ length out₀) × (length page ≡ length page₀)
+Inv-loop piece₀ line₀ store₀ gathered₀ kept₀ bytes₀ out₀ page₀ input₀ state₀ turns₀ piece line store gathered kept bytes out page input state turns = (length piece ≡ length piece₀) × (length line ≡ length line₀) × (length store ≡ length store₀) × (length kept ≡ length kept₀) × (length bytes ≡ length bytes₀) × (length out ≡ length out₀) × (length page ≡ length page₀)
 
 abbrev μ-loop : tie.MeasureT-loop
-μ-loop piece₀ line₀ store₀ gathered₀ bytes₀ out₀ page₀ input₀ state₀ turns₀ piece line store gathered bytes out page input state turns = turns
+μ-loop piece₀ line₀ store₀ gathered₀ kept₀ bytes₀ out₀ page₀ input₀ state₀ turns₀ piece line store gathered kept bytes out page input state turns = turns
 
 fresh-requires : tie.Need-fresh-requires Inv-loop μ-loop
 fresh-requires c κs = search needs
 
 loop-holds : tie.Need-loop-holds Inv-loop μ-loop
-loop-holds c = (refl, refl, refl, refl, refl, refl)
+loop-holds c = (refl, refl, refl, refl, refl, refl, refl)
 
 sub-turns : tie.Need-sub-turns Inv-loop μ-loop
 sub-turns c = search needs
@@ -41,22 +41,28 @@ same-length-5 c = search needs
 same-length-6 : tie.Need-same-length-6 Inv-loop μ-loop
 same-length-6 c = search needs
 
+same-length-7 : tie.Need-same-length-7 Inv-loop μ-loop
+same-length-7 c = search needs
+
 returns : tie.Need-returns Inv-loop μ-loop
 returns c = search needs
 
-answer-line-requires : tie.Need-answer-line-requires Inv-loop μ-loop
-answer-line-requires c κs = search needs
+read-line-requires : tie.Need-read-line-requires Inv-loop μ-loop
+read-line-requires c κs = search needs
+
+answer-requires : tie.Need-answer-requires Inv-loop μ-loop
+answer-requires c κs = search needs
 
 loop-less : tie.Need-loop-less Inv-loop μ-loop
-loop-less c = omega (arith, c .before .before .before .before .before .before .before .before .before .before .before .before .before .before .before .before .before .before .before .before .before .before .before .loop-test .taken)
+loop-less c = omega (arith, c .before .before .before .before .before .before .before .before .before .before .before .before .before .before .before .before .before .before .before .before .before .before .before .before .before .before .before .before .loop-test .taken)
 
 loop-again : tie.Need-loop-again Inv-loop μ-loop
 loop-again c =
-    let i = c .before .before .before .before .before .before .before .before .before .before .before .before .before .before .before .before .before .before .before .before .before .before .before .before .loop .inv in
-    (search (needs, i), search (needs, i), search (needs, i), search (needs, i), search (needs, i), search (needs, i))
-
-same-length-7 : tie.Need-same-length-7 Inv-loop μ-loop
-same-length-7 c = search needs
+    let b = c .before .before .before .before .before .before .before .before .before .before .before .before .before .before .before in
+    let l = b .before .before .before .before .before .before in
+    let p = l .before .before in
+    let i = p .before .before .before .before .before .before .loop .inv in
+    (search (needs, i, p .slice-known8 .given, p .before .piece .given), search (needs, i, l .slice-known9 .given, l .before .line .given), search (needs, i), search (needs, i), search (needs, i, b .slice-known10 .given, b .before .bytes .given), search (needs, i), search (needs, i))
 
 same-length-8 : tie.Need-same-length-8 Inv-loop μ-loop
 same-length-8 c = search needs
@@ -72,6 +78,12 @@ same-length-11 c = search needs
 
 same-length-12 : tie.Need-same-length-12 Inv-loop μ-loop
 same-length-12 c = search needs
+
+same-length-13 : tie.Need-same-length-13 Inv-loop μ-loop
+same-length-13 c = search needs
+
+same-length-14 : tie.Need-same-length-14 Inv-loop μ-loop
+same-length-14 c = search needs
 
 returns-2 : tie.Need-returns-2 Inv-loop μ-loop
 returns-2 c = search needs
@@ -92,14 +104,17 @@ answer-all-spec =
     same-length-4
     same-length-5
     same-length-6
+    same-length-7
     returns
-    answer-line-requires
+    read-line-requires
+    answer-requires
     loop-less
     loop-again
-    same-length-7
     same-length-8
     same-length-9
     same-length-10
     same-length-11
     same-length-12
+    same-length-13
+    same-length-14
     returns-2)

@@ -1,0 +1,95 @@
+use mathlib.Core.Path.{_≡_}
+use Prim.Native.Nat.{_-_}
+use lib.ListN.{length}
+use borrow.Author.Needs.{needs}
+use Rattle.console.proofs.image.put_table.Statement.{statement}
+use Rattle.console.proofs.image.put_table.Tie as tie
+
+abbrev Inv-loop : tie.InvT-loop
+Inv-loop out₀ at t place₀ i₀ out place i = length out ≡ length out₀
+
+abbrev μ-loop : tie.MeasureT-loop
+μ-loop out₀ at t place₀ i₀ out place i = 16 - i
+
+cast-put-count : tie.Need-cast-put-count Inv-loop μ-loop
+cast-put-count c = search needs
+
+put-count-requires : tie.Need-put-count-requires Inv-loop μ-loop
+put-count-requires c κs = search needs
+
+loop-holds : tie.Need-loop-holds Inv-loop μ-loop
+loop-holds c = search needs
+
+mul-put-count : tie.Need-mul-put-count Inv-loop μ-loop
+mul-put-count c = search needs
+
+element-copy-out-put-count : tie.Need-element-copy-out-put-count Inv-loop μ-loop
+element-copy-out-put-count c = search needs
+
+cast-put-count-2 : tie.Need-cast-put-count-2 Inv-loop μ-loop
+cast-put-count-2 c = search needs
+
+put-count-requires-2 : tie.Need-put-count-requires-2 Inv-loop μ-loop
+put-count-requires-2 c κs = search needs
+
+mul-put-count-2 : tie.Need-mul-put-count-2 Inv-loop μ-loop
+mul-put-count-2 c = search needs
+
+element-copy-out-put-count-2 : tie.Need-element-copy-out-put-count-2 Inv-loop μ-loop
+element-copy-out-put-count-2 c = search needs
+
+cast-put-count-3 : tie.Need-cast-put-count-3 Inv-loop μ-loop
+cast-put-count-3 c = search needs
+
+put-count-requires-3 : tie.Need-put-count-requires-3 Inv-loop μ-loop
+put-count-requires-3 c κs = search needs
+
+mul-put-states : tie.Need-mul-put-states Inv-loop μ-loop
+mul-put-states c = search needs
+
+element-copy-out-put-states : tie.Need-element-copy-out-put-states Inv-loop μ-loop
+element-copy-out-put-states c = search needs
+
+put-states-requires : tie.Need-put-states-requires Inv-loop μ-loop
+put-states-requires c κs = search needs
+
+add-i : tie.Need-add-i Inv-loop μ-loop
+add-i c = search needs
+
+loop-less : tie.Need-loop-less Inv-loop μ-loop
+loop-less c = search needs
+
+loop-again : tie.Need-loop-again Inv-loop μ-loop
+loop-again c = search needs
+
+same-length : tie.Need-same-length Inv-loop μ-loop
+same-length c = search needs
+
+returns : tie.Need-returns Inv-loop μ-loop
+returns c = search needs
+
+pub put-table-spec : {M : Type 1} → statement M
+put-table-spec =
+    tie.close
+    (tie.spec
+    Inv-loop
+    μ-loop
+    cast-put-count
+    put-count-requires
+    loop-holds
+    mul-put-count
+    element-copy-out-put-count
+    cast-put-count-2
+    put-count-requires-2
+    mul-put-count-2
+    element-copy-out-put-count-2
+    cast-put-count-3
+    put-count-requires-3
+    mul-put-states
+    element-copy-out-put-states
+    put-states-requires
+    add-i
+    loop-less
+    loop-again
+    same-length
+    returns)

@@ -1,0 +1,127 @@
+// A state as bytes, every field of it, so that two states can be compared. All images are of one length.
+use crate::page::put_at;
+use connection::request::Life;
+use connection::request::RequestState;
+use connection::request::Turn;
+use connection::state::Frame;
+use connection::state::Table;
+use connection::state::Target;
+use fastcgi::Conn;
+use fastcgi::SLOTS;
+use fastcgi::role_number;
+use record_reader::Position;
+
+// More bytes than an image has.
+pub const IMAGE: usize = 1024;
+
+// Sixteen digits.
+fn put_digits(out: &mut [u8], at: usize, digits: &[u8; 16]) -> usize {
+    put_at(out, at, digits)
+}
+
+// A number in hex, of as many digits whatever it is.
+fn put_count(out: &mut [u8], at: usize, n: usize) -> usize {
+    let mut digits = [0u8; 16];
+    io::hex(n as u64, 16, &mut digits);
+    put_digits(out, at, &digits)
+}
+
+// A flag as a number.
+fn flag(b: bool) -> u8 {
+    if b { 1 } else { 0 }
+}
+
+// The stream whose turn it is, as a number.
+fn turn_number(turn: Turn) -> u8 {
+    match turn {
+        Turn::Params => 1,
+        Turn::Stdin => 2,
+        Turn::Data => 3,
+        Turn::Done => 4,
+    }
+}
+
+// Whether a request is spent, as a number.
+fn life_number(life: Life) -> u8 {
+    match life {
+        Life::Live => 1,
+        Life::Faulted => 2,
+        Life::Aborted => 3,
+    }
+}
+
+// The state of a request, a byte for each field.
+fn put_request_state(out: &mut [u8], at: usize, m: RequestState) -> usize {
+    let role = m.role;
+    let turn = m.turn;
+    let life = m.life;
+    let seven = [
+        role_number(role),
+        turn_number(turn),
+        life_number(life),
+        flag(m.keep),
+        flag(m.out_ended),
+        flag(m.err_used),
+        flag(m.err_ended),
+    ];
+    put_at(out, at, &seven)
+}
+
+// The requests, taken slots and others.
+fn put_table(out: &mut [u8], at: usize, t: Table) -> usize {
+    let mut place = put_count(out, at, t.occupied as usize);
+    let mut i: usize = 0;
+    while i < SLOTS {
+        let id = put_count(out, place, t.ids[i] as usize);
+        let length = put_count(out, id, t.lengths[i] as usize);
+        place = put_request_state(out, length, t.states[i]);
+        i += 1;
+    }
+    place
+}
+
+// A kind of target, and its id or slot.
+fn put_aim(out: &mut [u8], at: usize, kind: u8, n: usize) -> usize {
+    let one = [kind];
+    let place = put_at(out, at, &one);
+    put_count(out, place, n)
+}
+
+// What the content is for.
+fn put_target(out: &mut [u8], at: usize, target: Target) -> usize {
+    match target {
+        Target::Skip => put_aim(out, at, 0, 0),
+        Target::Begin(id) => put_aim(out, at, 1, id as usize),
+        Target::Query => put_aim(out, at, 2, 0),
+        Target::Params(i) => put_aim(out, at, 3, i as usize),
+        Target::Stdin(i) => put_aim(out, at, 4, i as usize),
+        Target::Data(i) => put_aim(out, at, 5, i as usize),
+    }
+}
+
+// Where the reader stands.
+fn put_position(out: &mut [u8], at: usize, p: Position) -> usize {
+    let header = p.header;
+    let content = put_count(out, at, p.content);
+    let padding = put_count(out, content, p.padding);
+    let held = put_count(out, padding, p.held);
+    put_at(out, held, &header)
+}
+
+// The record being read.
+fn put_frame(out: &mut [u8], at: usize, f: Frame) -> usize {
+    let position = put_position(out, at, f.position);
+    let target = f.target;
+    let aim = put_target(out, position, target);
+    let gathered = put_count(out, aim, f.gathered);
+    let body = f.body;
+    put_at(out, gathered, &body)
+}
+
+// The state, at the start of a buffer.
+pub fn put_state(out: &mut [u8], c: Conn) {
+    let one = [flag(c.open)];
+    let open = put_at(out, 0, &one);
+    let table = put_table(out, open, c.table);
+    put_frame(out, table, c.frame);
+}
