@@ -1,4 +1,5 @@
--- What holds of whole runs. `Theorem` proves the statement of Isolation; the files before it lead there.
+-- What holds of whole runs. `Whole` proves the statement of Isolation from `Theorem` and `SecondRun`; the files
+-- before these lead there.
 pub mod Receiver
 pub mod ReceiverLaws
 pub mod Loading
@@ -17,6 +18,7 @@ pub mod Records
 pub mod Theorem
 pub mod Hygiene
 pub mod SecondRun
+pub mod Whole
 pub mod RunParts
 pub mod SmallRuns
 pub mod WellFormedLists
