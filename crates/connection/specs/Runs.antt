@@ -24,9 +24,11 @@ pub mod SmallRuns
 pub mod WellFormedLists
 pub mod DueLive
 pub mod SpentSilent
-pub mod History
+pub mod HistoryOnMachine
 pub mod HistoryRequest
 pub mod HistoryTarget
 pub mod HistoryScan
+pub mod HistoryCalls
+pub mod HistorySeen
 pub mod HistoryRuns
 pub mod ReadyLength
