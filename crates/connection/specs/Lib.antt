@@ -13,5 +13,6 @@ pub mod Decision
 pub mod Arguments
 pub mod Run
 pub mod Isolation
+pub mod History
 pub mod Laws
 pub mod Runs

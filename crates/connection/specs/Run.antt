@@ -2,8 +2,8 @@
 use mathlib.Core.Path.{_≡_}
 use mathlib.Core.List.{List, [], _∷_, _++_, map}
 use mathlib.Core.Option.{Option, none, some}
-use Prim.Native.Nat.{ℕ}
-use lib.ListN.{length, take}
+use Prim.Native.Nat.{ℕ, zero, suc}
+use lib.ListN.{length, take, drop}
 use Rattle.wire.specs.Test.{if_then_else_, _=?_}
 use Rattle.machine.specs.Timeline.{RequestCall, CountCall, Item, CallItem, byteItems}
 use Rattle.connection.specs.Event.{Event}
@@ -157,6 +157,30 @@ timelineOf r = timeline (beginning r) (r .operations)
 -- all that is observed in it
 abbrev pub observedIn : WholeRun → List Observed
 observedIn r = allSeen (beginning r) (r .operations)
+
+-- ---- pieces that are used up
+-- A step may leave a part of its piece unused. To use a piece up: step over it, then over what that step left of it,
+-- and so on until nothing is left. Here with at most n steps.
+unfoldable pub steppedThrough : ℕ → Memory → List ℕ → List Operation
+steppedThrough zero m x = []
+steppedThrough (suc n) m [] = []
+steppedThrough (suc n) m (b ∷ x) =
+    StepOver (b ∷ x) ∷ steppedThrough n (memoryAfter m (StepOver (b ∷ x))) (drop (stepOf m (b ∷ x) .used) (b ∷ x))
+
+-- Each piece is stepped over until it is used up, and each call is made in its place. A piece of n bytes gets at most
+-- n steps: a step that is not refused uses a byte.
+unfoldable pub allStepped : Memory → List Operation → List Operation
+allStepped m [] = []
+allStepped m (StepOver x ∷ os) = steppedThrough (length x) m x ++ allStepped (finalMemory m (steppedThrough (length x) m x)) os
+allStepped m (CallFor id a ∷ os) = CallFor id a ∷ allStepped (memoryAfter m (CallFor id a)) os
+allStepped m (CountActive ∷ os) = CountActive ∷ allStepped (memoryAfter m CountActive) os
+
+-- all bytes of the pieces, whether steps use them or not, and the calls, in order
+unfoldable pub itemsIn : List Operation → List (Item Argument)
+itemsIn [] = []
+itemsIn (StepOver x ∷ os) = byteItems x ++ itemsIn os
+itemsIn (CallFor id a ∷ os) = CallItem (RequestCall id a) ∷ itemsIn os
+itemsIn (CountActive ∷ os) = CallItem CountCall ∷ itemsIn os
 
 -- ---- what is R's
 -- the id that an event names; 0 for none

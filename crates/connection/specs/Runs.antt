@@ -1,4 +1,5 @@
--- What holds of whole runs. `Theorem` proves the statement of Isolation; the files before it lead there.
+-- What holds of whole runs. `Whole` proves the statement of Isolation from `Theorem` and `SecondRun`; the files
+-- before these lead there.
 pub mod Receiver
 pub mod ReceiverLaws
 pub mod Loading
@@ -17,14 +18,17 @@ pub mod Records
 pub mod Theorem
 pub mod Hygiene
 pub mod SecondRun
+pub mod Whole
 pub mod RunParts
 pub mod SmallRuns
 pub mod WellFormedLists
 pub mod DueLive
 pub mod SpentSilent
-pub mod History
+pub mod HistoryOnMachine
 pub mod HistoryRequest
 pub mod HistoryTarget
 pub mod HistoryScan
+pub mod HistoryCalls
+pub mod HistorySeen
 pub mod HistoryRuns
 pub mod ReadyLength

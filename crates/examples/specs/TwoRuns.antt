@@ -37,7 +37,7 @@ use Rattle.connection.specs.Arguments.{ForValue, ForSay, ForFinish, ValueIs, Wr
 use Rattle.connection.specs.Run.{Operation, StepOver, CallFor, CountActive, Heard, Answered, requestOf, called, memoryAfter, seenIn, itemsOf, finalMemory, allSeen, timeline, startOf, WholeRun, ending, timelineOf, observedIn, seenOf, observed}
 use Rattle.connection.specs.Isolation.{EndsBetweenRecords, Isolated}
 use Rattle.connection.specs.Runs.Records.{between-whole}
-use Rattle.connection.specs.Runs.Theorem.{isolation}
+use Rattle.connection.specs.Runs.Whole.{isolation}
 use Rattle.examples.specs.RunTests.{allBelow, piecesBelow, below-pieces, refusedIn, never-refused}
 
 -- ---- two runs
@@ -179,5 +179,5 @@ alone-is-purged = refl
 -- So what is observed of 1 is the same in B.
 pub example : Isolated 1 A B
 example =
-    isolation 1 A B (omega arith) ends-between (never-refused 1 (observedIn A) never-overloaded)
+    isolation .any-run 1 A B (omega arith) ends-between (never-refused 1 (observedIn A) never-overloaded)
     (record { rest = []; prefix = append-nil (timelineOf B) ∙ alone-is-purged; all-or-closed = inl refl })

@@ -25,10 +25,10 @@ use Rattle.connection.specs.Bytewise.{Note}
 use borrow.Author.Tests.{eqb-true, eq-eqb}
 use Rattle.connection.specs.declared.request.Request.{Request}
 use Rattle.connection.specs.RequestCalls.{inParams}
-use Rattle.connection.specs.Arguments.{Argument, ForValue, ForSource, ForPair, ForWalk, ForSay, ForEnd, ForFinish, Answer, Wrote, FinishedWith, refused}
+use Rattle.connection.specs.Arguments.{Argument, ForValue, ForSource, ForPair, ForWalk, ForSay, ForEnd, ForFinish, Answer, FinishedWith, refused}
 use Rattle.connection.specs.Runs.Receiver.{beginAs, receiveBegin, finishedAs, receiveCall}
 use Rattle.connection.specs.Runs.ReceiverLaws.{say-same, end-same}
-use Rattle.connection.specs.Runs.History.{opensOrFaults, tellsAnew, isFinish, isClose, takesAfter, takesTold}
+use Rattle.connection.specs.Runs.HistoryOnMachine.{opensOrFaults, tellsAnew, isFinish, isClose, takesAfter, takesTold}
 
 -- ---- its list
 -- a header leaves the list, or empties it and tells so

@@ -1,240 +1,223 @@
--- What a request's area holds up to its length is exactly its parameters by history, over every run.
-use mathlib.Core.Path.{_≡_, refl, ap, sym, _∙_, subst}
-use mathlib.Core.List.{List, [], _∷_, _++_}
-use mathlib.Core.Option.{Option, none, some}
-use mathlib.Core.Bool.{Bool, true, false}
-use Prim.Native.Nat.{ℕ, zero, suc}
+-- After any operations of a run R's area up to R's length holds exactly R's parameters by history.
+use mathlib.Core.Path.{_≡_, refl, ap, ap₂, sym, _∙_, subst}
+use mathlib.Core.List.{List, [], _∷_, _++_, append-nil}
+use mathlib.Core.Option.{some}
+use mathlib.Core.Bool.{false}
+use Prim.Native.Nat.{ℕ, suc, _<_}
 use native.Mathlib.Omega.{arith}
-use lib.ListN.{set}
-use lib.Dec.{eqb}
-use Rattle.wire.specs.Test.{if_then_else_, byTest}
-use Rattle.machine.specs.Slots.{SlotState, Vacant, HeldBy, slotAt, Lookup, Absent, FoundAt, lookupFurther, lookup, LookupRight, lookup-right, lookup-set, slot-written}
-use Rattle.machine.specs.Timeline.{Call, RequestCall, CountCall, Item, ByteItem, CallItem, Scan, ScanHeader, ScanRest}
-use Rattle.machine.specs.Machine.{CallOutcome, Stays, Leaves, Closes, Target, Skip, ToBegin, ToQuery, ToSlot, Reading, AtHeader, PastHeader, Slots, Connection, Open, Closed, Observation, CallAnswer, onItem, fresh, recordByte, readingWithout, callDecided, requestCalled, requestFound, targetWithout, asList, observations}
-use Rattle.connection.specs.declared.request.Due.{Due}
-use Rattle.connection.specs.Sizes.{SLOTS}
-use Rattle.connection.specs.Request.{listOf, Held}
-use borrow.Author.Tests.{eqb-true, eqb-false, ne-eqb}
-use mathlib.Core.Logic.{_⊎_, inl, inr}
-use Rattle.machine.specs.Shape.{ItemsOk, ItemsEnd, ItemsMore, IsAbsent, SlotsOk, WellShaped, EffectOk}
-use Rattle.machine.specs.ShapeSlots.{written-or-not, lookup-absent}
+use lib.ListN.{length, take}
+use lib.Seq.{length-take-le}
+use Rattle.wire.specs.Test.{if_then_else_}
+use borrow.Author.Tests.{ne-eqb}
+use Rattle.record_reader.specs.Position.{advanced}
+use Rattle.record_reader.specs.declared.Position.{Position}
+use Rattle.record_reader.specs.declared.Advanced.{Advanced}
+use Rattle.machine.specs.Timeline.{ScanHeader, RequestCall, Item, ByteItem, CallItem, byteItems}
+use Rattle.machine.specs.Machine.{fresh, onItem, stateAfter, observations, asList, requestIn, requestFound}
+use Rattle.machine.specs.Slots.{lookup, lookupFurther}
+use Rattle.machine.specs.Shape.{ItemOk, WellShaped}
 use Rattle.machine.specs.ShapeKept.{shape-item, shape-fresh}
-use Rattle.connection.specs.Arguments.{Argument, Answer}
-use Rattle.connection.specs.Runs.Receiver.{cleanArea, receiver, receiveCall}
+use Rattle.connection.specs.declared.state.Target.{Target as Aim}
+use Rattle.connection.specs.Sizes.{SLOTS}
+use Rattle.connection.specs.Request.{Held, listOf}
+use Rattle.connection.specs.Step.{State, Stepped, ofBegin, ofQuery, ofRequest, onTarget, advances, stepRefusal}
+use Rattle.connection.specs.Arguments.{Argument}
+use Rattle.connection.specs.Run.{Memory, Operation, StepOver, CallFor, CountActive, requestOf, stepOf, memoryOf, usedOf, memoryAfter, seenIn, itemsOf, finalMemory, PiecesOk, WholeRun, beginning}
+use Rattle.connection.specs.Laws.PieceLaws.{AllBytes, take-bytes}
+use Rattle.connection.specs.Laws.ShapeLaws.{shaped}
+use Rattle.connection.specs.Laws.Progress.{Fits, admitted-fits, in-content, in-header, in-whole, by-position, by-header, step-advances, step-nothing, step-uses-some, step-uses-no-more, used-only}
+use Rattle.connection.specs.Laws.Cutting.{cut-step, used-admitted}
+use Rattle.connection.specs.History.{listFound, History, noHistory, withByte, withBytes, Keeps, changed, changeOf, historyThen, historyFrom, parametersAfter}
+use Rattle.connection.specs.Runs.Receiver.{receiver}
 use Rattle.connection.specs.Runs.ReceiverLaws.{receiver-laws}
-use Rattle.connection.specs.Run.{requestOf, WholeRun, beginning, ending, timelineOf, observedIn}
-use Rattle.connection.specs.Runs.LinkingRuns.{run-linked, start-loaded, start-steady}
-use Rattle.connection.specs.Runs.Hygiene.{timeline-ok}
 use Rattle.connection.specs.Runs.Telling.{toldAll}
-use Rattle.connection.specs.Runs.History.{listFound, scanParams, scanItem, takesThen, contentBy, parametersThen, parametersBy, witnessed, historyOf}
-use Rattle.connection.specs.Runs.HistoryRequest.{CallKeeps, call-keeps, refused-keeps, off, CallTakes, takes-call}
-use Rattle.connection.specs.Runs.HistoryTarget.{isParamsOf, contentFor, contentOf, parametersAfter, other-slot, parameters-by-history}
-use Rattle.connection.specs.Runs.HistoryScan.{takesAmong, dueFor, Placed, Agrees, Tracks, takes-held, takes-same, takes-absent, same-due, tracks-byte}
+use Rattle.connection.specs.Runs.LinkingByte.{step-content, step-padding, step-part}
+use Rattle.connection.specs.Runs.LinkingStep.{loadedOf, Steady, Linked, step-linked}
+use Rattle.connection.specs.Runs.LinkingCalls.{call-linked}
+use Rattle.connection.specs.Runs.LinkingRuns.{start-loaded, start-steady, request-loaded}
+use Rattle.connection.specs.Runs.HistoryOnMachine.{emptiesAny, takesThen, scanItem}
+use Rattle.connection.specs.Runs.HistoryTarget.{listIn, contentOf, follows-item}
+use Rattle.connection.specs.Runs.HistoryScan.{Agrees}
+use Rattle.connection.specs.Runs.HistoryCalls.{tracks-item, same-content, fresh-agrees}
+use Rattle.connection.specs.Runs.HistorySeen.{same-place, changeSeen, event-seen, event-cut, answer-seen, does-as, withItem, item-added}
 
 module _ (R : ℕ) where
+  -- ---- what holds after every operation
+  -- The history agrees with the memory: on where the next byte stands, on whether R takes PARAMS, and on R's list.
+  record Holds (m : Memory) (h : History) : Type 0 where
+    steady : Steady m
+    shape : WellShaped receiver receiver-laws (loadedOf m)
+    agrees : Agrees R (loadedOf m) (h .place) (h .takes)
+    list : listIn R (loadedOf m) ≡ h .parameters
+
+  -- ---- one item
+  item-place : (h : History) (x : Item Argument) → scanItem R (h .place) x ≡ withItem R h x .place
+  item-place h (ByteItem b) = refl
+  item-place h (CallItem c) = refl
+
+  item-takes : (h : History) (x : Item Argument) → h .takes ≡ withItem R h x .takes
+  item-takes h (ByteItem b) = refl
+  item-takes h (CallItem c) = refl
+
+  -- an operation that is one item
+  holds-one : (m : Memory) (o : Operation) (x : Item Argument) (h : History) → Linked m o → itemsOf m o ≡ x ∷ [] → ItemOk receiver x → Holds m h
+      → Holds (memoryAfter m o) (changed (changeSeen R (seenIn m o)) (withItem R h x))
+  unfolding stateAfter observations
+  holds-one m o x h k e ok i =
+      let s = loadedOf m in
+      let E = onItem receiver s x in
+      let g = withItem R h x in
+      let c = changeSeen R (toldAll (asList receiver (E .1))) in
+      let there : loadedOf (memoryAfter m o) ≡ E .0 = k .state ∙ ap (stateAfter receiver s) e in
+      let seen : changeSeen R (seenIn m o) ≡ c =
+      ap (changeSeen R) (k .tells ∙ ap (λ t. toldAll (observations receiver s t)) e ∙ ap toldAll (append-nil (asList receiver (E .1)))) in
+      let d = does-as R (E .1) in
+      let w = shape-item receiver receiver-laws s x ok (i .shape) in
+      let takes : takesThen R (E .1) (h .takes) ≡ changed c g .takes = ap (takesThen R (E .1)) (item-takes h x) ∙ d .takes g in
+      let place : scanItem R (h .place) x ≡ changed c g .place = item-place h x ∙ sym (same-place c g) in
+      let content : listIn R s ++ contentOf R s x ≡ g .parameters =
+      ap₂ (λ u v. u ++ v) (i .list) (same-content R s (h .place) (h .takes) x (i .agrees)) ∙ item-added R (h .place) (h .takes) (h .parameters) x in
+      record {
+        steady = k .steady;
+        shape = subst (λ t. WellShaped receiver receiver-laws t) (sym there) w;
+        agrees = subst (λ d. Agrees R (loadedOf (memoryAfter m o)) (changed d g .place) (changed d g .takes)) (sym seen)
+            (subst (λ t. Agrees R t (changed c g .place) (changed c g .takes)) (sym there)
+            (subst (λ p. Agrees R (E .0) p (changed c g .takes)) place
+            (subst (λ b. Agrees R (E .0) (scanItem R (h .place) x) b) takes (tracks-item R s (h .place) (h .takes) x (i .shape) w (i .agrees)))));
+        list = ap (listIn R) there ∙ follows-item R s x (i .shape) w ∙ ap (λ (l : List ℕ). if emptiesAny R (E .1) then [] else l) content ∙ d .list g
+            ∙ ap (λ d. changed d g .parameters) (sym seen);
+      }
+
+  -- ---- a step
+  -- over one byte
+  holds-byte : (m : Memory) (b : ℕ) (h : History) → AllBytes (b ∷ []) → stepOf m (b ∷ []) .used ≡ 1 → Holds m h
+      → Holds (memoryOf (stepOf m (b ∷ []))) (changed (changeOf R (stepOf m (b ∷ []) .event)) (withByte R h b))
+  unfolding memoryAfter seenIn itemsOf byteItems
+  holds-byte m b h all one i =
+      let used : usedOf m (b ∷ []) ≡ b ∷ [] = ap (λ n. take n (b ∷ [])) one in
+      subst (λ c. Holds (memoryOf (stepOf m (b ∷ []))) (changed c (withByte R h b))) (event-seen R (stepOf m (b ∷ []) .event) (usedOf m (b ∷ [])))
+      (holds-one m (StepOver (b ∷ [])) (ByteItem b) h (step-linked m (b ∷ []) (i .steady) all) (ap byteItems used) (all 0) i)
+
+  -- content with more content behind it tells nothing that changes anything
+  quiet-content : (target : Aim) (st : State) (store : List ℕ) (b : ℕ) (p : Position) → 0 < p .content → changeOf R (onTarget target st store (b ∷ []) p .event) ≡ Keeps
+  unfolding ofBegin ofQuery ofRequest
+  quiet-content Aim.Skip st store b p l = refl
+  quiet-content (Aim.Begin id) st store b p l = simp (ne-eqb (p .content) 0 (λ z. omega arith))
+  quiet-content Aim.Query st store b p l = simp (ne-eqb (p .content) 0 (λ z. omega arith))
+  quiet-content (Aim.Params i) st store b p l = refl
+  quiet-content (Aim.Stdin i) st store b p l = refl
+  quiet-content (Aim.Data i) st store b p l = refl
+
+  -- A step stays in one phase, and its event comes with its last byte: the first of several bytes changes nothing.
+  quiet-first : (m : Memory) (b : ℕ) (x : List ℕ) → stepRefusal (m .state .conn) (m .store) ≡ 0 → 0 < length x → stepOf m (b ∷ x) .used ≡ suc (length x)
+      → changeOf R (stepOf m (b ∷ []) .event) ≡ Keeps
+  unfolding advances
+  quiet-first m b x a more all = by-position (m .state .conn .frame .position) content padding header
+    where
+      fits : Fits (m .state .conn) (m .store)
+      fits = admitted-fits (m .state .conn) (m .store) a
+
+      used : advanced (m .state .conn .frame .position) (b ∷ x) .used ≡ suc (length x)
+      used = sym (ap (λ (s : Stepped). s .used) (step-advances (m .state) (m .store) (b ∷ x) a (omega arith))) ∙ all
+
+      content : 0 < m .state .conn .frame .position .content → changeOf R (stepOf m (b ∷ []) .event) ≡ Keeps
+      content l =
+          let u = sym (ap (λ (r : Advanced). r .used) (in-content (m .state .conn .frame .position) (b ∷ x) l)) ∙ used in
+          ap (λ (s : Stepped). changeOf R (s .event)) (step-content (m .state) (m .store) b fits l)
+          ∙ quiet-content (m .state .conn .frame .target) (m .state) (m .store) b _ (omega arith)
+
+      padding : m .state .conn .frame .position .content ≡ 0 → 0 < m .state .conn .frame .position .padding → changeOf R (stepOf m (b ∷ []) .event) ≡ Keeps
+      padding z l = ap (λ (s : Stepped). changeOf R (s .event)) (step-padding (m .state) (m .store) b fits z l)
+
+      header : m .state .conn .frame .position .content ≡ 0 → m .state .conn .frame .position .padding ≡ 0 → changeOf R (stepOf m (b ∷ []) .event) ≡ Keeps
+      header z w =
+          let q = m .state .conn .frame .position in
+          by-header (q .held) (b ∷ x)
+          (λ g. absurd (omega (arith, shaped (m .state .conn) (fits .shape) .position .held)))
+          (λ g. ap (λ (s : Stepped). changeOf R (s .event)) (step-part (m .state) (m .store) b fits z w (omega arith)))
+          (λ g k.
+          let u = sym (ap (λ (r : Advanced). r .used) (in-header q (b ∷ x) z w ∙ in-whole (q .held) (q .header) (b ∷ x) g k)) ∙ used in
+          ap (λ (s : Stepped). changeOf R (s .event)) (step-part (m .state) (m .store) b fits z w (omega arith)))
+
+  -- over bytes that it uses all
+  holds-all : (x : List ℕ) (m : Memory) (h : History) → AllBytes x → stepOf m x .used ≡ length x → Holds m h
+      → Holds (memoryOf (stepOf m x)) (changed (changeOf R (stepOf m x .event)) (withBytes R h x))
+  unfolding withBytes
+  holds-all [] m h all used i =
+      subst (λ (s : Stepped). Holds (memoryOf s) (changed (changeOf R (s .event)) h)) (sym (step-nothing (m .state) (m .store))) i
+  holds-all (b ∷ []) m h all used i = holds-byte m b h all used i
+  holds-all (b ∷ c ∷ x) m h all used i =
+      let y = c ∷ x in
+      let m′ = memoryOf (stepOf m (b ∷ [])) in
+      let a = used-admitted (m .state) (m .store) (b ∷ y) (omega arith) in
+      let k = cut-step (m .state) (m .store) b y (i .steady .sizes) a (omega arith) used in
+      let quiet = quiet-first m b y a (omega arith) used in
+      let f = admitted-fits (m .state .conn) (m .store) a in
+      let one : stepOf m (b ∷ []) .used ≡ 1 = omega (arith, step-uses-some (m .state) (m .store) (b ∷ []) (f .shape) (f .is-open) (f .size) (omega arith)) in
+      let first : Holds m′ (withByte R h b) = subst (λ d. Holds m′ (changed d (withByte R h b))) quiet (holds-byte m b h (take-bytes 1 (b ∷ y) all) one i) in
+      let rest = holds-all (c ∷ x) m′ (withByte R h b) (λ j. all (suc j)) (k .all-used) first in
+      let same : memoryOf (stepOf m′ y) ≡ memoryOf (stepOf m (b ∷ y)) = ap₂ (λ u v. record { state = u; store = v }) (sym (k .same-state)) (sym (k .same-store)) in
+      let event : changeOf R (stepOf m′ y .event) ≡ changeOf R (stepOf m (b ∷ y) .event) =
+      event-cut R (stepOf m (b ∷ y) .event) (stepOf m (b ∷ []) .event) (stepOf m′ y .event) (b ∷ y) (b ∷ []) y (k .same-notes) quiet in
+      subst (λ d. Holds (memoryOf (stepOf m (b ∷ y))) (changed d (withBytes R (withByte R h b) y))) event
+      (subst (λ w. Holds w (changed (changeOf R (stepOf m′ y .event)) (withBytes R (withByte R h b) y))) same rest)
+
+  -- over any piece
+  holds-step : (m : Memory) (piece : List ℕ) (h : History) → AllBytes piece → Holds m h → Holds (memoryAfter m (StepOver piece)) (historyThen R m (StepOver piece) h)
+  unfolding memoryAfter
+  holds-step m piece h all i =
+      let n = stepOf m piece .used in
+      let e = used-only (m .state) (m .store) piece in
+      subst (λ (s : Stepped). Holds (memoryOf s) (changed (changeOf R (s .event)) (withBytes R h (usedOf m piece)))) e
+      (holds-all (usedOf m piece) m h (take-bytes n piece all) (ap (λ (s : Stepped). s .used) e ∙ sym (length-take-le n piece (step-uses-no-more (m .state) (m .store) piece))) i)
+
   -- ---- calls
-  -- a slot is written: what is due stays, if it does for that slot
-  due-written : (T : Slots receiver) (i : ℕ) (o : SlotState (List ℕ) Held) (s : Target receiver) → ((due : Due) → isParamsOf R o due ≡ isParamsOf R (slotAt cleanArea T i) due)
-      → dueFor R T s ≡ dueFor R (set T i o) s
-  due-written T i o Skip e = refl
-  due-written T i o (ToBegin id g) e = refl
-  due-written T i o (ToQuery g) e = refl
-  due-written T i o (ToSlot j due) e = go (written-or-not (Vacant cleanArea) T i j o)
-    where
-      go : ((j ≡ i) × (slotAt cleanArea (set T i o) j ≡ o)) ⊎ (slotAt cleanArea (set T i o) j ≡ slotAt cleanArea T j)
-          → isParamsOf R (slotAt cleanArea T j) due ≡ isParamsOf R (slotAt cleanArea (set T i o) j) due
-      go (inl h) = ap (λ k. isParamsOf R (slotAt cleanArea T k) due) (h .0) ∙ sym (e due) ∙ ap (λ s. isParamsOf R s due) (sym (h .1))
-      go (inr h) = ap (λ s. isParamsOf R s due) (sym h)
+  holds-call : (m : Memory) (id : ℕ) (a : Argument) (h : History) → Holds m h → Holds (memoryAfter m (CallFor id a)) (historyThen R m (CallFor id a) h)
+  unfolding seenIn itemsOf
+  holds-call m id a h i =
+      subst (λ c. Holds (memoryAfter m (CallFor id a)) (changed c h)) (answer-seen R _)
+      (holds-one m (CallFor id a) (CallItem (RequestCall id a)) h (call-linked m id a (i .steady)) refl tt i)
 
-  placed-again : (T T′ : Slots receiver) (F : Reading receiver) (m : Scan) → takesAmong R T′ ≡ takesAmong R T → ((s : Target receiver) → dueFor R T s ≡ dueFor R T′ s)
-      → Placed R T F m → Placed R T′ F m
-  placed-again T T′ (AtHeader h) m e f d = d
-  placed-again T T′ (PastHeader s zero p) m e f d = d
-  placed-again T T′ (PastHeader s (suc c) p) m e f d = (d .0, d .1, ap (λ k. if d .0 then k else false) e ∙ d .2 ∙ f s)
+  -- ---- operations
+  holds-run : (os : List Operation) (m : Memory) (h : History) → PiecesOk os → Holds m h → Holds (finalMemory m os) (historyFrom R m h os)
+  unfolding finalMemory historyFrom memoryAfter
+  holds-run [] m h p i = i
+  holds-run (StepOver piece ∷ os) m h p i = holds-run os (memoryAfter m (StepOver piece)) (historyThen R m (StepOver piece) h) (p .1) (holds-step m piece h (p .0) i)
+  holds-run (CallFor id a ∷ os) m h p i = holds-run os (memoryAfter m (CallFor id a)) (historyThen R m (CallFor id a) h) p (holds-call m id a h i)
+  holds-run (CountActive ∷ os) m h p i = holds-run os m h p i
 
-  placed-without : (T T′ : Slots receiver) (i : ℕ) (F : Reading receiver) (m : Scan)
-      → ((own : Bool) (s : Target receiver) → (if own then takesAmong R T else false) ≡ dueFor R T s → (if own then takesAmong R T′ else false) ≡ dueFor R T′ (targetWithout receiver i s))
-      → Placed R T F m → Placed R T′ (readingWithout receiver i F) m
-  unfolding readingWithout
-  placed-without T T′ i (AtHeader h) m f d = d
-  placed-without T T′ i (PastHeader s zero p) m f d = d
-  placed-without T T′ i (PastHeader s (suc c) p) m f d = (d .0, d .1, f (d .0) s (d .2))
+  fresh-list : listIn R (fresh receiver SLOTS) ≡ []
+  unfolding requestIn fresh lookup requestFound lookupFurther
+  fresh-list = refl
 
-  -- R is in no slot: nothing is due to it
-  slot-absent : (o : SlotState (List ℕ) Held) (due : Due) → ((h : Held) → o ≡ HeldBy R h → ⊥) → isParamsOf R o due ≡ false
-  slot-absent (Vacant x) due n = refl
-  slot-absent (HeldBy id h) Due.Skip n = refl
-  slot-absent (HeldBy id h) Due.Params n = ne-eqb id R (λ e. n h (ap (λ k. HeldBy k h) e))
-  slot-absent (HeldBy id h) Due.Stdin n = refl
-  slot-absent (HeldBy id h) Due.Data n = refl
+  -- a start
+  holds-start : (r : WholeRun) → Holds (beginning r) noHistory
+  holds-start r =
+      let e = start-loaded (r .gathered) (r .store) (r .store-size) in
+      record {
+        steady = start-steady (r .gathered) (r .store) (r .gathered-size) (r .store-size);
+        shape = subst (λ s. WellShaped receiver receiver-laws s) (sym e) (shape-fresh receiver receiver-laws);
+        agrees = subst (λ s. Agrees R s (ScanHeader []) false) (sym e) (fresh-agrees R);
+        list = ap (listIn R) e ∙ fresh-list;
+      }
 
-  due-absent : (T : Slots receiver) (s : Target receiver) → IsAbsent receiver receiver-laws R T → dueFor R T s ≡ false
-  due-absent T Skip a = refl
-  due-absent T (ToBegin id g) a = refl
-  due-absent T (ToQuery g) a = refl
-  due-absent T (ToSlot j due) a = slot-absent (slotAt cleanArea T j) due (a j)
-
-  -- R is finished: it is in no slot
-  freed-absent : (T : Slots receiver) (i : ℕ) (h : Held) → SlotsOk receiver receiver-laws T → slotAt cleanArea T i ≡ HeldBy R h → lookup R (set T i (Vacant cleanArea)) ≡ Absent
-  freed-absent T i h t d = go (lookup R (set T i (Vacant cleanArea))) (lookup-right cleanArea R (set T i (Vacant cleanArea)))
-    where
-      go : (o : Lookup Held) → LookupRight cleanArea R (set T i (Vacant cleanArea)) o → o ≡ Absent
-      go Absent r = refl
-      go (FoundAt j q) r = which (written-or-not (Vacant cleanArea) T i j (Vacant cleanArea))
-        where
-          none-here : slotAt cleanArea (set T i (Vacant cleanArea)) j ≡ Vacant cleanArea → FoundAt j q ≡ Absent
-          none-here e =
-              let y : _≡_ {A = SlotState (List ℕ) Held} (Vacant cleanArea) (HeldBy R q) = sym e ∙ r in
-              let z : _≡_ {A = ℕ} 0 1 = cc in
-              absurd (omega arith)
-
-          which : ((j ≡ i) × (slotAt cleanArea (set T i (Vacant cleanArea)) j ≡ Vacant cleanArea)) ⊎ (slotAt cleanArea (set T i (Vacant cleanArea)) j ≡ slotAt cleanArea T j) → FoundAt j q ≡ Absent
-          which (inl e) = none-here (e .1)
-          which (inr e) =
-              let x : j ≡ i = t .once j i R q h (sym e ∙ r) d in
-              none-here (ap (slotAt cleanArea (set T i (Vacant cleanArea))) x ∙ slot-written cleanArea T i R h (Vacant cleanArea) d)
-
-  -- another is finished: what is due to R stays
-  due-without : (T : Slots receiver) (i id : ℕ) (h : Held) (s : Target receiver) → slotAt cleanArea T i ≡ HeldBy id h → (id ≡ R → ⊥)
-      → dueFor R T s ≡ dueFor R (set T i (Vacant cleanArea)) (targetWithout receiver i s)
-  unfolding targetWithout
-  due-without T i id h Skip d n = refl
-  due-without T i id h (ToBegin k g) d n = refl
-  due-without T i id h (ToQuery g) d n = refl
-  due-without T i id h (ToSlot j due) d n =
-      let idle : isParamsOf R (slotAt cleanArea T i) due ≡ false = ap (λ o. isParamsOf R o due) d ∙ slot-absent (HeldBy id h) due (λ q e. n (cc)) in
-      byTest (eqb i j)
-      (λ e. let k : i ≡ j = eqb-true i j e in rw e (subst (λ k. isParamsOf R (slotAt cleanArea T k) due ≡ false) k idle))
-      (λ e. rw e (due-written T i (Vacant cleanArea) (ToSlot j due) (λ u. sym (ap (λ o. isParamsOf R o u) d ∙ slot-absent (HeldBy id h) u (λ q e. n (cc))))))
-
-  tracks-answer : (o : CallOutcome Held Answer) (i id : ℕ) (h : Held) (a : Argument) (T : Slots receiver) (F : Reading receiver) (m : Scan) → SlotsOk receiver receiver-laws T
-      → slotAt cleanArea T i ≡ HeldBy id h → CallKeeps h o → CallTakes h o → Placed R T F m → EffectOk receiver receiver-laws (callDecided receiver o i h id a T F)
-      → Tracks R T m (callDecided receiver o i h id a T F)
-  unfolding callDecided
-  tracks-answer (Stays q n) i id h a T F m t d k l p w =
-      (rw (k .0) (sym same), placed-again T (set T i (HeldBy id q)) F m same (λ s. due-written T i (HeldBy id q) s (λ due. same-due R id q h due ∙ ap (λ o. isParamsOf R o due) (sym d))) p)
-    where
-      own : eqb id R ≡ true → takesAmong R (set T i (HeldBy id q)) ≡ takesAmong R T
-      own e =
-          let r : id ≡ R = eqb-true id R e in
-          let there = slot-written cleanArea T i id h (HeldBy id q) d in
-          takes-held R (set T i (HeldBy id q)) i q (w .0) (subst (λ m. slotAt cleanArea (set T i (HeldBy id q)) i ≡ HeldBy m q) r there) ∙ l
-          ∙ sym (takes-held R T i h t (subst (λ m. slotAt cleanArea T i ≡ HeldBy m h) r d))
-
-      other : eqb id R ≡ false → takesAmong R (set T i (HeldBy id q)) ≡ takesAmong R T
-      other e = let n = eqb-false id R e in takes-same R T (set T i (HeldBy id q)) (lookup-set cleanArea R T i (HeldBy id q) (other-slot R T i id h d n) n)
-
-      same : takesAmong R (set T i (HeldBy id q)) ≡ takesAmong R T
-      same = byTest (eqb id R) own other
-  tracks-answer (Leaves n) i id h a T F m t d k l p w = byTest (eqb id R) own other
-    where
-      own : eqb id R ≡ true → Tracks R T m (Open (set T i (Vacant cleanArea)) (readingWithout receiver i F), some (CallAnswer id a n (some h) none))
-      own e =
-          let r : id ≡ R = eqb-true id R e in
-          let gone = freed-absent T i h t (subst (λ m. slotAt cleanArea T i ≡ HeldBy m h) r d) in
-          let idle = takes-absent R (set T i (Vacant cleanArea)) gone in
-          let nobody = lookup-absent receiver receiver-laws R (set T i (Vacant cleanArea)) gone in (
-            rw (k .0, k .1, e) (sym idle),
-            placed-without T (set T i (Vacant cleanArea)) i F m (λ own s x. rw idle (sym (off own)) ∙ sym (due-absent (set T i (Vacant cleanArea)) (targetWithout receiver i s) nobody)) p,
-          )
-
-      other : eqb id R ≡ false → Tracks R T m (Open (set T i (Vacant cleanArea)) (readingWithout receiver i F), some (CallAnswer id a n (some h) none))
-      other e =
-          let v = eqb-false id R e in
-          let same : takesAmong R (set T i (Vacant cleanArea)) ≡ takesAmong R T = takes-same R T (set T i (Vacant cleanArea)) (lookup-set cleanArea R T i (Vacant cleanArea) (other-slot R T i id h d v) refl) in (
-            rw (k .0, k .1, e) (sym same),
-            placed-without T (set T i (Vacant cleanArea)) i F m (λ own s x. ap (λ k. if own then k else false) same ∙ x ∙ due-without T i id h s d v) p,
-          )
-  tracks-answer (Closes n) i id h a T F m t d k l p w = rw (k .0, k .1)
-
-  tracks-called : (o : Lookup Held) (id : ℕ) (a : Argument) (T : Slots receiver) (F : Reading receiver) (m : Scan) → SlotsOk receiver receiver-laws T → LookupRight cleanArea id T o
-      → Placed R T F m → EffectOk receiver receiver-laws (requestCalled receiver o id a T F)
-      → Tracks R T m (requestCalled receiver o id a T F)
-  unfolding requestCalled
-  tracks-called Absent id a T F m t r p w = (rw (refused-keeps 3 a refl), p)
-  tracks-called (FoundAt i h) id a T F m t r p w = tracks-answer (receiveCall a h) i id h a T F m t r (call-keeps a h) (takes-call a h) p w
-
-  -- ---- every item
-  tracks-item : (s : Connection receiver) (m : Scan) (k : Bool) (x : (Item Argument)) → WellShaped receiver receiver-laws s → EffectOk receiver receiver-laws (onItem receiver s x)
-      → Agrees R s m k
-      → Agrees R ((onItem receiver s x) .0) (scanItem R m x) (takesThen R ((onItem receiver s x) .1) k)
-  unfolding onItem
-  tracks-item Closed m k (ByteItem b) h w e = e
-  tracks-item Closed m k (CallItem (RequestCall id a)) h w e = rw (refused-keeps 1 a refl) e
-  tracks-item Closed m k (CallItem CountCall) h w e = e
-  tracks-item (Open T F) m k (ByteItem b) h w e =
-      subst (λ k. Agrees R ((recordByte receiver T F b) .0) (scanParams R m b) (takesThen R ((recordByte receiver T F b) .1) k)) (sym (e .0)) (tracks-byte R T F m b (h .0) (h .1) (e .1) w)
-  tracks-item (Open T F) m k (CallItem (RequestCall id a)) h w e =
-      let A = requestCalled receiver (lookup id T) id a T F in
-      subst (λ k. Agrees R (A .0) m (takesThen R (A .1) k)) (sym (e .0)) (tracks-called (lookup id T) id a T F m (h .0) (lookup-right cleanArea id T) (e .1) w)
-  tracks-item (Open T F) m k (CallItem CountCall) h w e = e
-
-  -- the content that the bytes say is what the target says
-  content-for : (T : Slots receiver) (s : Target receiver) (b : ℕ) → contentFor R T s b ≡ (if dueFor R T s then b ∷ [] else [])
-  content-for T Skip b = refl
-  content-for T (ToBegin id g) b = refl
-  content-for T (ToQuery g) b = refl
-  content-for T (ToSlot i due) b = refl
-
-  idle-content : (m : Scan) (x : (Item Argument)) → contentBy m false x ≡ []
-  idle-content (ScanHeader h) x = refl
-  idle-content (ScanRest own zero p) x = refl
-  idle-content (ScanRest true (suc c) p) (ByteItem b) = refl
-  idle-content (ScanRest false (suc c) p) (ByteItem b) = refl
-  idle-content (ScanRest own (suc c) p) (CallItem a) = refl
-
-  call-content : (m : Scan) (k : Bool) (c : (Call Argument)) → contentBy m k (CallItem c) ≡ []
-  call-content (ScanHeader h) k c = refl
-  call-content (ScanRest own zero p) k c = refl
-  call-content (ScanRest own (suc n) p) k c = refl
-
-  same-content : (s : Connection receiver) (m : Scan) (k : Bool) (x : (Item Argument)) → Agrees R s m k → contentOf R s x ≡ contentBy m k x
-  same-content Closed m k x e = rw e (sym (idle-content m x))
-  same-content (Open T F) m k (CallItem c) e = sym (call-content m k c)
-  same-content (Open T (AtHeader h)) m k (ByteItem b) e = rw (e .1)
-  same-content (Open T (PastHeader s zero p)) m k (ByteItem b) e = rw (e .1 .1)
-  same-content (Open T (PastHeader s (suc c) p)) m k (ByteItem b) e =
-      content-for T s b ∙ rw (e .1 .1, e .0) (ap (λ (z : Bool). if z then b ∷ [] else []) (sym (e .1 .2)))
-
-  -- a timeline
-  same-parameters : (s : Connection receiver) (m : Scan) (k : Bool) (l : List ℕ) {t : List (Item Argument)} → ItemsOk receiver t → WellShaped receiver receiver-laws s → Agrees R s m k
-      → parametersAfter R s t l ≡ parametersBy R m k l (witnessed s t)
-  unfolding parametersAfter parametersBy witnessed
-  same-parameters s m k l ItemsEnd h e = refl
-  same-parameters s m k l (ItemsMore {x = x} {t = t} p q) h e =
-      let w = shape-item receiver receiver-laws s x p h in
-      let o = (onItem receiver s x) .1 in
-      same-parameters ((onItem receiver s x) .0) (scanItem R m x) (takesThen R o k) (parametersThen R o (contentOf R s x) l) q w (tracks-item s m k x h w e)
-      ∙ ap (λ y. parametersBy R (scanItem R m x) (takesThen R o k) (parametersThen R o y l) (witnessed ((onItem receiver s x) .0) t)) (same-content s m k x e)
-
-fresh-agrees : (R : ℕ) → Agrees R (fresh receiver SLOTS) (ScanHeader []) false
-unfolding fresh lookup requestFound lookupFurther
-fresh-agrees R = (refl, refl)
+-- the first operations of a run are over bytes, too
+first-pieces : (os ps : List Operation) → PiecesOk (os ++ ps) → PiecesOk os
+first-pieces [] ps p = tt
+first-pieces (StepOver x ∷ os) ps p = (p .0, first-pieces os ps (p .1))
+first-pieces (CallFor id a ∷ os) ps p = first-pieces os ps p
+first-pieces (CountActive ∷ os) ps p = first-pieces os ps p
 
 -- ---- every run
--- After any run from a start, what R's area holds up to its length is exactly R's parameters by history; there are
--- none where R is not active.
-pub list-is-history : (R : ℕ) (r : WholeRun) → listFound (requestOf R (ending r)) ≡ historyOf R (timelineOf r)
-list-is-history R r =
-    parameters-by-history R r
-    ∙ same-parameters R (fresh receiver SLOTS) (ScanHeader []) false [] (timeline-ok (r .operations) (beginning r) (r .pieces)) (shape-fresh receiver receiver-laws) (fresh-agrees R)
+-- After any of the first operations of a run, what R's area holds up to R's length is exactly R's parameters by
+-- history; there are none where R is not active. So it is just before and just after each call, too.
+pub list-is-history : (R : ℕ) (r : WholeRun) (os ps : List Operation) → r .operations ≡ os ++ ps
+    → listFound (requestOf R (finalMemory (beginning r) os)) ≡ parametersAfter R (beginning r) os
+list-is-history R r os ps e =
+    ap listFound (sym (request-loaded R (finalMemory (beginning r) os)))
+    ∙ holds-run R os (beginning r) noHistory (first-pieces os ps (subst PiecesOk e (r .pieces))) (holds-start R r) .list
 
 -- For an active R.
-pub active-list-is-history : (R : ℕ) (r : WholeRun) (h : Held) → requestOf R (ending r) ≡ some h → listOf h ≡ historyOf R (timelineOf r)
-active-list-is-history R r h e = ap listFound (sym e) ∙ list-is-history R r
-
--- What is observed of the items, in order, is what the run's steps told and its calls answered.
-unfoldable pub witnessedAll : List (Item Argument × Option (Observation receiver)) → List (Observation receiver)
-witnessedAll [] = []
-witnessedAll ((x, o) ∷ t) = asList receiver o ++ witnessedAll t
-
-observed-all : (s : Connection receiver) (t : List (Item Argument)) → witnessedAll (witnessed s t) ≡ observations receiver s t
-unfolding witnessedAll witnessed observations
-observed-all s [] = refl
-observed-all s (x ∷ t) = ap (λ l. asList receiver ((onItem receiver s x) .1) ++ l) (observed-all ((onItem receiver s x) .0) t)
-
-pub history-told : (r : WholeRun) → observedIn r ≡ toldAll (witnessedAll (witnessed (fresh receiver SLOTS) (timelineOf r)))
-history-told r =
-    run-linked (r .operations) (beginning r) (start-steady (r .gathered) (r .store) (r .gathered-size) (r .store-size)) (r .pieces) .tells
-    ∙ ap (λ s. toldAll (observations receiver s (timelineOf r))) (start-loaded (r .gathered) (r .store) (r .store-size))
-    ∙ ap toldAll (sym (observed-all (fresh receiver SLOTS) (timelineOf r)))
+pub active-list-is-history : (R : ℕ) (r : WholeRun) (os ps : List Operation) (h : Held) → r .operations ≡ os ++ ps
+    → requestOf R (finalMemory (beginning r) os) ≡ some h → listOf h ≡ parametersAfter R (beginning r) os
+active-list-is-history R r os ps h e a = ap listFound (sym a) ∙ list-is-history R r os ps e

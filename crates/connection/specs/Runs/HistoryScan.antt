@@ -21,7 +21,8 @@ use Rattle.machine.specs.Shape.{SlotOk, SlotsOk, TargetOk, ReadingOk, EffectOk}
 use Rattle.machine.specs.ShapeSlots.{VacancyThere, vacancy-there}
 use Rattle.connection.specs.Runs.Receiver.{cleanArea, receiver, receiveBegin, Notice, noteOf, receiveHeader, receiveByte, receiveQuery, receiveManagement, receiveInactive, dueStream}
 use Rattle.connection.specs.Runs.ReceiverLaws.{receiver-laws}
-use Rattle.connection.specs.Runs.History.{isParamsHeader, scanWholeParams, scanParams, takesAfter, takesTold, takesThen}
+use Rattle.connection.specs.History.{isParamsHeader, scanWholeParams, scanParams}
+use Rattle.connection.specs.Runs.HistoryOnMachine.{takesAfter, takesTold, takesThen}
 use Rattle.connection.specs.Runs.HistoryRequest.{takes, takesFound, isParamsDue, off, takes-header, takes-grown, TakesNew, takes-new}
 use Rattle.connection.specs.Runs.HistoryTarget.{isParamsOf, held-found, other-slot}
 

@@ -9,26 +9,22 @@ use native.Mathlib.Omega.{arith}
 use lib.ListN.{length, set}
 use lib.Dec.{eqb, ltb}
 use Rattle.wire.specs.Test.{if_then_else_, _=?_, byTest}
-use Rattle.machine.specs.Slots.{SlotState, Vacant, HeldBy, slotAt, Lookup, Absent, FoundAt, Vacancy, NoVacancy, VacancyAt, lookupFurther, lookup, firstVacancy, OfOthers, LookupRight, lookup-right, lookup-set, slot-written}
+use Rattle.machine.specs.Slots.{SlotState, Vacant, HeldBy, slotAt, Lookup, Absent, FoundAt, Vacancy, NoVacancy, VacancyAt, lookup, firstVacancy, OfOthers, LookupRight, lookup-right, lookup-set, slot-written}
 use Rattle.machine.specs.Timeline.{RequestCall, CountCall, Item, ByteItem, CallItem, headerVersion, headerType, headerId, headerContent, headerPadding}
-use Rattle.machine.specs.Machine.{BeginOutcome, Declined, Accepted, CallOutcome, Stays, Leaves, Closes, Target, Skip, ToBegin, ToQuery, ToSlot, Reading, AtHeader, PastHeader, Slots, Connection, Open, Closed, Observation, RequestEvent, NoticeEvent, CloseEvent, CountAnswer, CallAnswer, onItem, InactiveOutcome, WrongBegin, NewBegin, PassedOver, ManagementOutcome, QueryTooLong, Notices, Gathers, fresh, Effect, eventFrom, withLeft, queryWhole, queryHeader, managementHeader, inactiveHeader, headerDecided, headerFound, headerRouted, headerVersioned, headerByte, requestSeated, beginWhole, streamByte, contentByte, recordByte, readingWithout, callDecided, requestCalled, stateAfter, requestFound, requestIn}
+use Rattle.machine.specs.Machine.{BeginOutcome, Declined, Accepted, CallOutcome, Stays, Leaves, Closes, Target, Skip, ToBegin, ToQuery, ToSlot, Reading, AtHeader, PastHeader, Slots, Connection, Open, Closed, Observation, RequestEvent, NoticeEvent, CloseEvent, CountAnswer, CallAnswer, onItem, InactiveOutcome, WrongBegin, NewBegin, PassedOver, ManagementOutcome, QueryTooLong, Notices, Gathers, Effect, eventFrom, withLeft, queryWhole, queryHeader, managementHeader, inactiveHeader, headerDecided, headerFound, headerRouted, headerVersioned, headerByte, requestSeated, beginWhole, streamByte, contentByte, recordByte, readingWithout, callDecided, requestCalled, requestFound, requestIn}
 use Rattle.connection.specs.declared.request.Due.{Due}
-use Rattle.connection.specs.Sizes.{SLOTS}
 use Rattle.connection.specs.Event.{Event}
 use Rattle.connection.specs.Request.{Held, listOf, onHeader, grown}
 use Rattle.connection.specs.Bytewise.{Note}
 use borrow.Author.Tests.{eqb-true, eq-eqb, eqb-false}
 use mathlib.Core.Logic.{_⊎_, inl, inr}
-use Rattle.machine.specs.Shape.{ItemsOk, ItemsEnd, ItemsMore, SlotOk, IsAbsent, SlotsOk, TargetOk, ReadingOk, WellShaped, EffectOk}
+use Rattle.machine.specs.Shape.{SlotOk, IsAbsent, SlotsOk, TargetOk, ReadingOk, WellShaped, EffectOk}
 use Rattle.machine.specs.ShapeSlots.{written-or-not, lookup-absent, VacancyThere, vacancy-there}
-use Rattle.machine.specs.ShapeKept.{shape-item, shape-fresh}
 use Rattle.connection.specs.Arguments.{Argument, Answer, refused}
 use Rattle.connection.specs.Runs.Receiver.{cleanArea, receiver, receiveBegin, receiveCall, Notice, noteOf, receiveHeader, receiveByte, receiveQuery, receiveManagement, receiveInactive}
 use Rattle.connection.specs.Runs.ReceiverLaws.{StreamOk, receiver-laws}
-use Rattle.connection.specs.Run.{requestOf, WholeRun, beginning, ending, timelineOf}
-use Rattle.connection.specs.Runs.LinkingRuns.{run-linked, start-loaded, start-steady, request-loaded}
-use Rattle.connection.specs.Runs.Hygiene.{timeline-ok}
-use Rattle.connection.specs.Runs.History.{listFound, opensOrFaults, tellsAnew, emptiesAny, parametersThen}
+use Rattle.connection.specs.History.{listFound}
+use Rattle.connection.specs.Runs.HistoryOnMachine.{opensOrFaults, tellsAnew, emptiesAny, parametersThen}
 use Rattle.connection.specs.Runs.HistoryRequest.{list-header, list-grown, BeginsAnew, begins, CallKeeps, call-keeps, refused-keeps}
 
 -- ---- content, by the connection's target
@@ -59,19 +55,13 @@ contentOf R Closed x = []
 contentOf R (Open T F) (ByteItem b) = contentAt R T F b
 contentOf R (Open T F) (CallItem c) = []
 
--- R's parameters after the items of a timeline, which starts with l: emptied where R is opened or faults, is
--- finished, or the connection closes; PARAMS content that is used for R is added.
-unfoldable pub parametersAfter : ℕ → Connection receiver → List (Item Argument) → List ℕ → List ℕ
-parametersAfter R s [] l = l
-parametersAfter R s (x ∷ t) l = parametersAfter R ((onItem receiver s x) .0) t (parametersThen R ((onItem receiver s x) .1) (contentOf R s x) l)
-
 -- ---- one item
 module _ (R : ℕ) where
   -- the list of R among the slots, and in a state
-  abbrev listAmong : Slots receiver → List ℕ
+  abbrev pub listAmong : Slots receiver → List ℕ
   listAmong T = listFound (requestFound receiver (lookup R T))
 
-  abbrev listIn : Connection receiver → List ℕ
+  abbrev pub listIn : Connection receiver → List ℕ
   listIn s = listFound (requestIn receiver R s)
 
   -- what an item leads to has the list that the history says
@@ -353,7 +343,7 @@ module _ (R : ℕ) where
   follows-called (FoundAt i h) id a T F t r w = follows-answer (receiveCall a h) i id h a T F t r (call-keeps a h) w
 
   -- ---- every item
-  follows-item : (s : Connection receiver) (x : (Item Argument)) → WellShaped receiver receiver-laws s → EffectOk receiver receiver-laws (onItem receiver s x)
+  pub follows-item : (s : Connection receiver) (x : (Item Argument)) → WellShaped receiver receiver-laws s → EffectOk receiver receiver-laws (onItem receiver s x)
       → listIn ((onItem receiver s x) .0) ≡ parametersThen R ((onItem receiver s x) .1) (contentOf R s x) (listIn s)
   unfolding onItem requestIn
   follows-item Closed (ByteItem b) h w = refl
@@ -362,26 +352,3 @@ module _ (R : ℕ) where
   follows-item (Open T F) (ByteItem b) h w = follows-byte T F b (h .0) (h .1) w
   follows-item (Open T F) (CallItem (RequestCall id a)) h w = follows-called (lookup id T) id a T F (h .0) (lookup-right cleanArea id T) w
   follows-item (Open T F) (CallItem CountCall) h w = follows-same T T F (some (CountAnswer (some T))) refl refl
-
-  -- a timeline
-  follows-all : (s : Connection receiver) (l : List ℕ) {t : List (Item Argument)} → ItemsOk receiver t → WellShaped receiver receiver-laws s → listIn s ≡ l
-      → listIn (stateAfter receiver s t) ≡ parametersAfter R s t l
-  unfolding stateAfter parametersAfter
-  follows-all s l ItemsEnd h e = e
-  follows-all s l (ItemsMore {x = x} p q) h e =
-      let w = shape-item receiver receiver-laws s x p h in
-      follows-all ((onItem receiver s x) .0) (parametersThen R ((onItem receiver s x) .1) (contentOf R s x) l) q w
-      (follows-item s x h w ∙ ap (λ k. parametersThen R ((onItem receiver s x) .1) (contentOf R s x) k) e)
-
-fresh-list : (R : ℕ) → listFound (requestIn receiver R (fresh receiver SLOTS)) ≡ []
-unfolding requestIn fresh lookup requestFound lookupFurther
-fresh-list R = refl
-
--- ---- every run
--- After any run from a start R's list is what the content for its PARAMS by the target adds up to.
-pub parameters-by-history : (R : ℕ) (r : WholeRun) → listFound (requestOf R (ending r)) ≡ parametersAfter R (fresh receiver SLOTS) (timelineOf r) []
-parameters-by-history R r =
-    let k = run-linked (r .operations) (beginning r) (start-steady (r .gathered) (r .store) (r .gathered-size) (r .store-size)) (r .pieces) in
-    let e = start-loaded (r .gathered) (r .store) (r .store-size) in
-    ap listFound (sym (request-loaded R (ending r)) ∙ ap (requestIn receiver R) (k .state ∙ ap (λ s. stateAfter receiver s (timelineOf r)) e))
-    ∙ follows-all R (fresh receiver SLOTS) [] (timeline-ok (r .operations) (beginning r) (r .pieces)) (shape-fresh receiver receiver-laws) (fresh-list R)

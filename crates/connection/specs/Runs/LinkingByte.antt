@@ -32,10 +32,11 @@ use Rattle.connection.specs.Runs.LinkingContent.{links-content}
 -- ---- a step over one byte, phase by phase
 module _ (st : State) (store : List ℕ) (b : ℕ) (fits : Fits (st .conn) store) where
   -- the reader's position
-  abbrev pos : Position
+  abbrev pub pos : Position
   pos = st .conn .frame .position
 
-  step-content : 0 < pos .content → stepped st store (b ∷ []) ≡ leaves 1 (onTarget (st .conn .frame .target) st store (b ∷ []) (lessContent pos 1))
+  -- within content
+  pub step-content : 0 < pos .content → stepped st store (b ∷ []) ≡ leaves 1 (onTarget (st .conn .frame .target) st store (b ∷ []) (lessContent pos 1))
   unfolding advances
   step-content some =
       let m : min (pos .content) (length (b ∷ [])) ≡ 1 = omega arith in
@@ -43,7 +44,8 @@ module _ (st : State) (store : List ℕ) (b : ℕ) (fits : Fits (st .conn) store
       ∙ ap (advances st store (b ∷ [])) (in-content pos (b ∷ []) some)
       ∙ ap (λ (n : ℕ). leaves n (onTarget (st .conn .frame .target) st store (take n (b ∷ [])) (lessContent pos n))) m
 
-  step-padding : pos .content ≡ 0 → 0 < pos .padding → stepped st store (b ∷ []) ≡ leaves 1 (reads st store (frameAt (st .conn .frame) (lessPadding pos 1)) Event.None)
+  -- within padding
+  pub step-padding : pos .content ≡ 0 → 0 < pos .padding → stepped st store (b ∷ []) ≡ leaves 1 (reads st store (frameAt (st .conn .frame) (lessPadding pos 1)) Event.None)
   unfolding advances
   step-padding z some =
       let m : min (pos .padding) (length (b ∷ [])) ≡ 1 = omega arith in
@@ -52,10 +54,11 @@ module _ (st : State) (store : List ℕ) (b : ℕ) (fits : Fits (st .conn) store
       ∙ ap (λ (n : ℕ). leaves n (reads st store (frameAt (st .conn .frame) (lessPadding pos n)) Event.None)) m
 
   -- the position in a header with the byte
-  abbrev withByte : Position
+  abbrev pub withByte : Position
   withByte = record { content = 0; padding = 0; held = pos .held + length (b ∷ []); header = putAt (pos .header) (pos .held) (b ∷ []) }
 
-  step-part : pos .content ≡ 0 → pos .padding ≡ 0 → pos .held + length (b ∷ []) < 8
+  -- within a header, which the byte does not make whole
+  pub step-part : pos .content ≡ 0 → pos .padding ≡ 0 → pos .held + length (b ∷ []) < 8
       → stepped st store (b ∷ []) ≡ leaves 1 (reads st store (frameAt (st .conn .frame) withByte) Event.None)
   unfolding advances
   step-part z w room =

@@ -101,7 +101,8 @@ record Bytes (m : Memory) (x : List ℕ) : Type 0 where
   tells : map Heard (ranOf m x .notes) ≡ toldAll (observations receiver (loadedOf m) (byteItems x))
   steady : Steady (runMemory (ranOf m x))
 
-map-append : (x y : List Note) → map Heard (x ++ y) ≡ map Heard x ++ map Heard y
+-- what is heard of two lists
+pub map-append : (x y : List Note) → map Heard (x ++ y) ≡ map Heard x ++ map Heard y
 map-append [] y = refl
 map-append (a ∷ x) y = ap (λ l. Heard a ∷ l) (map-append x y)
 

@@ -1,5 +1,4 @@
--- A run of R's items exists, in every cutting of their bytes into pieces: what isolation says of such runs is said of
--- something.
+-- The second half of Isolation, `any-cutting`: every cutting of R's items into pieces can be run to its end.
 use mathlib.Core.Path.{_≡_, refl, ap, ap₂, sym, _∙_}
 use mathlib.Core.List.{List, [], _∷_, _++_, append-assoc, append-nil}
 use mathlib.Core.Bool.{true}
@@ -19,34 +18,12 @@ use Rattle.connection.specs.Laws.PieceLaws.{AllBytes, drop-bytes}
 use Rattle.connection.specs.Laws.Progress.{step-uses-some}
 use Rattle.connection.specs.Runs.Receiver.{receiver}
 use Rattle.connection.specs.Arguments.{Argument}
-use Rattle.connection.specs.Run.{Memory, Operation, StepOver, CallFor, CountActive, stepOf, memoryAfter, itemsOf, finalMemory, timeline, startOf, PiecesOk, WholeRun, timelineOf}
+use Rattle.connection.specs.Run.{Memory, Operation, StepOver, CallFor, CountActive, stepOf, memoryAfter, itemsOf, finalMemory, timeline, startOf, PiecesOk, WholeRun, timelineOf, steppedThrough, allStepped, itemsIn}
 use Rattle.connection.specs.Runs.LinkingStep.{loadedOf, closed-loaded, Steady, step-linked}
 use Rattle.connection.specs.Runs.LinkingCalls.{call-linked, count-linked}
 use Rattle.connection.specs.Runs.LinkingRuns.{run-linked, start-loaded, start-steady}
-use Rattle.connection.specs.Isolation.{EndsBetweenRecords, NeverOverloaded, RunsFor, Isolated}
-use Rattle.connection.specs.Runs.Theorem.{purged-between, isolation}
-
--- ---- pieces stepped over until they are used up
--- one piece, in at most n steps
-unfoldable pub steppedThrough : ℕ → Memory → List ℕ → List Operation
-steppedThrough zero m x = []
-steppedThrough (suc n) m [] = []
-steppedThrough (suc n) m (b ∷ x) =
-    StepOver (b ∷ x) ∷ steppedThrough n (memoryAfter m (StepOver (b ∷ x))) (drop (stepOf m (b ∷ x) .used) (b ∷ x))
-
--- each piece, and the calls in their places
-unfoldable pub allStepped : Memory → List Operation → List Operation
-allStepped m [] = []
-allStepped m (StepOver x ∷ os) = steppedThrough (length x) m x ++ allStepped (finalMemory m (steppedThrough (length x) m x)) os
-allStepped m (CallFor id a ∷ os) = CallFor id a ∷ allStepped (memoryAfter m (CallFor id a)) os
-allStepped m (CountActive ∷ os) = CountActive ∷ allStepped (memoryAfter m CountActive) os
-
--- all bytes and calls of operations, whether they are used or not
-unfoldable pub itemsIn : List Operation → List (Item Argument)
-itemsIn [] = []
-itemsIn (StepOver x ∷ os) = byteItems x ++ itemsIn os
-itemsIn (CallFor id a ∷ os) = CallItem (RequestCall id a) ∷ itemsIn os
-itemsIn (CountActive ∷ os) = CallItem CountCall ∷ itemsIn os
+use Rattle.connection.specs.Isolation.{EndsBetweenRecords, NeverOverloaded, RunsFor, CanBeRun}
+use Rattle.connection.specs.Runs.Theorem.{purged-between, any-run}
 
 -- ---- laws of lists of operations
 final-append : (os : List Operation) (m : Memory) (ps : List Operation) → timeline m (os ++ ps) ≡ timeline m os ++ timeline (finalMemory m os) ps
@@ -164,8 +141,15 @@ second-run R A gathered store ps size full p r b room e =
     let a : stateAfter receiver (loadedOf B) (itemsIn ps) ≡ Closed → ⊥ = λ d. let y : _≡_ {A = ℕ} 0 1 = cc in omega arith in
     record { rest = []; prefix = append-nil _ ∙ all-stepped ps B (start-steady gathered store size full) p a ∙ e; all-or-closed = inl refl }
 
--- So it is isolated: both in one.
-pub isolated-second-run : (R : ℕ) (A : WholeRun) (gathered store : List ℕ) (ps : List Operation) (size : length gathered ≡ QUERY) (full : length store ≡ STORE) (p : PiecesOk ps)
-    → 0 < R → EndsBetweenRecords A → NeverOverloaded R A → itemsIn ps ≡ purge R (timelineOf A) → Isolated R A (secondRun gathered store ps size full p)
-isolated-second-run R A gathered store ps size full p r b room e =
-    isolation R A (secondRun gathered store ps size full p) r b room (second-run R A gathered store ps size full p r b room e)
+-- So it is isolated.
+pub any-cutting : (R : ℕ) (A : WholeRun) (gathered store : List ℕ) (ps : List Operation) → 0 < R → EndsBetweenRecords A → NeverOverloaded R A
+    → length gathered ≡ QUERY → length store ≡ STORE → PiecesOk ps → itemsIn ps ≡ purge R (timelineOf A)
+    → CanBeRun R A gathered store ps
+any-cutting R A gathered store ps r b room size full p e =
+    record {
+      run = secondRun gathered store ps size full p;
+      same-gathered = refl;
+      same-store = refl;
+      each-stepped = refl;
+      isolated = any-run R A (secondRun gathered store ps size full p) r b room (second-run R A gathered store ps size full p r b room e);
+    }

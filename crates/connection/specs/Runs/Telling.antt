@@ -20,9 +20,9 @@ use Rattle.connection.specs.Runs.Receiver.{QueryWith, UnknownType, notic
 use Rattle.connection.specs.Run.{Observed, Heard, Answered, eventId, idOf, seenOf}
 
 -- ---- observations
--- an event of a request, with this id
+-- an event of a request, with this id (the four that name no request are never one of a request)
 abbrev pub withId : ℕ → Event → Event
-withId id Event.None = Event.Abort id
+withId id Event.None = Event.End id 0
 withId id (Event.Open j role keep) = Event.Open id role keep
 withId id (Event.Ready j n) = Event.Ready id n
 withId id (Event.Data j stream n) = Event.Data id stream n
@@ -30,9 +30,9 @@ withId id (Event.End j stream) = Event.End id stream
 withId id (Event.Abort j) = Event.Abort id
 withId id (Event.Refuse j n) = Event.Refuse id n
 withId id (Event.Fault j n) = Event.Fault id n
-withId id (Event.Query conns reqs mpxs) = Event.Abort id
-withId id (Event.Unknown kind) = Event.Abort id
-withId id (Event.Closed n) = Event.Abort id
+withId id (Event.Query conns reqs mpxs) = Event.End id 0
+withId id (Event.Unknown kind) = Event.End id 0
+withId id (Event.Closed n) = Event.End id 0
 
 -- what is told of a request, with this id
 abbrev pub noteWithId : ℕ → Note → Note

@@ -1,5 +1,5 @@
--- The proof of Isolation: runs of the receiver are runs of a machine of one request, for which it is shown in the
--- crate `machine`.
+-- The first half of Isolation, `any-run`: runs of the receiver are runs of a machine of one request, for which it is
+-- shown in the crate `machine`.
 use mathlib.Core.Path.{_≡_, refl, ap, sym, _∙_, subst}
 use mathlib.Core.List.{List, [], _∷_, List·Memᴰ, List·Memᴰ·head, List·Memᴰ·tail, Memᴰ·append-left, Memᴰ·append-right}
 use mathlib.Core.Logic.{_⊎_, inl, inr}
@@ -18,7 +18,7 @@ use Rattle.connection.specs.Bytewise.{Note}
 use Rattle.connection.specs.Runs.Receiver.{receiver}
 use Rattle.connection.specs.Arguments.{Argument}
 use Rattle.connection.specs.Run.{Memory, Observed, requestOf, WholeRun, beginning, ending, timelineOf, observedIn, seenOf, observed}
-use Rattle.connection.specs.Isolation.{EndsBetweenRecords, overloadedFor, NeverOverloaded, Isolation}
+use Rattle.connection.specs.Isolation.{EndsBetweenRecords, overloadedFor, NeverOverloaded, RunsFor, Isolated}
 use Rattle.connection.specs.Runs.Telling.{told, toldAll, seen-observed}
 use Rattle.connection.specs.Runs.LinkingStep.{loadedOf, closed-loaded, Steady}
 use Rattle.connection.specs.Runs.LinkingRuns.{run-linked, start-loaded, start-steady, request-loaded, BetweenRecords, between-loaded, loaded-between}
@@ -78,9 +78,9 @@ ends : (m : Memory) {s : Connection receiver} {rest : List (Item Argument)} → 
 ends m e (inl x) = inl x
 ends m e (inr x) = inr (sym e ∙ closed-loaded m x)
 
--- Demand 3.
-pub isolation : Isolation
-isolation R A B r b room runs =
+-- Any run for R's items of A is isolated.
+pub any-run : (R : ℕ) (A B : WholeRun) → 0 < R → EndsBetweenRecords A → NeverOverloaded R A → RunsFor R A B → Isolated R A B
+any-run R A B r b room runs =
     let i =
     Prefix.isolation-of-prefix receiver R 15 (timelineOf A) (timelineOf B) r (between A b) (never A room)
     (record { rest = runs .rest; prefix = runs .prefix; all-or-closed = ends (ending B) (from-start B .state) (runs .all-or-closed) }) in

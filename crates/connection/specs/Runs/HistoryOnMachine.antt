@@ -1,25 +1,17 @@
--- The parameters of a request by history: PARAMS content that was used for it since it was opened, from the bytes and
--- calls of a timeline and from what was observed of them. Definitions only.
+-- An inner step of the proof about histories: what one item of a timeline does to R's parameters on the machine, by
+-- what the machine observes of it. Definitions only. The definition of R's parameters is in `History`.
 use mathlib.Core.List.{List, [], _∷_, _++_}
 use mathlib.Core.Option.{Option, none, some}
 use mathlib.Core.Bool.{Bool, true, false}
 use Prim.Native.Nat.{ℕ, zero, suc}
-use lib.ListN.{length}
-use Rattle.wire.specs.Test.{if_then_else_, _=?_, _<?_}
-use Rattle.record.specs.Names.{PARAMS}
-use Rattle.machine.specs.Timeline.{Item, ByteItem, CallItem, headerType, headerId, headerContent, headerPadding, Scan, ScanHeader, ScanRest, scanLeft}
-use Rattle.machine.specs.Machine.{Connection, Observation, RequestEvent, NoticeEvent, CloseEvent, CountAnswer, CallAnswer, onItem, fresh}
-use Rattle.connection.specs.Sizes.{SLOTS}
+use Rattle.wire.specs.Test.{if_then_else_, _=?_}
+use Rattle.machine.specs.Timeline.{Item, ByteItem, CallItem, Scan, ScanHeader, ScanRest}
+use Rattle.machine.specs.Machine.{Observation, RequestEvent, NoticeEvent, CloseEvent, CountAnswer, CallAnswer}
 use Rattle.connection.specs.Event.{Event}
-use Rattle.connection.specs.Request.{Held, listOf}
 use Rattle.connection.specs.Bytewise.{Note}
 use Rattle.connection.specs.Arguments.{Argument, Answer, ValueIs, SourceIs, PairAnswer, WalkIs, Wrote, FinishedWith}
 use Rattle.connection.specs.Runs.Receiver.{receiver}
-
--- the list of a request, or none
-abbrev pub listFound : Option Held → List ℕ
-listFound none = []
-listFound (some h) = listOf h
+use Rattle.connection.specs.History.{scanParams}
 
 -- ---- what empties the parameters of R
 -- a request is opened, or faults
@@ -73,23 +65,6 @@ emptiesAny R none = false
 emptiesAny R (some o) = empties R o
 
 -- ---- where a byte stands
--- the header of a PARAMS record of R
-abbrev pub isParamsHeader : ℕ → List ℕ → Bool
-isParamsHeader R h = if headerId h =? R then headerType h =? PARAMS else false
-
--- after a header byte: are they fewer than eight still?
-unfoldable pub scanWholeParams : Bool → ℕ → List ℕ → Scan
-scanWholeParams true R h = ScanHeader h
-scanWholeParams false R h = scanLeft (isParamsHeader R h) (headerContent h) (headerPadding h)
-
--- Where the byte after b stands: in a header, or past one, with whether it is of a PARAMS record of R, and the
--- content and padding left.
-unfoldable pub scanParams : ℕ → Scan → ℕ → Scan
-scanParams R (ScanHeader h) b = scanWholeParams (length (h ++ b ∷ []) <? 8) R (h ++ b ∷ [])
-scanParams R (ScanRest own (suc c) p) b = scanLeft own c p
-scanParams R (ScanRest own zero (suc p)) b = scanLeft own zero p
-scanParams R (ScanRest own zero zero) b = ScanHeader []
-
 -- after an item
 abbrev pub scanItem : ℕ → Scan → Item Argument → Scan
 scanItem R m (ByteItem b) = scanParams R m b
@@ -128,7 +103,7 @@ abbrev pub takesThen : ℕ → Option (Observation receiver) → Bool → Bool
 takesThen R none k = k
 takesThen R (some o) k = takesSeen R o k
 
--- ---- the history
+-- ---- what is added
 -- a byte of the content of a PARAMS record of R, while R takes PARAMS
 abbrev pub contentBy : Scan → Bool → Item Argument → List ℕ
 contentBy (ScanHeader h) k x = []
@@ -139,19 +114,3 @@ contentBy (ScanRest own (suc c) p) k (CallItem a) = []
 -- what an item that was observed so makes of the parameters
 abbrev pub parametersThen : ℕ → Option (Observation receiver) → List ℕ → List ℕ → List ℕ
 parametersThen R o content l = if emptiesAny R o then [] else l ++ content
-
--- R's parameters after the items of a timeline with what was observed at each, from a place in the bytes, from
--- whether R takes PARAMS and from the parameters so far.
-unfoldable pub parametersBy : ℕ → Scan → Bool → List ℕ → List (Item Argument × Option (Observation receiver)) → List ℕ
-parametersBy R m k l [] = l
-parametersBy R m k l ((x, o) ∷ t) = parametersBy R (scanItem R m x) (takesThen R o k) (parametersThen R o (contentBy m k x) l) t
-
--- the items of a timeline, each with what is observed of it
-unfoldable pub witnessed : Connection receiver → List (Item Argument) → List (Item Argument × Option (Observation receiver))
-witnessed s [] = []
-witnessed s (x ∷ t) = (x, (onItem receiver s x) .1) ∷ witnessed ((onItem receiver s x) .0) t
-
--- R's parameters by history: the timeline with what was observed of each item, from a start, where nothing is read
--- and R takes nothing.
-abbrev pub historyOf : ℕ → List (Item Argument) → List ℕ
-historyOf R t = parametersBy R (ScanHeader []) false [] (witnessed (fresh receiver SLOTS) t)
