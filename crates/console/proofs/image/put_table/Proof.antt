@@ -44,14 +44,14 @@ cast-put-count-3 c = search needs
 put-count-requires-3 : tie.Need-put-count-requires-3 Inv-loop μ-loop
 put-count-requires-3 c κs = search needs
 
-mul-put-states : tie.Need-mul-put-states Inv-loop μ-loop
-mul-put-states c = search needs
+mul-put-request-state : tie.Need-mul-put-request-state Inv-loop μ-loop
+mul-put-request-state c = search needs
 
-element-copy-out-put-states : tie.Need-element-copy-out-put-states Inv-loop μ-loop
-element-copy-out-put-states c = search needs
+element-copy-out-put-request-state : tie.Need-element-copy-out-put-request-state Inv-loop μ-loop
+element-copy-out-put-request-state c = search needs
 
-put-states-requires : tie.Need-put-states-requires Inv-loop μ-loop
-put-states-requires c κs = search needs
+put-request-state-requires : tie.Need-put-request-state-requires Inv-loop μ-loop
+put-request-state-requires c κs = search needs
 
 add-i : tie.Need-add-i Inv-loop μ-loop
 add-i c = search needs
@@ -85,9 +85,9 @@ put-table-spec =
     element-copy-out-put-count-2
     cast-put-count-3
     put-count-requires-3
-    mul-put-states
-    element-copy-out-put-states
-    put-states-requires
+    mul-put-request-state
+    element-copy-out-put-request-state
+    put-request-state-requires
     add-i
     loop-less
     loop-again
