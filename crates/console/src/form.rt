@@ -9,6 +9,7 @@ use crate::words::choice;
 use crate::words::count_of;
 use crate::words::part;
 use crate::words::word;
+use fastcgi::STORE;
 use fastcgi::QUERY;
 use wire::same;
 
@@ -50,7 +51,7 @@ fn numeral(kind: u8, w: &[u8]) -> Number {
         b'i' => number_of(w, 65535),
         b's' => number_of(w, 15),
         b'b' => number_of(w, 255),
-        b'p' => number_of(w, 32767),
+        b'p' => number_of(w, STORE as u64 - 1),
         b'l' => number_of(w, WHOLE as u64),
         b'm' => number_of(w, BYTES as u64),
         b'n' => piece_size(w),

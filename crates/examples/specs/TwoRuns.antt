@@ -4,7 +4,7 @@ use mathlib.Core.List.{List, [], _∷_, _++_, flatten, append-nil}
 use mathlib.Core.Logic.{inl}
 use mathlib.Core.Option.{none, some}
 use mathlib.Core.Bool.{Bool, true, false}
-use Prim.Native.Nat.{ℕ}
+use Prim.Native.Nat.{ℕ, _-_}
 use native.Mathlib.Omega.{arith}
 use lib.ListN.{length, length-replicate}
 use Rattle.wire.specs.Number.{number4}
@@ -137,7 +137,7 @@ one n t used area =
 
 -- the pair of A and B, and nothing after it
 abbrev pairArea : List ℕ
-pairArea = 1 ∷ 1 ∷ 65 ∷ 66 ∷ zeros 2044
+pairArea = 1 ∷ 1 ∷ 65 ∷ 66 ∷ zeros (AREA - 4)
 
 -- It opens and is ready with four bytes; the value of A is B; two of its STDIN bytes are shown; B goes out on STDERR;
 -- the finish ends both streams and writes the status 938; it opens again.

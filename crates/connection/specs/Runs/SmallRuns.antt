@@ -2,7 +2,7 @@
 -- `whole` has both requests, `alone` what purging leaves for 1. The definitions alone are used here, no law: each
 -- wrong definition of must-fail/ that is named below makes a line false.
 use mathlib.Core.Path.{_≡_, refl}
-use Prim.Native.Nat.{ℕ}
+use Prim.Native.Nat.{ℕ, _-_}
 use mathlib.Core.List.{List, [], _∷_, _++_, flatten}
 use mathlib.Core.Option.{Option, none}
 use mathlib.Core.Bool.{false}
@@ -66,11 +66,11 @@ pub record SmallRuns : Type 0 where
       (opened-one ∷ Heard (Note.Told (Event.Ready 1 0)) ∷ Heard (Note.Shown 1 STDIN 0) ∷ Heard (Note.Shown 1 STDIN 0) ∷ Heard (Note.Shown 1 STDIN 0) ∷ Heard (Note.Shown 1 STDIN 0) ∷ Heard (Note.Shown 1 STDIN 0) ∷ Heard (Note.Shown 1 STDIN 0) ∷ Heard (Note.Shown 1 STDIN 0) ∷ [])
       (one 0 Turn.Stdin (zeros AREA))
   -- 2 is begun again, which is a fault; 1 has a byte of its list. (fault_zeroes_next_area: the byte of 1 is gone.)
-  faults-stay-home : Alike (begin 2 ++ begin 1 ++ oneParam 1 7 ++ begin 2) (begin 1 ++ oneParam 1 7) (opened-one ∷ []) (one 1 Turn.Params (7 ∷ zeros 2047))
+  faults-stay-home : Alike (begin 2 ++ begin 1 ++ oneParam 1 7 ++ begin 2) (begin 1 ++ oneParam 1 7) (opened-one ∷ []) (one 1 Turn.Params (7 ∷ zeros (AREA - 1)))
   -- 1 opens, then 2. (taken_slot_opened: 1 is gone.)
   slots-apart : Alike (begin 1 ++ begin 2) (begin 1) (opened-one ∷ []) (one 0 Turn.Params (zeros AREA))
-  -- 2 is in the first slot, 1 in the second; the first pair of 1 is asked for. (offset_in_store: its name lies at
-  -- 2,050.)
+  -- 2 is in the first slot, 1 in the second; the first pair of 1 is asked for. (offset_in_store: its name lies
+  -- past the first area.)
   offsets-in-area : Alike (begin 2 ++ begin 1 ++ (header 4 1 2 ∷ StepOver (0 ∷ 0 ∷ []) ∷ []) ++ paramsEnd 1 ++ (CallFor 1 (ForPair 0) ∷ [])) (begin 1 ++ (header 4 1 2 ∷ StepOver (0 ∷ 0 ∷ []) ∷ []) ++ paramsEnd 1 ++ (CallFor 1 (ForPair 0) ∷ []))
       (opened-one ∷ Heard (Note.Told (Event.Ready 1 2))
       ∷ Answered 1 (ForPair 0) (PairAnswer (Of.PairIs (record { name = 2; «name_len» = 0; value = 2; «value_len» = 0 }))) (one 2 Turn.Stdin (zeros AREA)) (one 2 Turn.Stdin (zeros AREA))
@@ -97,16 +97,16 @@ pub record SmallRuns : Type 0 where
   query-in-between : Alike
       (begin 1 ++ (header 9 0 2 ∷ StepOver (0 ∷ []) ∷ CallFor 1 (ForPair 0) ∷ StepOver (0 ∷ []) ∷ []) ++ oneParam 1 7) (begin 1 ++ (CallFor 1 (ForPair 0) ∷ []) ++ oneParam 1 7)
       (opened-one ∷ Answered 1 (ForPair 0) (PairAnswer (Of.PairRefused 4)) (one 0 Turn.Params (zeros AREA)) (one 0 Turn.Params (zeros AREA)) ∷ [])
-      (one 1 Turn.Params (7 ∷ zeros 2047))
+      (one 1 Turn.Params (7 ∷ zeros (AREA - 1)))
   -- 2 and 1 both have the name A, with the values B and C; each is asked for it.
   values-apart : Alike
       (begin 2 ++ begin 1 ++ pairOf 2 66 ++ pairOf 1 67 ++ (CallFor 2 (ForValue (65 ∷ []) []) ∷ CallFor 1 (ForValue (65 ∷ []) []) ∷ [])) (begin 1 ++ pairOf 1 67 ++ (CallFor 1 (ForValue (65 ∷ []) []) ∷ []))
       (opened-one ∷ Heard (Note.Told (Event.Ready 1 4))
-      ∷ Answered 1 (ForValue (65 ∷ []) []) (ValueIs (67 ∷ [])) (one 4 Turn.Stdin (1 ∷ 1 ∷ 65 ∷ 67 ∷ zeros 2044)) (one 4 Turn.Stdin (1 ∷ 1 ∷ 65 ∷ 67 ∷ zeros 2044))
+      ∷ Answered 1 (ForValue (65 ∷ []) []) (ValueIs (67 ∷ [])) (one 4 Turn.Stdin (1 ∷ 1 ∷ 65 ∷ 67 ∷ zeros (AREA - 4))) (one 4 Turn.Stdin (1 ∷ 1 ∷ 65 ∷ 67 ∷ zeros (AREA - 4)))
       ∷ [])
-      (one 4 Turn.Stdin (1 ∷ 1 ∷ 65 ∷ 67 ∷ zeros 2044))
+      (one 4 Turn.Stdin (1 ∷ 1 ∷ 65 ∷ 67 ∷ zeros (AREA - 4)))
   -- Fifteen others are active, so 1 has the last slot.
-  last-slot : Alike (fifteen ++ begin 1 ++ oneParam 1 7) (begin 1 ++ oneParam 1 7) (opened-one ∷ []) (one 1 Turn.Params (7 ∷ zeros 2047))
+  last-slot : Alike (fifteen ++ begin 1 ++ oneParam 1 7) (begin 1 ++ oneParam 1 7) (opened-one ∷ []) (one 1 Turn.Params (7 ∷ zeros (AREA - 1)))
 
 pub small-runs : SmallRuns
 unfolding names queryOf queried onManagement ofQuery copied taken lowestFree withBit withSlot withoutBit withoutSlot headerOf beginBodyOf headerBytes endBodyBytes advanced inHeader number4 fourAt lengthAt pairAt sameBytes pairsIn pairsFrom endingOf wellFormed firstIn firstNamed paddingOf recordBytes chunksIn chunks streamBytes flatten withTurn withLife faulted aborted turned paramsFault paramsEnded onParams onStdin onData onInput onLive onHeader grown opened Of.valueIn Of.writes Of.saidOn Of.sayIn Of.owesOut Of.owesErr Of.finishBytes Of.finishIn requestAt areaAt putRequest putArea takeSlot freeSlot holdsId findFrom idFits slotsFit positionFits inShape onInactive onActive judged opens begun ofBegin ofRequest advances stepRefusal stepped started showing C.lentRefusal C.callRefusal C.value C.pairAtNumber Of.pairIn pairNumber numberIn C.say C.released C.finishes C.finish byteItems requestOf called memoryAfter seenIn itemsOf finalMemory allSeen timeline startOf seenOf

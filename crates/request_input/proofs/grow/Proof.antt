@@ -2,6 +2,7 @@ use Prim.Native.Nat.{_+_, _≤_, _<_}
 use native.Mathlib.Omega.{arith}
 use lib.ListN.{length}
 use borrow.Author.Tests.{lt-leb, le-leb}
+use Rattle.connection.specs.Sizes.{AREA}
 use Rattle.connection.specs.Request.{grown}
 use borrow.Author.Needs.{needs}
 use Rattle.request_input.proofs.grow.Statement.{statement}
@@ -14,14 +15,14 @@ returns : tie.Need-returns
 unfolding grown
 returns c =
     let a = c .before .before .before .before .args in
-    let h : 2048 < a .r .length + length (a .bytes .now) = omega arith in
+    let h : AREA < a .r .length + length (a .bytes .now) = omega arith in
     simp (lt-leb _ _ h)
 
 returns-2 : tie.Need-returns-2
 unfolding grown
 returns-2 c =
     let a = c .before .before .before .before .before .args in
-    let h : 2048 < a .r .length + length (a .bytes .now) = omega arith in
+    let h : AREA < a .r .length + length (a .bytes .now) = omega arith in
     simp (lt-leb _ _ h)
 
 copy-into-requires : tie.Need-copy-into-requires
@@ -40,7 +41,7 @@ returns-3 : tie.Need-returns-3
 unfolding grown
 returns-3 c =
     let a = c .before .before .before .before .before .before .before .before .before .before .args in
-    let h : a .r .length + length (a .bytes .now) ≤ 2048 = omega arith in
+    let h : a .r .length + length (a .bytes .now) ≤ AREA = omega arith in
     simp (le-leb _ _ h, c .before .before .before .copy-into .ensures)
 
 pub grow-spec : {M : Type 1} → statement M
