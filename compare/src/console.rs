@@ -216,7 +216,7 @@ fn output(word: &str) -> Option<Output> {
 
 /// The size of the pieces of a `feed`.
 fn piece_size(word: &str) -> Option<usize> {
-    room(word).filter(|&n| n > 0)
+    number(word, 65_536).map(|n| n as usize).filter(|&n| n > 0)
 }
 
 fn refused(refusal: Refusal) -> String {
