@@ -24,3 +24,4 @@ pub mod Readiness
 pub mod Spent
 pub mod Gathered
 pub mod CodesLaws
+pub mod RefusalRows
