@@ -25,3 +25,4 @@ pub mod Spent
 pub mod Gathered
 pub mod CodesLaws
 pub mod RefusalRows
+pub mod UsedAlone
