@@ -26,3 +26,4 @@ pub mod Gathered
 pub mod CodesLaws
 pub mod RefusalRows
 pub mod UsedAlone
+pub mod BeginReserved
