@@ -22,6 +22,7 @@ pub mod SmallRuns
 pub mod WellFormedLists
 pub mod DueLive
 pub mod SpentSilent
+pub mod Freed
 pub mod History
 pub mod HistoryRequest
 pub mod HistoryTarget

@@ -151,7 +151,8 @@ writes-number : (n : ℕ) (bytes : List ℕ) (after r : Request) (buffer : List 
 unfolding Of.writes
 writes-number n bytes after r buffer = byTest (eqb n 0) (λ t. simp t (sym (eqb-true n 0 t))) (λ t. simp t)
 
-finishes-number : (c : Conn) (store : List ℕ) (i : ℕ) (keep : Bool) (w : Of.Writing) → C.finishes c store i keep w .refusal ≡ w .refusal
+-- What finish comes to is refused as its writing is.
+pub finishes-number : (c : Conn) (store : List ℕ) (i : ℕ) (keep : Bool) (w : Of.Writing) → C.finishes c store i keep w .refusal ≡ w .refusal
 unfolding C.finishes
 finishes-number c store i true w = byTest (eqb (w .refusal) 0) (λ t. simp t (sym (eqb-true (w .refusal) 0 t))) (λ t. simp t)
 finishes-number c store i false w = byTest (eqb (w .refusal) 0) (λ t. simp t (sym (eqb-true (w .refusal) 0 t))) (λ t. simp t)
