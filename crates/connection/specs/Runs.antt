@@ -23,6 +23,7 @@ pub mod WellFormedLists
 pub mod DueLive
 pub mod SpentSilent
 pub mod Freed
+pub mod AfterClose
 pub mod History
 pub mod HistoryRequest
 pub mod HistoryTarget
