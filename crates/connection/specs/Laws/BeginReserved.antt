@@ -35,8 +35,8 @@ module _ (st : State) (store : List ℕ) (id : ℕ) (target : st .conn .frame .t
       let gone : p .content - p .content ≡ 0 = omega arith in
       step-advances st store piece a (omega arith) ∙ ap (advances st store piece) (in-content p piece some) ∙ rw (n, gone, target)
 
-  -- Two pieces of one length that make the body whole: where the two bodies say the same role and the same lowest flag
-  -- bit, the step is the same in all.
+  -- Two pieces of one length that make the body whole: where the two bodies say the same role and the same lowest
+  -- flag bit, the step is the same in all.
   pub begin-reserved-bytes : (x y : List ℕ) → st .conn .frame .position .content ≤ length x → length x ≡ length y
       → beginBodyOf (bodyWith st x) ≡ beginBodyOf (bodyWith st y) → stepped st store x ≡ stepped st store y
   begin-reserved-bytes x y enough same-length e =

@@ -42,8 +42,8 @@ advanced-alone p x y low e q =
     let r : take (inHeader (p .held) (p .header) x .used) x ≡ take (inHeader (p .held) (p .header) x .used) y = rw (in-header p x z w) at q in
     in-header p x z w ∙ header-alone (p .held) (p .header) x y low e r ∙ sym (in-header p y z w))
 
--- Two pieces of one length that agree in the bytes that a step uses of the one: the step over the other is the same in
--- all, the state, the store, the event, the bytes used and the refusal.
+-- Two pieces of one length that agree in the bytes that a step uses of the one: the step over the other is the same
+-- in all, the state, the store, the event, the bytes used and the refusal.
 pub used-alone : (st : State) (store x y : List ℕ) → length x ≡ length y → take (stepped st store x .used) x ≡ take (stepped st store x .used) y
     → stepped st store x ≡ stepped st store y
 unfolding advances

@@ -30,8 +30,8 @@ closedNumber c store = if length store =? STORE then (if inShape c then 1 else 9
 abbrev pub closedUnlent : Conn → ℕ
 closedUnlent c = if inShape c then 1 else 9
 
--- On a closed connection, whatever its shape and the store, every refusal is the first of 2, 9 and 1 that holds: no id
--- is looked up first, and nothing else is tested before.
+-- On a closed connection, whatever its shape and the store, every refusal is the first of 2, 9 and 1 that holds: no
+-- id is looked up first, and nothing else is tested before.
 pub record ClosedRefusals (c : Conn) (store : List ℕ) : Type 0 where
   pub step : stepRefusal c store ≡ closedNumber c store
   pub lent : (id : ℕ) → C.lentRefusal c store id ≡ closedNumber c store
@@ -50,8 +50,8 @@ closed-refusals c store e =
     }
 
 -- ---- a closed connection in shape, with a store of the right size
--- Every call is refused by 1 and changes nothing: a step uses no byte and tells nothing, value answers the fallback, a
--- call that writes leaves its buffer, and nothing is counted.
+-- Every call is refused by 1 and changes nothing: a step uses no byte and tells nothing, value answers the fallback,
+-- a call that writes leaves its buffer, and nothing is counted.
 pub record AllRefused (m : Memory) : Type 0 where
   pub step : (piece : List ℕ) → stepOf m piece ≡ stays 1 (m .state) (m .store)
   pub call : (id : ℕ) (a : Argument) → called m id a ≡ unchanged m (refused 1 a)
@@ -108,8 +108,8 @@ pieces-before (StepOver piece ∷ os) more p = (p .0, pieces-before os more (p .
 pieces-before (CallFor id a ∷ os) more p = pieces-before os more p
 pieces-before (CountActive ∷ os) more p = pieces-before os more p
 
--- In a run that is closed at some point, after some of its operations, every call at that point and at any later one is
--- refused by 1: step, value's sister, pair, walk, say, end, finish and the active number; value is the fallback.
+-- In a run that is closed at some point, after some of its operations, every call at that point and at any later one
+-- is refused by 1: step, value's sister, pair, walk, say, end, finish and the active number; value is the fallback.
 pub after-close : (r : WholeRun) (before between rest : List Operation) → r .operations ≡ before ++ (between ++ rest)
     → finalMemory (beginning r) before .state .conn .«open» ≡ false → AllRefused (finalMemory (beginning r) (before ++ between))
 after-close r before between rest split e =
