@@ -27,3 +27,4 @@ pub mod CodesLaws
 pub mod RefusalRows
 pub mod UsedAlone
 pub mod BeginReserved
+pub mod SpentStays

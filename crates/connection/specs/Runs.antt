@@ -24,6 +24,7 @@ pub mod DueLive
 pub mod SpentSilent
 pub mod Freed
 pub mod AfterClose
+pub mod StaysSpent
 pub mod History
 pub mod HistoryRequest
 pub mod HistoryTarget

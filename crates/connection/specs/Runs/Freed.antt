@@ -94,6 +94,20 @@ finish-done c store id status buffer e =
     })
     (λ t. absurd (eqb-false (C.lentRefusal c store id) 0 t (simp t at e)))
 
+-- A finish that is refused leaves the connection as it is.
+pub finish-refused : (c : Conn) (store : List ℕ) (id status : ℕ) (buffer : List ℕ) → (C.finish c store id status buffer .refusal ≡ 0 → ⊥)
+    → (C.finish c store id status buffer .conn ≡ c) × (C.finish c store id status buffer .store ≡ store)
+unfolding C.finish C.finishes
+finish-refused c store id status buffer e =
+    byTest (eqb (C.lentRefusal c store id) 0)
+    (λ t.
+    let r = requestAt (c .table) (C.slotOf c id) in
+    let w = Of.finishIn r status buffer in
+    byTest (eqb (w .refusal) 0)
+    (λ n. absurd (e (simp t (finishes-number c store (C.slotOf c id) (r .state .keep) w ∙ eqb-true (w .refusal) 0 n))))
+    (λ n. simp (t, n) (refl, refl)))
+    (λ t. simp t (refl, refl))
+
 -- ---- where its request is then
 freed-nowhere : (t : Table) (i id : ℕ) → Distinct t → find t id ≡ Slot.At i → find (freeSlot t i) id ≡ Slot.Nowhere
 freed-nowhere t i id distinct e =
