@@ -25,6 +25,7 @@ pub mod SpentSilent
 pub mod Freed
 pub mod AfterClose
 pub mod StaysSpent
+pub mod RestSkipped
 pub mod History
 pub mod HistoryRequest
 pub mod HistoryTarget

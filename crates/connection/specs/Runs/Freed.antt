@@ -1,5 +1,5 @@
 -- What a finish that is not refused leaves: its request is found nowhere.
-use mathlib.Core.Path.{_≡_, refl, sym, _∙_}
+use mathlib.Core.Path.{_≡_, refl, ap, sym, _∙_}
 use mathlib.Core.Logic.{_⊎_, inl, inr}
 use mathlib.Core.List.{List}
 use mathlib.Core.Option.{none}
@@ -93,6 +93,14 @@ finish-done c store id status buffer e =
       way = rw (t, a .found) (finishes-done c store i (r .state .keep) w (sym (finishes-number c store i (r .state .keep) w) ∙ none-refused));
     })
     (λ t. absurd (eqb-false (C.lentRefusal c store id) 0 t (simp t at e)))
+
+-- Where it says that it closed the connection, it did.
+pub done-closed : (c : Conn) (store : List ℕ) (id : ℕ) (w : C.Finished) → Done c store id w → w .closed ≡ true → w .conn .«open» ≡ false
+done-closed c store id w d t = go (d .way)
+  where
+    go : Kept c store (d .admitted .slot) w ⊎ Shut store w → w .conn .«open» ≡ false
+    go (inl k) = let z : _≡_ {A = ℕ} 0 1 = cc (k .open-still, t) in absurd (omega arith)
+    go (inr k) = ap (λ (x : Conn). x .«open») (k .conn)
 
 -- A finish that is refused leaves the connection as it is.
 pub finish-refused : (c : Conn) (store : List ℕ) (id status : ℕ) (buffer : List ℕ) → (C.finish c store id status buffer .refusal ≡ 0 → ⊥)

@@ -152,8 +152,8 @@ module _ (R : ℕ) (h : Held) (spent : isSpent (h .request .state .life) ≡ tru
     still-called id (ForFinish status buffer) a = still-finished id status buffer a
 
 -- ---- operations
--- A spent request stays spent, faulted or aborted as it was, whatever operation comes, unless it closes the connection
--- or is a finish of that request that is not refused.
+-- A spent request stays spent, faulted or aborted as it was, whatever operation comes, unless it closes the
+-- connection or is a finish of that request that is not refused.
 pub stays-spent : (R : ℕ) (m : Memory) (o : Operation) (h : Held) → Steady m → PiecesOk (o ∷ []) → requestOf R m ≡ some h → isSpent (h .request .state .life) ≡ true → LeavesAlone R m o
     → StillSpent R h (memoryAfter m o)
 unfolding memoryAfter
