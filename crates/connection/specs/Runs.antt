@@ -26,6 +26,8 @@ pub mod Freed
 pub mod AfterClose
 pub mod StaysSpent
 pub mod RestSkipped
+pub mod CleanSlots
+pub mod HygieneKept
 pub mod History
 pub mod HistoryRequest
 pub mod HistoryTarget
