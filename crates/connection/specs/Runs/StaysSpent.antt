@@ -19,8 +19,8 @@ use Rattle.connection.specs.Slots.{requestAt, heldAt, freeSlot, find}
 use Rattle.connection.specs.Calls as C
 use Rattle.connection.specs.Arguments.{Argument, ForValue, ForSource, ForPair, ForWalk, ForSay, ForEnd, ForFinish}
 use Rattle.connection.specs.Run.{Memory, Operation, StepOver, CallFor, CountActive, requestOf, changedBy, finishedBy, called, stepOf, memoryOf, memoryAfter, finalMemory, PiecesOk, WholeRun, beginning, ending}
-use Rattle.connection.specs.Laws.SlotsLaws.{find-put, other-of-free, taken-of-free-other, find-at, only-slot}
-use Rattle.connection.specs.Laws.ShapeLaws.{InUse, shaped}
+use Rattle.connection.specs.Laws.SlotsLaws.{Sized, Distinct, other-of-free, taken-of-free-other, find-at, only-slot}
+use Rattle.connection.specs.Laws.ShapeLaws.{shaped}
 use Rattle.connection.specs.Laws.SpentStays.{Like, put-same-life, spent-stays}
 use Rattle.connection.specs.Runs.CallShape.{free-holds}
 use Rattle.connection.specs.Runs.LinkingStep.{Steady, step-linked}
@@ -72,35 +72,27 @@ module _ (R : ℕ) (h : Held) (spent : isSpent (h .request .state .life) ≡ tru
         same-life = l;
       }
 
-  module _ (m : Memory) (z : Steady m) (i : ℕ) (is-open : m .state .conn .«open» ≡ true) (found : find (m .state .conn .table) R ≡ Slot.At i) (life : requestAt (m .state .conn .table) i .state .life ≡ h .request .state .life) where
-    -- R's slot
-    in-use : InUse (m .state .conn .table) i
-    in-use = let k = find-at (m .state .conn .table) R i found in record { low = k .low; is-taken = k .is-taken }
-
+  module _ (m : Memory) (sized : Sized (m .state .conn .table)) (i : ℕ) (is-open : m .state .conn .«open» ≡ true) (found : find (m .state .conn .table) R ≡ Slot.At i)
+      (life : requestAt (m .state .conn .table) i .state .life ≡ h .request .state .life) where
     -- a step
-    still-step : (piece : List ℕ) → PiecesOk (StepOver piece ∷ []) → stepOf m piece .state .conn .«open» ≡ true → StillSpent R h (memoryAfter m (StepOver piece))
-    unfolding memoryAfter requestAt
-    still-step piece p o =
-        let t = m .state .conn .table in
-        let u = stepOf m piece .state .conn .table in
-        let k = spent-stays (m .state) (m .store) piece i (z .sizes .table) in-use (subst (λ w. isSpent w ≡ true) (sym life) spent) o in
-        let s = shaped (stepOf m piece .state .conn) (step-linked m piece z (p .0) .steady .shape) in
-        let there : find u R ≡ Slot.At i = only-slot u (s .table .distinct) R i (record { low = in-use .low; is-taken = k .is-taken; has-id = k .id ∙ find-at t R i found .has-id }) in
-        still (memoryOf (stepOf m piece)) i o there (k .life ∙ life)
+    still-step : (piece : List ℕ) → stepOf m piece .state .conn .«open» ≡ true → StillSpent R h (memoryAfter m (StepOver piece))
+    unfolding memoryAfter
+    still-step piece o =
+        let k = spent-stays (m .state) (m .store) piece R i sized found (subst (λ w. isSpent w ≡ true) (sym life) spent) o in
+        still (memoryOf (stepOf m piece)) i o (k .found) (k .life ∙ life)
 
     -- a call that writes
     still-written : (j : ℕ) (w : Of.Writing) → Like (requestAt (m .state .conn .table) j) (w .request) → StillSpent R h (changedBy m (C.writtenBy (m .state .conn) j w) .memory)
     still-written j w like =
-        let t = m .state .conn .table in
-        still _ i is-open (find-put t j (w .request) R (like .id) ∙ found) (put-same-life t i j (w .request) (z .sizes .table) in-use (λ q. like) .life ∙ life)
+        let k = put-same-life (m .state .conn .table) R i j (w .request) sized found (like .id) (λ q. like .life) in
+        still _ i is-open (k .found) (k .life ∙ life)
 
     -- a finish of another request
-    still-freed : (j id : ℕ) → find (m .state .conn .table) id ≡ Slot.At j → (id ≡ R → ⊥) → (w : C.Finished) → Kept (m .state .conn) (m .store) j w
+    still-freed : (j id : ℕ) → Distinct (m .state .conn .table) → find (m .state .conn .table) id ≡ Slot.At j → (id ≡ R → ⊥) → (w : C.Finished) → Kept (m .state .conn) (m .store) j w
         → StillSpent R h (finishedBy m w .memory)
     unfolding C.released requestAt
-    still-freed j id e apart w k =
+    still-freed j id d e apart w k =
         let t = m .state .conn .table in
-        let d = shaped (m .state .conn) (z .shape) .table .distinct in
         let own = find-at t R i found in
         let other : i ≡ j → ⊥ = λ q. apart (sym (find-at t id j e .has-id) ∙ subst (λ n. requestAt t n .id ≡ R) q (own .has-id)) in
         let kept = other-of-free t j i other in
@@ -130,7 +122,7 @@ module _ (R : ℕ) (h : Held) (spent : isSpent (h .request .state .life) ≡ tru
 
         done : w .refusal ≡ 0 → (d : Done c (m .store) id w) → Kept c (m .store) (d .admitted .slot) w ⊎ Shut (m .store) w → StillSpent R h (finishedBy m w .memory)
         done q d (inl k) =
-            still-freed (d .admitted .slot) id (d .admitted .found)
+            still-freed (d .admitted .slot) id (shaped c (d .admitted .fits .shape) .table .distinct) (d .admitted .found)
             (λ s. a .unfinished status buffer (ap (λ n. CallFor n (ForFinish status buffer)) s) (subst (λ n. C.finish c (m .store) n status buffer .refusal ≡ 0) s q)) w k
         done q d (inr k) = let y : _≡_ {A = ℕ} 0 1 = cc (ap (λ (x : Conn). x .«open») (k .conn), a .is-open) in absurd (omega arith)
 
@@ -153,11 +145,12 @@ module _ (R : ℕ) (h : Held) (spent : isSpent (h .request .state .life) ≡ tru
 
 -- ---- operations
 -- A spent request stays spent, faulted or aborted as it was, whatever operation comes, unless it closes the
--- connection or is a finish of that request that is not refused.
-pub stays-spent : (R : ℕ) (m : Memory) (o : Operation) (h : Held) → Steady m → PiecesOk (o ∷ []) → requestOf R m ≡ some h → isSpent (h .request .state .life) ≡ true → LeavesAlone R m o
+-- connection or is a finish of that request that is not refused. Nothing is asked of the memory but that its table
+-- has a place for each slot, as the code's types have it.
+pub stays-spent : (R : ℕ) (m : Memory) (o : Operation) (h : Held) → Sized (m .state .conn .table) → requestOf R m ≡ some h → isSpent (h .request .state .life) ≡ true → LeavesAlone R m o
     → StillSpent R h (memoryAfter m o)
 unfolding memoryAfter
-stays-spent R m o h z p e spent a = go o p a
+stays-spent R m o h sized e spent a = go o a
   where
     own : ActiveAt R m h
     own = active-at R m h e
@@ -165,10 +158,10 @@ stays-spent R m o h z p e spent a = go o p a
     life : requestAt (m .state .conn .table) (own .slot) .state .life ≡ h .request .state .life
     life = ap (λ (x : Held). x .request .state .life) (own .same)
 
-    go : (o : Operation) → PiecesOk (o ∷ []) → LeavesAlone R m o → StillSpent R h (memoryAfter m o)
-    go (StepOver piece) p a = still-step R h spent m z (own .slot) (own .is-open) (own .found) life piece p (a .is-open)
-    go (CallFor id x) p a = still-called R h spent m z (own .slot) (own .is-open) (own .found) life id x a
-    go CountActive p a = still R h spent m (own .slot) (own .is-open) (own .found) life
+    go : (o : Operation) → LeavesAlone R m o → StillSpent R h (memoryAfter m o)
+    go (StepOver piece) a = still-step R h spent m sized (own .slot) (own .is-open) (own .found) life piece (a .is-open)
+    go (CallFor id x) a = still-called R h spent m sized (own .slot) (own .is-open) (own .found) life id x a
+    go CountActive a = still R h spent m (own .slot) (own .is-open) (own .found) life
 
 -- what holds of R's life now holds of its life before
 again : (R : ℕ) (h : Held) (m : Memory) {m′ : Memory} (k : StillSpent R h m′) → StillSpent R (k .now) m → StillSpent R h m
@@ -180,11 +173,11 @@ pub stays-spent-on : (R : ℕ) (os : List Operation) (m : Memory) (h : Held) →
 unfolding finalMemory memoryAfter
 stays-spent-on R [] m h z p e spent a = record { now = h; active = e; spent = spent; same-life = refl }
 stays-spent-on R (StepOver piece ∷ os) m h z p e spent a =
-    let k = stays-spent R m (StepOver piece) h z (p .0, tt) e spent (a .0) in
+    let k = stays-spent R m (StepOver piece) h (z .sizes .table) e spent (a .0) in
     again R h (finalMemory (memoryAfter m (StepOver piece)) os) k
     (stays-spent-on R os (memoryAfter m (StepOver piece)) (k .now) (step-linked m piece z (p .0) .steady) (p .1) (k .active) (k .spent) (a .1))
 stays-spent-on R (CallFor id x ∷ os) m h z p e spent a =
-    let k = stays-spent R m (CallFor id x) h z tt e spent (a .0) in
+    let k = stays-spent R m (CallFor id x) h (z .sizes .table) e spent (a .0) in
     again R h (finalMemory (memoryAfter m (CallFor id x)) os) k
     (stays-spent-on R os (memoryAfter m (CallFor id x)) (k .now) (call-linked m id x z .steady) p (k .active) (k .spent) (a .1))
 stays-spent-on R (CountActive ∷ os) m h z p e spent a = stays-spent-on R os m h z p e spent (a .1)
