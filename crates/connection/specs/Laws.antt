@@ -24,3 +24,7 @@ pub mod Readiness
 pub mod Spent
 pub mod Gathered
 pub mod CodesLaws
+pub mod RefusalRows
+pub mod UsedAlone
+pub mod BeginReserved
+pub mod SpentStays

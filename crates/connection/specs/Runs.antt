@@ -25,6 +25,12 @@ pub mod WellFormedLists
 pub mod DueLive
 pub mod SpentSilent
 pub mod HistoryOnMachine
+pub mod Freed
+pub mod AfterClose
+pub mod StaysSpent
+pub mod RestSkipped
+pub mod CleanSlots
+pub mod HygieneKept
 pub mod HistoryRequest
 pub mod HistoryTarget
 pub mod HistoryScan

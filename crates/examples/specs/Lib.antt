@@ -2,6 +2,7 @@ pub mod Row
 pub mod Fed
 pub mod Cases
 pub mod CallCases
+pub mod RefusalRows
 pub mod RunTests
 pub mod TwoRuns
 pub mod Premises

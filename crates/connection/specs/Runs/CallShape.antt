@@ -27,11 +27,13 @@ use Rattle.connection.specs.Runs.LinkingStep.{Steady}
 
 -- ---- a request put back with its id and its length
 module _ (t : Table) (i : ℕ) (r : Request) (same : SameList (requestAt t i) r) where
-  lengths-stay : putRequest t i r .lengths ≡ t .lengths
+  -- No length changes.
+  pub lengths-stay : putRequest t i r .lengths ≡ t .lengths
   unfolding putRequest requestAt
   lengths-stay = rw (same .length, set-getD (t .lengths) i 0)
 
-  aimed-put : (target : Aim) (gathered left : ℕ) → Aimed target t gathered left → Aimed target (putRequest t i r) gathered left
+  -- What the content left is for stays.
+  pub aimed-put : (target : Aim) (gathered left : ℕ) → Aimed target t gathered left → Aimed target (putRequest t i r) gathered left
   aimed-put Aim.Skip gathered left a = tt
   aimed-put (Aim.Begin id) gathered left a = record { eight = a .eight; some = a .some; inactive = find-put t i r id (same .id) ∙ a .inactive }
   aimed-put Aim.Query gathered left a = a

@@ -14,13 +14,14 @@ use Rattle.connection.specs.Laws.Spent.{spent-step}
 use Rattle.connection.specs.Runs.DueLive.{due-live}
 
 -- An active request: the connection is open, and this is its slot.
-record ActiveAt (R : ℕ) (m : Memory) (h : Held) : Type 0 where
-  is-open : m .state .conn .«open» ≡ true
-  slot : ℕ
-  found : find (m .state .conn .table) R ≡ Slot.At slot
-  same : heldAt (m .state .conn .table) (m .store) slot ≡ h
+pub record ActiveAt (R : ℕ) (m : Memory) (h : Held) : Type 0 where
+  pub is-open : m .state .conn .«open» ≡ true
+  pub slot : ℕ
+  pub found : find (m .state .conn .table) R ≡ Slot.At slot
+  pub same : heldAt (m .state .conn .table) (m .store) slot ≡ h
 
-active-at : (R : ℕ) (m : Memory) (h : Held) → requestOf R m ≡ some h → ActiveAt R m h
+-- Where a request is observed, it is active.
+pub active-at : (R : ℕ) (m : Memory) (h : Held) → requestOf R m ≡ some h → ActiveAt R m h
 unfolding requestOf
 active-at R m h e = go (m .state .conn .«open») refl (find (m .state .conn .table) R) refl e
   where
