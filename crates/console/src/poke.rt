@@ -66,7 +66,7 @@ pub const TARGET: u64 = 70;
 
 // A role set or left; so are the other kinds of fields below.
 fn role_if(hit: bool, n: u64, before: Role) -> Role {
-    if hit {} else {
+    if !hit {
         return before;
     }
     match n {
@@ -78,7 +78,7 @@ fn role_if(hit: bool, n: u64, before: Role) -> Role {
 
 // A turn set or left.
 fn turn_if(hit: bool, n: u64, before: Turn) -> Turn {
-    if hit {} else {
+    if !hit {
         return before;
     }
     match n {
@@ -91,7 +91,7 @@ fn turn_if(hit: bool, n: u64, before: Turn) -> Turn {
 
 // A life set or left.
 fn life_if(hit: bool, n: u64, before: Life) -> Life {
-    if hit {} else {
+    if !hit {
         return before;
     }
     match n {

@@ -30,8 +30,7 @@ pub use call_value::value;
 pub use call_value::value_source;
 
 // The pairs in order: a walk, the pair at its place, the walk past that pair, the walk at another place. `pair_from`
-// reads
-// on from a place without holding a walk.
+// reads on from a place without holding a walk.
 pub use call_walk::moved_to;
 pub use call_walk::next_pair;
 pub use call_walk::pair_from;
@@ -50,7 +49,8 @@ pub use pair_writer::write_pair;
 // ---- How many requests are active.
 pub use call_count::active_count;
 
-// ---- Answers. Each struct has the connection afterwards; each enum has the answer, or why the call is refused.
+// ---- Answers. `Started`, `Stepped`, `Written` and `Finished` have the connection afterwards and an enum with the answer
+// or the reason why the call is refused. The other enums are answers too; `Output` says which stream is written.
 pub use call_count::Count;
 pub use call_finish::FinishResult;
 pub use call_finish::Finished;
