@@ -6,6 +6,7 @@ mod records;
 
 use crate::console::words::hex;
 use crate::console::LONGEST_LINE;
+use crate::state::STORE;
 use bytes::{joined, plain, words};
 use std::collections::BTreeMap;
 use std::fmt;
@@ -105,8 +106,9 @@ pub fn expand(cases: &[Case]) -> Result<Vec<Asked>, Error> {
             vec![None]
         };
         for size in sizes {
-            for (command, answer) in [("lend 32768", "ok"), ("start", "open")] {
-                all.push(case.asked(size, case.line, &[], command.into(), answer.into()));
+            let lend = format!("lend {STORE}");
+            for (command, answer) in [(lend, "ok"), ("start".into(), "open")] {
+                all.push(case.asked(size, case.line, &[], command, answer.into()));
             }
             for item in &case.items {
                 let (command, answer) = item

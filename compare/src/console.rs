@@ -258,7 +258,7 @@ mod tests {
             |connection, _| connection.slots[15].err_used = true,
             |connection, _| connection.query[511] = 1,
             |connection, _| connection.body[7] = 1,
-            |_, store| store[32_767] = 1,
+            |_, store| store[STORE - 1] = 1,
         ];
         for change in changes {
             let mut console = Console::default();

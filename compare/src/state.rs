@@ -6,7 +6,7 @@ use crate::wire::HEADER;
 
 pub const SLOTS: usize = 16;
 /// Bytes of the store that belong to one slot.
-pub const AREA: usize = 2_048;
+pub const AREA: usize = 4_096;
 pub const STORE: usize = SLOTS * AREA;
 /// The most content bytes of a query.
 pub const QUERY: usize = 512;

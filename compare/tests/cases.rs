@@ -1,6 +1,7 @@
 //! Case files: what they stand for, and what is said where something is wrong in them.
 
 use compare::cases::{expand, read, Asked, File};
+use compare::state::STORE;
 
 fn file(text: &str) -> File {
     File {
@@ -94,7 +95,8 @@ fn records_are_sent_together() {
 fn how_often_a_case_is_run() {
     let all = expanded("case one\nbytes 00\ncase two\nactive\n> active 0\n");
     let lines: Vec<&str> = all.iter().map(|asked| asked.command.as_str()).collect();
-    let run = ["lend 32768", "start"];
+    let lend = format!("lend {STORE}");
+    let run = [lend.as_str(), "start"];
     let feeds = ["feed 1 00", "feed 7 00", "feed 8 00", "feed 65536 00"];
     let mut wanted = Vec::new();
     for feed in feeds {

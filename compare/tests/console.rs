@@ -1,6 +1,7 @@
 //! The twin of the console against its page: what lines are made of, and what the answers look like.
 
 use compare::console::Console;
+use compare::state::{AREA, STORE};
 
 fn answers(lines: &[&str]) -> Vec<String> {
     let mut console = Console::default();
@@ -8,6 +9,10 @@ fn answers(lines: &[&str]) -> Vec<String> {
         .iter()
         .map(|line| console.answer(line.as_bytes()))
         .collect()
+}
+
+fn lend(n: usize) -> String {
+    format!("lend {n}")
 }
 
 /// Lines and their answers, one after the other.
@@ -66,14 +71,14 @@ fn the_event_that_is_owed() {
         ("lend 5", "ok"),
         ("step 00", "refused 2"),
         ("owed 16", "wrote 16 010b0000000800002a00000000000000"),
-        ("lend 32768", "ok"),
+        (&lend(STORE), "ok"),
         ("step -", "used 0"),
         ("owed 16", "wrote 0 -"),
         ("step 0109000000000000", "used 8 query 000"),
         ("lend 5", "ok"),
         ("start", "refused 2"),
         ("owed 16", "wrote 0 -"),
-        ("lend 32768", "ok"),
+        (&lend(STORE), "ok"),
         ("active", "refused 1"),
     ]);
 }
@@ -89,7 +94,7 @@ fn what_is_no_command() {
         "step 0",
         "step 0A",
         "step - -",
-        "lend 32770",
+        &lend(STORE + 2),
         "feed",
         "feed 1",
         "feed 00",
@@ -129,6 +134,7 @@ fn the_greatest_line() {
 
 #[test]
 fn pokes() {
+    let second = 15 * AREA + 1;
     check(&[
         ("poke open 1", "ok"),
         ("poke occupied 32768", "ok"),
@@ -136,9 +142,9 @@ fn pokes() {
         ("poke id 15 7", "ok"),
         ("active", "active 1"),
         ("poke length 15 3", "ok"),
-        ("poke byte 30721 255", "ok"),
+        (&format!("poke byte {second} 255"), "ok"),
         ("area 7", "area 00ff00"),
-        ("store", "store 1 30721 30721"),
+        ("store", &format!("store 1 {second} {second}")),
         ("poke length 15 65535", "ok"),
         ("walk 7", "refused 9"),
         ("poke length 15 0", "ok"),
@@ -237,10 +243,10 @@ fn the_event_that_is_owed_after_a_feed() {
         ),
         ("owed 100", unknown),
         // A first step that is refused leaves it as it was.
-        ("lend 32767", "ok"),
+        (&lend(STORE - 1), "ok"),
         ("feed 1 05", "refused 2"),
         ("owed 100", unknown),
-        ("lend 32768", "ok"),
+        (&lend(STORE), "ok"),
         // Nothing was told: there is none, also where there were no bytes.
         ("feed 1 0500", "used 2"),
         ("owed 100", "wrote 0 -"),
@@ -256,25 +262,26 @@ fn the_event_that_is_owed_after_a_feed() {
 
 #[test]
 fn a_store_that_is_too_long() {
+    let last = STORE - 1;
     check(&[
-        ("lend 32769", "ok"),
+        (&lend(STORE + 1), "ok"),
         ("start", "refused 2"),
-        ("lend 32768", "ok"),
+        (&lend(STORE), "ok"),
         ("start", "open"),
-        ("lend 32769", "ok"),
+        (&lend(STORE + 1), "ok"),
         ("step 01", "refused 2"),
         ("feed 1 01", "refused 2"),
         ("walk 1", "refused 2"),
         ("finish 1 0 0", "refused 2"),
         ("active", "active 0"),
-        ("poke byte 32768 1", "what"),
-        ("poke byte 32767 1", "ok"),
+        (&format!("poke byte {STORE} 1"), "what"),
+        (&format!("poke byte {last} 1"), "ok"),
         ("poke byte 2 1", "ok"),
         ("poke byte 3 9", "ok"),
-        ("store", "store 3 2 32767"),
+        ("store", &format!("store 3 2 {last}")),
         ("lend 0", "ok"),
-        ("store", "store 3 2 32767"),
-        ("lend 32768", "ok"),
+        ("store", &format!("store 3 2 {last}")),
+        (&lend(STORE), "ok"),
         ("start", "open"),
         ("store", "store 0"),
     ]);

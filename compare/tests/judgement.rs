@@ -4,7 +4,7 @@ mod common;
 
 use common::{fault, padded, record, role, told, Station, Told, DROP, KEEP, PORT};
 use compare::answer::{Close, Event, Fault, Named, Refusal, Role, Status, Stream};
-use compare::state::{Life, Turn};
+use compare::state::{Life, Turn, AREA, STORE};
 use compare::wire::kind::*;
 
 fn open(id: u16, role: Role, keep: bool) -> Vec<Told> {
@@ -163,16 +163,18 @@ fn out_of_turn_before_the_parameters_ended() {
     // 22 comes before 24.
     let mut station = Station::ready(1, KEEP);
     assert_eq!(
-        station.send(PARAMS, 1, &[0; 2_049]),
+        station.send(PARAMS, 1, &[0; AREA + 1]),
         fault(1, Fault::OutOfTurn)
     );
 }
 
 #[test]
 fn parameters_to_the_last_byte_of_the_area() {
-    let mut list = vec![1, 0x80, 0, 7, 0xfa, b'n'];
-    list.resize(2_048, 9);
-    for cut in [0, 1, 3, 2_047, 2_048] {
+    // A name of one byte, and a value that fills up.
+    let [_, _, high, low] = (AREA as u32 - 6).to_be_bytes();
+    let mut list = vec![1, 0x80, 0, high, low, b'n'];
+    list.resize(AREA, 9);
+    for cut in [0, 1, 3, AREA - 1, AREA] {
         let mut station = Station::new();
         station.open(1, KEEP);
         for part in [&list[..cut], &list[cut..]] {
@@ -191,14 +193,14 @@ fn parameters_to_the_last_byte_of_the_area() {
         assert!(over.area(1).iter().all(|&b| b == 0));
         let ready = Event::Ready {
             id: 1,
-            length: 2_048,
+            length: AREA as u16,
         };
         assert_eq!(station.send(PARAMS, 1, &[]), told(ready));
     }
     let mut station = Station::new();
     station.open(1, KEEP);
     assert_eq!(
-        station.send(PARAMS, 1, &[0; 2_049]),
+        station.send(PARAMS, 1, &[0; AREA + 1]),
         fault(1, Fault::TooLong)
     );
 }
@@ -329,7 +331,7 @@ fn steps_stay_in_one_phase() {
         assert_eq!(station.connection, before);
     }
     assert_eq!(used, [8, 3, 2, 8]);
-    let mut short = vec![0; 32_767];
+    let mut short = vec![0; STORE - 1];
     let step = station.connection.step(&mut short, &[]);
     assert_eq!(step, Err(Refusal::StoreSize));
 }

@@ -4,8 +4,11 @@ mod common;
 
 use common::{Station, KEEP};
 use compare::answer::{Output, Refusal, Role};
-use compare::state::{Connection, Life, Target, Turn};
+use compare::state::{Connection, Life, Target, Turn, AREA};
 use compare::wire::kind::*;
+
+/// The length of a list that fills its area.
+const FULL: u16 = AREA as u16;
 
 /// Requests 1, 2 and 3 in slots 0 to 2, past their parameters.
 fn station() -> Station {
@@ -56,9 +59,9 @@ fn refused(change: impl Fn(&mut Connection)) -> bool {
 #[test]
 fn lengths() {
     for slot in [0, 2, 3, 15] {
-        assert!(refused(|c| c.slots[slot].length = 2_049));
+        assert!(refused(|c| c.slots[slot].length = FULL + 1));
         assert!(refused(|c| c.slots[slot].length = 65_535));
-        assert!(!refused(|c| c.slots[slot].length = 2_048));
+        assert!(!refused(|c| c.slots[slot].length = FULL));
     }
 }
 
@@ -131,10 +134,10 @@ fn due_to_a_slot() {
             (c.target, c.content) = (Target::Params(1), content);
         }
     };
-    assert!(!refused(params(2_000, 48)));
-    assert!(refused(params(2_000, 49)));
-    assert!(!refused(params(2_048, 0)));
-    assert!(refused(params(2_048, 1)));
+    assert!(!refused(params(FULL - 48, 48)));
+    assert!(refused(params(FULL - 48, 49)));
+    assert!(!refused(params(FULL, 0)));
+    assert!(refused(params(FULL, 1)));
     assert!(refused(params(0, 65_535)));
     // Of STDIN there may be any amount.
     assert!(!refused(body(Target::Stdin(1), 0, 65_535)));

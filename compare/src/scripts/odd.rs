@@ -1,10 +1,11 @@
 //! Lines that are no commands, numbers at their limits, lines at the greatest length.
 
 use super::Draft;
-use crate::console::LONGEST_LINE;
+use crate::console::{LONGEST_LINE, WHOLE_STORE};
+use crate::state::STORE;
 
 /// Whole lines: what is almost a command, and commands at the limits of their numbers.
-const LINES: [&str; 90] = [
+const LINES: [&str; 85] = [
     "",
     " ",
     "-",
@@ -27,9 +28,6 @@ const LINES: [&str; 90] = [
     "step  -",
     "step 0x01",
     "lend",
-    "lend 32768",
-    "lend 32769",
-    "lend 32770",
     "feed",
     "feed 1",
     "feed 0 01",
@@ -41,8 +39,6 @@ const LINES: [&str; 90] = [
     "feed -",
     "lend -1",
     "lend +1",
-    "lend 00000000000000032768",
-    "lend 000000000000000032768",
     "lend 18446744073709551616",
     "value 1 -",
     "value 1 - - -",
@@ -98,7 +94,7 @@ const LINES: [&str; 90] = [
 ];
 
 /// What stands behind `poke`, refused for one reason each.
-const POKES: [&str; 47] = [
+const POKES: [&str; 46] = [
     "open",
     "open 2",
     "open 0 0",
@@ -141,7 +137,6 @@ const POKES: [&str; 47] = [
     "content 18446744073709551616",
     "padding 99999999999999999999",
     "gathered x",
-    "byte 32768 0",
     "byte 0 256",
     "byte 0",
     "field 0 0",
@@ -152,23 +147,33 @@ impl Draft {
     pub(super) fn odd_lines(&mut self) {
         for _ in 0..self.random.within(3, 12) {
             match self.random.below(60) {
-                0..=34 => {
+                0..=32 => {
                     let line = self.random.pick(&LINES);
                     self.line(line);
                 }
-                35..=49 => {
+                33..=47 => {
                     let line = self.random.pick(&POKES);
                     self.line(format!("poke {line}"));
                 }
+                48 | 49 => self.store_limit(),
                 50..=57 => self.damaged_line(),
                 _ => self.greatest_line(),
             }
         }
-        self.line("lend 32768");
+        self.line(format!("lend {STORE}"));
         if self.random.one_in(40) {
             let body = "00".repeat(513);
             self.line(format!("poke body {body}"));
         }
+    }
+
+    /// Numbers that the size of the store limits: the greatest, its neighbours, and with zeros before them.
+    fn store_limit(&mut self) {
+        let commands = [("lend", WHOLE_STORE, ""), ("poke byte", STORE - 1, " 0")];
+        let (command, greatest, after) = self.random.pick(&commands);
+        let n = greatest - 1 + self.random.index(3);
+        let digits = self.random.pick(&[1, 1, 20, 21]);
+        self.line(format!("{command} {n:0digits$}{after}"));
     }
 
     /// An earlier line of this script with one byte changed, taken out or put in.

@@ -56,7 +56,7 @@ impl Draft {
                 self.line(format!("poke byte {} {byte}", slot * AREA + i));
             }
         } else if self.random.one_in(3) {
-            let length = self.random.pick(&[1, 2, 40, 2_040, 2_047, 2_048]);
+            let length = self.random.pick(&[1, 2, 40, AREA - 8, AREA - 1, AREA]);
             self.line(format!("poke length {slot} {length}"));
         }
     }
@@ -203,7 +203,8 @@ impl Draft {
                 self.line(format!("poke id {slot} {id}"));
             }
             4 => {
-                let length = self.random.pick(&[0, 1, 15, 2_047, 2_048, 2_049, 65_535]);
+                let lengths = [0, 1, 15, AREA - 1, AREA, AREA + 1, 65_535];
+                let length = self.random.pick(&lengths);
                 self.line(format!("poke length {slot} {length}"));
             }
             5 | 6 => self.poked_request(slot),
@@ -291,7 +292,7 @@ impl Draft {
             self.console.connection.find(id).unwrap_or(slot)
         };
         let kind = self.random.pick(&["params", "stdin", "data"]);
-        let content = self.random.pick(&[0, 1, 3, 7, 8, 9, 2_048]);
+        let content = self.random.pick(&[0, 1, 3, 7, 8, 9, AREA]);
         self.line(format!("poke target {kind} {slot}"));
         self.line(format!("poke content {content}"));
     }

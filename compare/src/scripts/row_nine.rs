@@ -2,7 +2,7 @@
 
 use super::records::begin_body;
 use super::Draft;
-use crate::state::SLOTS;
+use crate::state::{AREA, SLOTS, STORE};
 
 impl Draft {
     pub(super) fn row_nine(&mut self) {
@@ -21,10 +21,10 @@ impl Draft {
                 self.line("poke open 0");
             }
             if self.random.one_in(8) {
-                let n = self.random.pick(&[32_767, 32_769]);
+                let n = self.random.pick(&[STORE - 1, STORE + 1]);
                 self.line(format!("lend {n}"));
                 self.every_call();
-                self.line("lend 32768");
+                self.line(format!("lend {STORE}"));
             }
             self.every_call();
             let n = self.random.within(1, 20);
@@ -64,14 +64,14 @@ impl Draft {
 
     /// Breaks one condition, or goes to its edge; answers whether the state has what that takes.
     fn break_condition(&mut self, condition: u64, broken: bool) -> bool {
-        let past = u64::from(broken);
+        let past = usize::from(broken);
         match condition {
-            // A length over 2,048, in a free slot too.
+            // A length over that of the area, in a free slot too.
             0 => {
                 let slot = self.random.index(SLOTS);
                 let length = match (broken, self.random.one_in(4)) {
                     (true, true) => 65_535,
-                    _ => 2_048 + past,
+                    _ => AREA + past,
                 };
                 self.line(format!("poke length {slot} {length}"));
             }
@@ -149,10 +149,10 @@ impl Draft {
             }
             _ => {
                 let slot = self.taken_slot();
-                let left = self.random.pick(&[0, 1, 2, 40, 2_047, 2_048]);
-                let length = 2_048 - left + past;
+                let left = self.random.pick(&[0, 1, 2, 40, AREA - 1, AREA]);
+                let length = AREA - left + past;
                 // A length over the area would be another condition.
-                if length > 2_048 {
+                if length > AREA {
                     return false;
                 }
                 self.line(format!("poke length {slot} {length}"));

@@ -193,7 +193,7 @@ impl Draft {
             }
             3 => {
                 let kind = self.random.pick(&[kind::PARAMS, kind::STDIN, kind::DATA]);
-                let n = self.random.pick(&[0, 0, 3, 2_048, 2_049]);
+                let n = self.random.pick(&[0, 0, 3, AREA, AREA + 1]);
                 let content = self.random.bytes(n);
                 record(&mut self.random, kind, id, &content)
             }

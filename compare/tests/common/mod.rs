@@ -2,7 +2,7 @@
 #![allow(dead_code)]
 
 use compare::answer::{Event, Refusal, Step, Stream};
-use compare::state::{Connection, STORE};
+use compare::state::{area, Connection, STORE};
 use compare::wire::{kind, record_with};
 
 pub struct Station {
@@ -90,7 +90,7 @@ impl Station {
 
     pub fn area(&self, id: u16) -> &[u8] {
         let slot = self.connection.find(id).unwrap();
-        &self.store[slot * 2048..(slot + 1) * 2048]
+        &self.store[area(slot)]
     }
 }
 

@@ -7,7 +7,7 @@ SLOTS = 16
 
 -- bytes of the store that belong to one slot, so the most that the parameters of a request can have (house rule)
 abbrev pub AREA : ℕ
-AREA = 2048
+AREA = 4096
 
 -- the store
 abbrev pub STORE : ℕ

@@ -2,7 +2,7 @@
 pub const SLOTS: usize = 16;
 
 // Bytes of the store that belong to one slot.
-pub const AREA: usize = 2048;
+pub const AREA: usize = 4096;
 
 // The store: an area for each slot.
 pub const STORE: usize = SLOTS * AREA;
