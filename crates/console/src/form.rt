@@ -9,8 +9,8 @@ use crate::words::choice;
 use crate::words::count_of;
 use crate::words::part;
 use crate::words::word;
-use fastcgi::STORE;
 use fastcgi::QUERY;
+use fastcgi::STORE;
 use wire::same;
 
 // The most bytes in hex that a line gives.

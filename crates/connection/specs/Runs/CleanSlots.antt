@@ -173,9 +173,10 @@ clean-step st store piece sized c =
     fed : Fits (st .conn) store → (due : Due) (i : ℕ) (x : List ℕ) → i < SLOTS → st .conn .frame .target ≡ dueTo due i
         → (taken i (t .occupied) ≡ false → onContent due x (heldAt t store i) .held .area ≡ zeros AREA) × (taken i (t .occupied) ≡ true → ZeroBeyond (onContent due x (heldAt t store i) .held))
     fed fits Due.Skip i x low aim = (c .free i low, c .beyond i low)
-    fed fits Due.Params i x low aim =
-        (λ f. let a = subst (λ w. Aimed w t (st .conn .frame .gathered) (st .conn .frame .position .content)) aim (shaped (st .conn) (fits .shape) .target) in true-false (sym (a .slot .is-taken) ∙ f),
-        λ f. grown-zero (heldAt t store i) x (area-length store i (fits .size) low) (c .beyond i low f))
+    fed fits Due.Params i x low aim = (
+      λ f. let a = subst (λ w. Aimed w t (st .conn .frame .gathered) (st .conn .frame .position .content)) aim (shaped (st .conn) (fits .shape) .target) in true-false (sym (a .slot .is-taken) ∙ f),
+      λ f. grown-zero (heldAt t store i) x (area-length store i (fits .size) low) (c .beyond i low f),
+    )
     fed fits Due.Stdin i x low aim = (c .free i low, c .beyond i low)
     fed fits Due.Data i x low aim = (c .free i low, c .beyond i low)
 
