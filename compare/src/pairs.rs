@@ -69,13 +69,13 @@ impl Iterator for Pairs<'_> {
 }
 
 /// The length that stands at a place, and the place behind it; none where the list ends in or before it.
-/// House: the four-byte form of a number that one byte can hold is malformed.
+/// Each number has a four-byte form, those that one byte can hold too.
 pub fn read_length(list: &[u8], place: usize) -> Option<(usize, usize)> {
     match list.get(place..)? {
         [short, ..] if *short < 128 => Some((usize::from(*short), place + 1)),
         [a, b, c, d, ..] => {
             let number = u32::from_be_bytes([*a & 0x7f, *b, *c, *d]);
-            (number >= 128).then_some((number as usize, place + 4))
+            Some((number as usize, place + 4))
         }
         _ => None,
     }

@@ -18,8 +18,9 @@ fn lengths() {
     assert_eq!(read_length(&[0x7f], 0), Some((127, 1)));
     assert_eq!(read_length(&[0x80, 0, 0, 0x80], 0), Some((128, 4)));
     assert_eq!(read_length(&[0x80, 0, 0, 0xc8], 0), Some((200, 4)));
-    assert_eq!(read_length(&[0x80, 0, 0, 0x7f], 0), None);
-    assert_eq!(read_length(&[0x80, 0, 0, 0], 0), None);
+    assert_eq!(read_length(&[0x80, 0, 0, 0x7f], 0), Some((127, 4)));
+    assert_eq!(read_length(&[0x80, 0, 0, 0], 0), Some((0, 4)));
+    assert_eq!(read_length(&[9, 0x80, 0, 0, 1], 1), Some((1, 5)));
     assert_eq!(read_length(&[0x80, 0, 0], 0), None);
     assert_eq!(read_length(&[0xff; 4], 0), Some((2_147_483_647, 4)));
     assert_eq!(read_length(&[], 0), None);
@@ -87,6 +88,30 @@ fn all_forms_of_lengths_read_back() {
             assert_eq!(pairs.place(), length);
         }
     }
+}
+
+/// Whatever the form that is read, the shortest one is written: the same pairs, in other bytes.
+#[test]
+fn long_lengths_are_written_short() {
+    let shortest = b"\x0e\x03REQUEST_METHODGET\x00\x00\x01\x00E\x00\x01v";
+    let mut long = Vec::new();
+    for pair in Pairs::new(shortest) {
+        let (name, value) = (pair.name(shortest), pair.value(shortest));
+        long.extend([0x80, 0, 0, name.len() as u8, 0x80, 0, 0, value.len() as u8]);
+        long.extend([name, value].concat());
+    }
+    assert_eq!(long.len(), shortest.len() + 4 * 6);
+    assert!(well_formed(&long));
+    let mut written: Vec<u8> = Vec::new();
+    for pair in Pairs::new(&long) {
+        let mut buffer = [0; 40];
+        let length = write_pair(&mut buffer, pair.name(&long), pair.value(&long)).unwrap();
+        written.extend(&buffer[..length]);
+    }
+    assert_eq!(written, shortest);
+    // Four pairs, and no end elsewhere is an end of the list.
+    let ends = (0..=long.len()).filter(|&end| well_formed(&long[..end]));
+    assert_eq!(ends.count(), 5);
 }
 
 #[test]

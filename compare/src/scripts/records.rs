@@ -45,6 +45,20 @@ pub fn append_pair(list: &mut Vec<u8>, name: &[u8], value: &[u8]) {
     list.extend(buffer);
 }
 
+/// A pair with one of its lengths in four bytes, or both, whatever they are.
+fn append_long_pair(random: &mut Random, list: &mut Vec<u8>, name: &[u8], value: &[u8]) {
+    let long = random.within(1, 3);
+    for (bit, part) in [(1, name), (2, value)] {
+        if part.len() < 128 && long & bit == 0 {
+            list.push(part.len() as u8);
+        } else {
+            list.extend((part.len() as u32 | 0x8000_0000).to_be_bytes());
+        }
+    }
+    list.extend(name);
+    list.extend(value);
+}
+
 /// Few names, so that one comes twice and one is the start of another.
 pub fn any_name(random: &mut Random) -> Vec<u8> {
     match random.below(10) {
@@ -69,11 +83,17 @@ fn any_value(random: &mut Random) -> Vec<u8> {
     random.bytes(n)
 }
 
+/// Mostly in the shortest form of the lengths.
 pub fn few_pairs(random: &mut Random) -> Vec<u8> {
     let mut list = Vec::new();
+    let long = random.one_in(4);
     for _ in 0..random.below(6) {
         let (name, value) = (any_name(random), any_value(random));
-        append_pair(&mut list, &name, &value);
+        if long {
+            append_long_pair(random, &mut list, &name, &value);
+        } else {
+            append_pair(&mut list, &name, &value);
+        }
     }
     list
 }
@@ -113,7 +133,7 @@ pub fn damaged_list(random: &mut Random) -> Vec<u8> {
             list.pop();
         }
         1 => list.push(random.byte()),
-        // The four-byte form of a small number, right but for that.
+        // The four-byte form of a small number, which is no damage.
         2 => {
             let n = random.byte() & 0x7f;
             list.extend(if random.one_in(2) {
@@ -127,7 +147,8 @@ pub fn damaged_list(random: &mut Random) -> Vec<u8> {
         3 => list.extend([0xff, 0xff, 0xff, 0xff, 0xff, 0xff, 0xff, 0xff, 1, 2]),
         4 => {
             let n = random.within(1, 7);
-            list.extend(&[0x80, 0, 0, 0x80, 0x80, 0, 0][..n]);
+            let length = random.pick(&[0, 5, 0x7f, 0x80]);
+            list.extend(&[0x80, 0, 0, length, 0x80, 0, 0][..n]);
         }
         _ => {
             let n = random.within(1, 30);
@@ -157,7 +178,11 @@ pub fn query(random: &mut Random) -> Vec<u8> {
         } else {
             Vec::new()
         };
-        append_pair(&mut list, name.as_bytes(), &value);
+        if random.one_in(4) {
+            append_long_pair(random, &mut list, name.as_bytes(), &value);
+        } else {
+            append_pair(&mut list, name.as_bytes(), &value);
+        }
     }
     match random.below(12) {
         0 => {

@@ -39,7 +39,8 @@ table =
     ∷ (lengthAt (0x7F ∷ []) 0 gives Length.Is 127 1)
     ∷ (lengthAt (0x80 ∷ 0x00 ∷ 0x00 ∷ 0x80 ∷ []) 0 gives Length.Is 128 4)
     ∷ (lengthAt (0x80 ∷ 0x00 ∷ 0x00 ∷ 0xC8 ∷ []) 0 gives Length.Is 200 4)
-    ∷ (lengthAt (0x80 ∷ 0x00 ∷ 0x00 ∷ 0x7F ∷ []) 0 gives Length.Malformed)
+    ∷ (lengthAt (0x80 ∷ 0x00 ∷ 0x00 ∷ 0x7F ∷ []) 0 gives Length.Is 127 4)
+    ∷ (lengthAt (0x80 ∷ 0x00 ∷ 0x00 ∷ 0x00 ∷ []) 0 gives Length.Is 0 4)
     ∷ (lengthAt (0x80 ∷ 0x00 ∷ 0x00 ∷ []) 0 gives Length.Malformed)
     ∷ (pairsFrom port 0 gives record { pairs = record { name = 2; «name_len» = 11; value = 13; «value_len» = 2 } ∷ []; ending = Ending.End })
     ∷ (pairAt port 0 gives Read.Pair (record { name = 2; «name_len» = 11; value = 13; «value_len» = 2 }) 15)
@@ -53,4 +54,4 @@ table =
 
 pub cases : Holds table
 unfolding number4 copied taken lowestFree withBit withSlot headerOf beginBodyOf advanced inHeader fourAt lengthAt pairAt pairsIn pairsFrom endingOf wellFormed withTurn withLife faulted turned paramsFault paramsEnded onParams onInput onLive onHeader opened requestAt areaAt putRequest putArea takeSlot holdsId findFrom idFits slotsFit positionFits inShape onInactive onActive judged opens begun ofBegin advances stepRefusal stepped started fed told lastOf begin empty begins
-cases = (refl, (refl, (refl, (refl, (refl, (refl, (refl, (refl, (refl, (refl, (refl, (refl, (refl, (refl, tt))))))))))))))
+cases = (refl, (refl, (refl, (refl, (refl, (refl, (refl, (refl, (refl, (refl, (refl, (refl, (refl, (refl, (refl, tt)))))))))))))))

@@ -1,15 +1,16 @@
--- A list of pairs that is written is read back, and a well-formed list that was read is written back to the same bytes.
-use mathlib.Core.Path.{_≡_, sym, ap, ap₂}
+-- A list of pairs that is written is read back. A list that was read and is written anew has the same pairs, and no list
+-- with these pairs is shorter.
+use mathlib.Core.Path.{_≡_, ap, ap₂}
 use Prim.Native.Nat.{ℕ, _+_, _*_, _-_, _≤_, _<_}
 use native.Mathlib.Omega.{arith}
 use mathlib.Core.Bool.{true}
 use mathlib.Core.List.{List, [], _∷_, _++_, append-nil, append-assoc, map}
-use lib.ListN.{length, drop, length-append, drop-of-length-le}
+use lib.ListN.{length, length-append}
 use Rattle.pairs.specs.Pair.{pairBytes, pairAt, nameOf, valueOf}
 use Rattle.pair_list.specs.List.{Pairs, andPairs, pairsFrom, isEnd, wellFormed}
 use Rattle.pairs.specs.PairLaws.{PairIn, pair-in}
 use Rattle.pair_list.specs.ListLaws.{ended, pairs-induction, pairs-next, pairs-end}
-use Rattle.pairs.specs.ReadBack.{AllBytes, writtenPair, pair-read-back, name-read-back, value-read-back, pair-written-back}
+use Rattle.pairs.specs.ReadBack.{AllBytes, writtenPair, pair-read-back, name-read-back, value-read-back, pair-no-longer, pair-writable}
 use Rattle.pairs.specs.declared.pair.Pair.{Pair}
 use Rattle.pairs.specs.declared.pair.Read.{Read}
 use Rattle.pair_list.specs.declared.Ending.{Ending}
@@ -53,20 +54,6 @@ few-pairs s = omega (arith, pairs-induction s Few (λ at h. omega arith) (λ at 
     more : (at : ℕ) (p : Pair) (next : ℕ) → pairAt s at ≡ Read.Pair p next → Few next (pairsFrom s next) → Few at (andPairs p (pairsFrom s next))
     more at p next e h = omega (arith, cursor-moves s at p next e)
 
--- The names and values of a well-formed list of bytes, written, are that list.
-pub contents-written : (s : List ℕ) → AllBytes s → wellFormed s ≡ true → written (contents s) ≡ s
-unfolding contents wellFormed written
-contents-written s bytes h = pairs-induction s Back (λ at h e. sym (drop-of-length-le s h)) stops more 0 h
-  where
-    Back : ℕ → Pairs → Type 0
-    Back at ps = isEnd (ps .ending) ≡ true → written (map (namedIn s) (ps .pairs)) ≡ drop at s
-
-    stops : (at place : ℕ) → pairAt s at ≡ Read.Malformed place → Back at (ended (Ending.Malformed place))
-    stops at place e h = let z : _≡_ {A = ℕ} 0 1 = cc in absurd (omega arith)
-
-    more : (at : ℕ) (p : Pair) (next : ℕ) → pairAt s at ≡ Read.Pair p next → Back next (pairsFrom s next) → Back at (andPairs p (pairsFrom s next))
-    more at p next e back h = rw (back h) (sym (pair-written-back s bytes at p next e))
-
 -- Pairs written after other bytes are read back from there on, up to the end.
 pub written-contents-from : (ps : List Named) (front : List ℕ) → Writable ps
     → (contentsFrom (front ++ written ps) (length front) ≡ ps) × (pairsFrom (front ++ written ps) (length front) .ending ≡ Ending.End)
@@ -93,3 +80,35 @@ written-contents-from (q ∷ qs) front w =
 pub written-contents : (ps : List Named) → Writable ps → (contents (written ps) ≡ ps) × (wellFormed (written ps) ≡ true)
 unfolding contents wellFormed
 written-contents ps w = let e = written-contents-from ps [] w in (e .0, ap isEnd (e .1))
+
+-- The pairs of a list of bytes can be written.
+contents-writable : (s : List ℕ) → AllBytes s → Writable (contents s)
+unfolding contents contentsFrom
+contents-writable s bytes = pairs-induction s Can (λ at h. tt) (λ at place e. tt) more 0
+  where
+    Can : ℕ → Pairs → Type 0
+    Can at ps = Writable (map (namedIn s) (ps .pairs))
+
+    more : (at : ℕ) (p : Pair) (next : ℕ) → pairAt s at ≡ Read.Pair p next → Can next (pairsFrom s next) → Can at (andPairs p (pairsFrom s next))
+    more at p next e h = let w = pair-writable s bytes at p next e in (w .0, w .1, h)
+
+-- Reading a list and writing its pairs gives a well-formed list with the same pairs.
+pub read-then-written : (s : List ℕ) → AllBytes s → (contents (written (contents s)) ≡ contents s) × (wellFormed (written (contents s)) ≡ true)
+read-then-written s bytes = written-contents (contents s) (contents-writable s bytes)
+
+-- What is written for the pairs of a list is no longer than the list.
+written-no-longer : (s : List ℕ) → length (written (contents s)) ≤ length s
+unfolding contents contentsFrom written
+written-no-longer s = omega (arith, pairs-induction s Short (λ at h. omega arith) (λ at place e. omega arith) more 0)
+  where
+    Short : ℕ → Pairs → Type 0
+    Short at ps = length (written (map (namedIn s) (ps .pairs))) ≤ length s - at
+
+    more : (at : ℕ) (p : Pair) (next : ℕ) → pairAt s at ≡ Read.Pair p next → Short next (pairsFrom s next) → Short at (andPairs p (pairsFrom s next))
+    more at p next e h =
+        let i = cursor-moves s at p next e in
+        simp length-append (omega (arith, pair-no-longer s at p next e, h, i))
+
+-- No list with these pairs is shorter.
+pub no-shorter : (s t : List ℕ) → contents t ≡ contents s → length (written (contents s)) ≤ length t
+no-shorter s t e = rw (← e) (written-no-longer t)

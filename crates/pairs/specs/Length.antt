@@ -12,15 +12,13 @@ use Rattle.pairs.specs.declared.length.Length.the-variants.{Is, Malforme
 unfoldable pub fourAt : List ℕ → ℕ → ℕ
 fourAt s at = number4 (byteAt s at - 128) (byteAt s (at + 1)) (byteAt s (at + 2)) (byteAt s (at + 3))
 
--- The length at a cursor, and the cursor after it: one byte below 128, or four bytes. A length that the list ends
--- inside is malformed.
--- House rule: so is the four-byte form of a number below 128.
+-- The length at a cursor, and the cursor after it: one byte below 128, or four bytes for any number. A length that the
+-- list ends inside is malformed.
 unfoldable pub lengthAt : List ℕ → ℕ → Length
 lengthAt s at =
     if length s ≤? at then Malformed
     else if byteAt s at <? 128 then Is (byteAt s at) (at + 1)
     else if length s - at <? 4 then Malformed
-    else if fourAt s at <? 128 then Malformed
     else Is (fourAt s at) (at + 4)
 
 -- A length as it is written, in the shorter form.

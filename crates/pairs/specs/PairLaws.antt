@@ -7,7 +7,7 @@ use lib.ListN.{length}
 use borrow.Author.Tests.{ltb-false, leb-true, leb-false, le-leb}
 use Rattle.wire.specs.Test.{byTest, _<?_, _≤?_}
 use Rattle.wire.specs.Buffer.{byteAt}
-use Rattle.pairs.specs.Length.{fourAt, lengthAt}
+use Rattle.pairs.specs.Length.{lengthAt}
 use Rattle.pairs.specs.Pair.{onLength, bodyAt, pairAt}
 use Rattle.pairs.specs.declared.length.Length.{Length}
 use Rattle.pairs.specs.declared.pair.Pair.{Pair}
@@ -23,9 +23,7 @@ length-next s at n next e =
     (λ t2. let q : at + 1 ≡ next = cc (simp (t1, t2) at e) in omega (arith, leb-false (length s) at t1))
     (λ t2. byTest (length s - at <? 4)
     (λ t3. let z : _≡_ {A = ℕ} 0 1 = cc (simp (t1, t2, t3) at e) in absurd (omega arith))
-    (λ t3. byTest (fourAt s at <? 128)
-    (λ t4. let z : _≡_ {A = ℕ} 0 1 = cc (simp (t1, t2, t3, t4) at e) in absurd (omega arith))
-    (λ t4. let q : at + 4 ≡ next = cc (simp (t1, t2, t3, t4) at e) in omega (arith, ltb-false (length s - at) 4 t3, leb-false (length s) at t1)))))
+    (λ t3. let q : at + 4 ≡ next = cc (simp (t1, t2, t3) at e) in omega (arith, ltb-false (length s - at) 4 t3, leb-false (length s) at t1))))
 
 -- a pair that was read takes two bytes or more, lies within the list, and its name, its value and the cursor after it
 -- adjoin

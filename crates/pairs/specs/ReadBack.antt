@@ -1,21 +1,19 @@
--- What is written is read back, and what was read is written back to the same bytes.
-use mathlib.Core.Path.{_≡_, refl, sym, ap, _∙_, subst}
+-- What is written is read back, and what is written for a pair that was read is no longer than what was read.
+use mathlib.Core.Path.{_≡_, refl, ap, subst}
 use Prim.Native.Nat.{ℕ, _+_, _*_, _-_, _/_, _%_, _≤_, _<_}
 use native.Mathlib.Omega.{arith}
-use native.Mathlib.Nat.{div-div-eq-div-mul, mod-eq-of-lt}
-use native.Mathlib.Numerals.{add-one}
 use mathlib.Core.Bool.{true, false}
-use mathlib.Core.List.{List, [], _∷_, _++_, append-assoc}
-use lib.ListN.{length, take, drop, length-append, length-take, length-drop, take-append-drop}
-use lib.Seq.{take-at, drop-at, getD-append-add, getD-append-seam, drop-cons, drop-drop}
+use mathlib.Core.List.{List, _∷_, _++_, append-assoc}
+use lib.ListN.{length, take, drop, length-append, length-take, length-drop}
+use lib.Seq.{take-at, drop-at, getD-append-add, getD-append-seam}
 use lib.Dec.{ltb}
-use borrow.Author.Tests.{ltb-true, ltb-false, leb-false, lt-ltb, le-ltb, lt-leb}
+use borrow.Author.Tests.{ltb-true, lt-ltb, le-ltb, lt-leb}
 use Rattle.wire.specs.Test.{_<?_, _≤?_, byTest}
-use Rattle.wire.specs.Number.{number4, bytes4, number4-bytes}
+use Rattle.wire.specs.Number.{number4, number4-bytes}
 use Rattle.wire.specs.Buffer.{byteAt}
 use Rattle.pairs.specs.Length.{fourAt, lengthAt, lengthBytes}
 use Rattle.pairs.specs.Pair.{pairBytes, onLength, bodyAt, pairAt, nameOf, valueOf}
-use Rattle.pairs.specs.PairLaws.{length-next, PairIn, pair-in}
+use Rattle.pairs.specs.PairLaws.{PairIn, pair-in}
 use Rattle.pairs.specs.declared.length.Length.{Length}
 use Rattle.pairs.specs.declared.length.Length.the-variants.{Is, Malformed}
 use Rattle.pairs.specs.declared.pair.Pair.{Pair}
@@ -41,10 +39,10 @@ one-read front b rest h =
     let more : length front < length (front ++ b ∷ rest) = simp length-append (omega arith) in
     simp (lt-leb _ _ more, getD-append-seam front b rest 0, lt-ltb _ _ h)
 
-four-read : (front : List ℕ) (b3 b2 b1 b0 n : ℕ) (rest : List ℕ) → 128 ≤ b3 → number4 (b3 - 128) b2 b1 b0 ≡ n → 128 ≤ n
+four-read : (front : List ℕ) (b3 b2 b1 b0 n : ℕ) (rest : List ℕ) → 128 ≤ b3 → number4 (b3 - 128) b2 b1 b0 ≡ n
     → lengthAt (front ++ b3 ∷ b2 ∷ b1 ∷ b0 ∷ rest) (length front) ≡ Is n (length front + 4)
 unfolding lengthAt fourAt
-four-read front b3 b2 b1 b0 n rest h e m =
+four-read front b3 b2 b1 b0 n rest h e =
     let s : List ℕ = front ++ b3 ∷ b2 ∷ b1 ∷ b0 ∷ rest in
     let more : length front < length s = simp length-append (omega arith) in
     let four : 4 ≤ length s - length front = simp length-append (omega arith) in
@@ -58,7 +56,6 @@ four-read front b3 b2 b1 b0 n rest h e m =
       le-ltb _ _ h,
       le-ltb _ _ four,
       e,
-      le-ltb _ _ m,
     )
 
 -- A length that was written is read back.
@@ -75,7 +72,7 @@ length-read-back n front rest h = byTest (ltb n 128) small large
         let m : ℕ = n + 2147483648 in
         let b : 128 ≤ m / 16777216 % 256 = high-bit n h in
         let w : number4 (m / 16777216 % 256) (m / 65536 % 256) (m / 256 % 256) (m % 256) ≡ m = number4-bytes m (omega arith) in
-        simp t (four-read front (m / 16777216 % 256) (m / 65536 % 256) (m / 256 % 256) (m % 256) n rest b (top-bit _ _ _ _ n w b) (ltb-false n 128 t))
+        simp t (four-read front (m / 16777216 % 256) (m / 65536 % 256) (m / 256 % 256) (m % 256) n rest b (top-bit _ _ _ _ n w b))
 
 -- Where a pair that is written at an offset lies.
 abbrev pub writtenPair : ℕ → List ℕ → List ℕ → Pair
@@ -142,88 +139,43 @@ value-read-back name value front rest =
     rw apart
     (simp append-assoc at (part-out (front ++ l1 ++ l2 ++ name) value rest (length front + length l1 + length l2 + length name) (simp length-append)))
 
--- The last digit to the base 256, and what stands before it.
-before-last : (q r : ℕ) → r < 256 → (q * 256 + r) / 256 ≡ q
-before-last q r h = omega arith
-
-last-digit : (q r : ℕ) → r < 256 → (q * 256 + r) % 256 ≡ r
-last-digit q r h = omega arith
-
--- The four bytes of a number made of four bytes are these.
-bytes4-number : (b3 b2 b1 b0 m : ℕ) → b3 < 256 → b2 < 256 → b1 < 256 → b0 < 256 → number4 b3 b2 b1 b0 ≡ m
-    → bytes4 m ≡ b3 ∷ b2 ∷ b1 ∷ b0 ∷ []
-unfolding number4
-bytes4-number b3 b2 b1 b0 m h3 h2 h1 h0 e =
-    let m1 : ℕ = (b3 * 256 + b2) * 256 + b1 in
-    let form : m ≡ m1 * 256 + b0 = omega arith in
-    let d1 : m / 256 ≡ m1 = rw form (before-last m1 b0 h0) in
-    let d2 : m / 65536 ≡ b3 * 256 + b2 = sym (div-div-eq-div-mul m 256 256) ∙ rw d1 (before-last (b3 * 256 + b2) b1 h1) in
-    let d3 : m / 16777216 ≡ b3 = sym (div-div-eq-div-mul m 65536 256) ∙ rw d2 (before-last b3 b2 h2) in
-    let r0 : m % 256 ≡ b0 = rw form (last-digit m1 b0 h0) in
-    let r1 : m / 256 % 256 ≡ b1 = rw d1 (last-digit (b3 * 256 + b2) b1 h1) in
-    let r2 : m / 65536 % 256 ≡ b2 = rw d2 (last-digit b3 b2 h2) in
-    let r3 : m / 16777216 % 256 ≡ b3 = rw d3 (mod-eq-of-lt h3) in
-    cc
-
--- Every element is a byte. (Behind the end of a list there stands 0.)
+-- Every element is a byte. (Past the end of a list stands 0.)
 abbrev pub AllBytes : List ℕ → Type 0
 AllBytes s = (i : ℕ) → byteAt s i < 256
 
--- A byte of a list, or four, and the rest.
-one-out : (s : List ℕ) (at next : ℕ) → at + 1 ≡ next → at < length s → drop at s ≡ byteAt s at ∷ drop next s
-one-out s at next e h = rw (← e, add-one) (drop-cons s at 0 h)
-
-four-out : (s : List ℕ) (at : ℕ) → at + 4 ≤ length s
-    → drop at s ≡ byteAt s at ∷ byteAt s (at + 1) ∷ byteAt s (at + 2) ∷ byteAt s (at + 3) ∷ drop (at + 4) s
-four-out s at h =
-    rw (
-      one-out s at (at + 1) refl (omega arith),
-      one-out s (at + 1) (at + 2) (omega arith) (omega arith),
-      one-out s (at + 2) (at + 3) (omega arith) (omega arith),
-      one-out s (at + 3) (at + 4) (omega arith) (omega arith),
-    )
-
--- The bytes of a length that was read in one byte, and in four, are those that are written for it.
-one-back : (s : List ℕ) (at : ℕ) → at < length s → byteAt s at < 128 → drop at s ≡ lengthBytes (byteAt s at) ++ drop (at + 1) s
-unfolding lengthBytes
-one-back s at h t = simp (lt-ltb _ _ t) (one-out s at (at + 1) refl h)
-
-four-back : (s : List ℕ) → AllBytes s → (at : ℕ) → at + 4 ≤ length s → 128 ≤ byteAt s at → 128 ≤ fourAt s at
-    → drop at s ≡ lengthBytes (fourAt s at) ++ drop (at + 4) s
-unfolding lengthBytes fourAt
-four-back s bytes at h t u =
-    let w : number4 (byteAt s at) (byteAt s (at + 1)) (byteAt s (at + 2)) (byteAt s (at + 3)) ≡ fourAt s at + 2147483648 = top-set _ _ _ _ t in
-    let f : bytes4 (fourAt s at + 2147483648) ≡ byteAt s at ∷ byteAt s (at + 1) ∷ byteAt s (at + 2) ∷ byteAt s (at + 3) ∷ [] =
-    bytes4-number _ _ _ _ _ (bytes at) (bytes (at + 1)) (bytes (at + 2)) (bytes (at + 3)) w in
-    simp (le-ltb _ _ u) (four-out s at h ∙ ap (λ (l : List ℕ). l ++ drop (at + 4) s) (sym f))
-
--- The form of a length is unique: where one was read, its bytes are those that are written for it.
-pub length-written-back : (s : List ℕ) → AllBytes s → (at n next : ℕ) → lengthAt s at ≡ Is n next → drop at s ≡ lengthBytes n ++ drop next s
-unfolding lengthAt
-length-written-back s bytes at n next e =
+-- What is written for a length that was read is no longer than what was read: a byte where it was one, and at most four
+-- where they were four.
+length-no-longer : (s : List ℕ) (at n next : ℕ) → lengthAt s at ≡ Is n next → at + length (lengthBytes n) ≤ next
+unfolding lengthAt lengthBytes
+length-no-longer s at n next e =
     byTest (length s ≤? at)
     (λ t1. let z : _≡_ {A = ℕ} 0 1 = cc (simp t1 at e) in absurd (omega arith))
     (λ t1. byTest (byteAt s at <? 128)
     (λ t2.
     let p : byteAt s at ≡ n = cc (simp (t1, t2) at e) in
     let q : at + 1 ≡ next = cc (simp (t1, t2) at e) in
-    rw (← p, ← q) (one-back s at (leb-false (length s) at t1) (ltb-true (byteAt s at) 128 t2)))
+    rw (← p, t2) (omega arith))
     (λ t2. byTest (length s - at <? 4)
     (λ t3. let z : _≡_ {A = ℕ} 0 1 = cc (simp (t1, t2, t3) at e) in absurd (omega arith))
-    (λ t3. byTest (fourAt s at <? 128)
-    (λ t4. let z : _≡_ {A = ℕ} 0 1 = cc (simp (t1, t2, t3, t4) at e) in absurd (omega arith))
-    (λ t4.
-    let p : fourAt s at ≡ n = cc (simp (t1, t2, t3, t4) at e) in
-    let q : at + 4 ≡ next = cc (simp (t1, t2, t3, t4) at e) in
-    let h : at + 4 ≤ length s = omega (arith, ltb-false (length s - at) 4 t3, leb-false (length s) at t1) in
-    rw (← p, ← q) (four-back s bytes at h (ltb-false (byteAt s at) 128 t2) (ltb-false (fourAt s at) 128 t4))))))
+    (λ t3.
+    let q : at + 4 ≡ next = cc (simp (t1, t2, t3) at e) in
+    byTest (n <? 128) (λ t4. simp t4 (omega arith)) (λ t4. simp t4 (omega arith)))))
 
--- The same of the bytes between the two cursors.
-pub length-form : (s : List ℕ) → AllBytes s → (at n next : ℕ) → lengthAt s at ≡ Is n next → take (next - at) (drop at s) ≡ lengthBytes n
-length-form s bytes at n next e =
-    let w : drop at s ≡ lengthBytes n ++ drop next s = length-written-back s bytes at n next e in
-    let l : length s - at ≡ length (lengthBytes n) + (length s - next) = simp (length-drop, length-append) at (ap length w) in
-    rw w (take-at (lengthBytes n) (drop next s) (next - at) (omega (arith, length-next s at n next e)))
+-- A length that was read from bytes can be written.
+length-writable : (s : List ℕ) → AllBytes s → (at n next : ℕ) → lengthAt s at ≡ Is n next → n < 2147483648
+unfolding lengthAt fourAt number4
+length-writable s bytes at n next e =
+    byTest (length s ≤? at)
+    (λ t1. let z : _≡_ {A = ℕ} 0 1 = cc (simp t1 at e) in absurd (omega arith))
+    (λ t1. byTest (byteAt s at <? 128)
+    (λ t2.
+    let p : byteAt s at ≡ n = cc (simp (t1, t2) at e) in
+    omega (arith, ltb-true (byteAt s at) 128 t2))
+    (λ t2. byTest (length s - at <? 4)
+    (λ t3. let z : _≡_ {A = ℕ} 0 1 = cc (simp (t1, t2, t3) at e) in absurd (omega arith))
+    (λ t3.
+    let p : (byteAt s at - 128) * 16777216 + byteAt s (at + 1) * 65536 + byteAt s (at + 2) * 256 + byteAt s (at + 3) ≡ n = cc (simp (t1, t2, t3) at e) in
+    omega (arith, bytes at, bytes (at + 1), bytes (at + 2), bytes (at + 3)))))
 
 -- The two lengths that a pair was read by.
 record Lengths (s : List ℕ) (at : ℕ) (p : Pair) : Type 0 where
@@ -258,24 +210,32 @@ lengths s at p next e =
     first (Is n a) q e = second n a q (lengthAt s a) refl e
     first Malformed q e = let z : _≡_ {A = ℕ} 0 1 = cc in absurd (omega arith)
 
--- A part of a list, and the rest after it.
-part-then : (s : List ℕ) (at n next : ℕ) → at + n ≡ next → drop at s ≡ take n (drop at s) ++ drop next s
-part-then s at n next e = rw (← e, ← drop-drop n at s) (sym (take-append-drop n (drop at s)))
-
+-- A part of a list has its length.
 part-length : (s : List ℕ) (at n : ℕ) → at + n ≤ length s → length (take n (drop at s)) ≡ n
 part-length s at n h = simp (length-take, length-drop) (omega arith)
 
--- The bytes of a pair that was read are those that are written for its name and its value.
-pub pair-written-back : (s : List ℕ) → AllBytes s → (at : ℕ) (p : Pair) (next : ℕ) → pairAt s at ≡ Read.Pair p next
-    → drop at s ≡ pairBytes (nameOf s p) (valueOf s p) ++ drop next s
-unfolding pairBytes
-pair-written-back s bytes at p next e =
+-- The name and the value of a pair that was read have the lengths that were read.
+name-length : (s : List ℕ) (at : ℕ) (p : Pair) (next : ℕ) → pairAt s at ≡ Read.Pair p next → length (nameOf s p) ≡ p .«name_len»
+name-length s at p next e = let i : PairIn s at p next = pair-in s at p next e in part-length s (p .name) (p .«name_len») (omega arith)
+
+value-length : (s : List ℕ) (at : ℕ) (p : Pair) (next : ℕ) → pairAt s at ≡ Read.Pair p next → length (valueOf s p) ≡ p .«value_len»
+value-length s at p next e = let i : PairIn s at p next = pair-in s at p next e in part-length s (p .value) (p .«value_len») (omega arith)
+
+-- What is written for a pair that was read is no longer than the bytes that it was read from.
+pub pair-no-longer : (s : List ℕ) (at : ℕ) (p : Pair) (next : ℕ) → pairAt s at ≡ Read.Pair p next
+    → at + length (pairBytes (nameOf s p) (valueOf s p)) ≤ next
+pair-no-longer s at p next e =
     let i : PairIn s at p next = pair-in s at p next e in
     let l : Lengths s at p = lengths s at p next e in
-    let ln : length (nameOf s p) ≡ p .«name_len» = part-length s (p .name) (p .«name_len») (omega arith) in
-    let lv : length (valueOf s p) ≡ p .«value_len» = part-length s (p .value) (p .«value_len») (omega arith) in
-    let e1 : drop at s ≡ lengthBytes (p .«name_len») ++ drop (l .second) s = length-written-back s bytes at _ _ (l .named) in
-    let e2 : drop (l .second) s ≡ lengthBytes (p .«value_len») ++ drop (p .name) s = length-written-back s bytes _ _ _ (l .valued) in
-    let e3 : drop (p .name) s ≡ nameOf s p ++ drop (p .value) s = part-then s (p .name) (p .«name_len») (p .value) (i .named) in
-    let e4 : drop (p .value) s ≡ valueOf s p ++ drop next s = part-then s (p .value) (p .«value_len») next (i .valued) in
-    simp (ln, lv, append-assoc) (cc)
+    let ln = name-length s at p next e in
+    let lv = value-length s at p next e in
+    let l1 : at + length (lengthBytes (length (nameOf s p))) ≤ l .second = rw ln (length-no-longer s at _ _ (l .named)) in
+    let l2 : l .second + length (lengthBytes (length (valueOf s p))) ≤ p .name = rw lv (length-no-longer s _ _ _ (l .valued)) in
+    omega (arith, pair-length (nameOf s p) (valueOf s p), ln, lv, l1, l2, i .named, i .valued)
+
+-- A pair that was read from bytes can be written.
+pub pair-writable : (s : List ℕ) → AllBytes s → (at : ℕ) (p : Pair) (next : ℕ) → pairAt s at ≡ Read.Pair p next
+    → (length (nameOf s p) < 2147483648) × (length (valueOf s p) < 2147483648)
+pair-writable s bytes at p next e =
+    let l : Lengths s at p = lengths s at p next e in
+    (rw (name-length s at p next e) (length-writable s bytes at _ _ (l .named)), rw (value-length s at p next e) (length-writable s bytes _ _ _ (l .valued)))

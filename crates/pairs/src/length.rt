@@ -33,9 +33,5 @@ pub fn read_length(list: &[u8], at: usize) -> Length
         return Length::Malformed;
     }
     let n = four_at(list, at);
-    // House rule: a number below 128 is written in one byte.
-    if n < 128 {
-        return Length::Malformed;
-    }
     Length::Is(n, at + 4)
 }

@@ -31,20 +31,14 @@ returns-3 c = simp (lt-leb _ _ (c .before .before .before .if1 .left), le-ltb _ 
 four-at-requires : tie.Need-four-at-requires
 four-at-requires c κs = search needs
 
-returns-4 : tie.Need-returns-4
-unfolding lengthAt
-returns-4 c =
-    let x = c .before .before in
-    simp (lt-leb _ _ (x .before .before .before .if1 .left), le-ltb _ _ (x .before .if2 .left), le-ltb _ _ (x .if3 .left), ← c .before .four-at .ensures, lt-ltb _ _ (c .if4 .taken))
-
 add-t5 : tie.Need-add-t5
 add-t5 c = search needs
 
-returns-5 : tie.Need-returns-5
+returns-4 : tie.Need-returns-4
 unfolding lengthAt
-returns-5 c =
-    let x = c .before .before in
-    simp (lt-leb _ _ (x .before .before .before .if1 .left), le-ltb _ _ (x .before .if2 .left), le-ltb _ _ (x .if3 .left), ← c .before .four-at .ensures, le-ltb _ _ (c .if4 .left))
+returns-4 c =
+    let x = c .before in
+    simp (lt-leb _ _ (x .before .before .before .if1 .left), le-ltb _ _ (x .before .if2 .left), le-ltb _ _ (x .if3 .left), c .four-at .ensures)
 
 pub read-length-spec : {M : Type 1} → statement M
 read-length-spec =
@@ -58,6 +52,5 @@ read-length-spec =
     sub-if3
     returns-3
     four-at-requires
-    returns-4
     add-t5
-    returns-5)
+    returns-4)
