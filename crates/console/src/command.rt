@@ -131,7 +131,7 @@ fn counted_from(first: u64, f: Form) -> Form {
     }
 }
 
-// What stands behind the word `poke`.
+// What stands after the word `poke`.
 fn read_poke(line: &[u8], bytes: &mut [u8]) -> Form {
     if same(word(line, 0), b"target") {
         return counted_from(TARGET, read_target(rest(line), bytes));

@@ -23,7 +23,7 @@ use wire::least;
 ghost use Prim.Native.Nat.{_<_};
 
 // What the steps told so far: where the line goes on, the last event on it, the bytes used by all steps together, and
-// the number of the refusal that ended them, or 0. A step that is `alone` puts its event behind the bytes used.
+// the number of the refusal that ended them, or 0. A step that is `alone` puts its event after the bytes used.
 struct Tale {
     at: usize,
     event: Event,
@@ -32,7 +32,7 @@ struct Tale {
     alone: bool,
 }
 
-// The connection behind the steps, and what they told.
+// The connection after the steps, and what they told.
 struct Fed {
     conn: Conn,
     tale: Tale,
@@ -86,7 +86,7 @@ fn is_put(alone: bool, e: Event) -> bool {
     if alone { false } else { true }
 }
 
-// An event behind the last one.
+// An event after the last one.
 fn put_next(page: &mut [u8], at: usize, last: Event, e: Event, piece: &[u8]) -> usize {
     let more = more_data(last, e);
     if 0 < more {
@@ -269,7 +269,7 @@ fn is_single(t: Tale) -> bool {
     false
 }
 
-// What is left to tell behind the steps.
+// What is left to tell after the steps.
 fn put_last(page: &mut [u8], t: Tale, changed: bool, input: &[u8]) -> usize {
     let last = t.event;
     if is_single(t) {
@@ -302,7 +302,7 @@ fn last_told(before: Event, t: Tale) -> Event {
     t.event
 }
 
-// The state behind the steps.
+// The state after the steps.
 fn behind_feed(s: State, f: Fed) -> State {
     let before = s.event;
     let conn = f.conn;

@@ -60,7 +60,7 @@ fn numeral(kind: u8, w: &[u8]) -> Number {
     }
 }
 
-// An argument of any kind. Bytes in hex are put behind those of the line that were put already.
+// An argument of any kind. Bytes in hex are put after those of the line that were put already.
 fn argument(kind: u8, w: &[u8], bytes: &mut [u8], at: usize) -> Number {
     match kind {
         b'h' => decode(w, BYTES, bytes, at),
@@ -75,7 +75,7 @@ fn argument(kind: u8, w: &[u8], bytes: &mut [u8], at: usize) -> Number {
     }
 }
 
-// Where the bytes end behind an argument.
+// Where the bytes end after an argument.
 fn bytes_end(kind: u8, n: u64, before: usize) -> usize {
     if kind == b'h' {
         return n as usize;

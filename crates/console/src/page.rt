@@ -11,7 +11,7 @@ fn flush(page: &[u8], at: usize) -> usize {
     z
 }
 
-// Where so many bytes go: behind what the page holds, or at its start once that is written out.
+// Where so many bytes go: after what the page holds, or at its start once that is written out.
 fn with_room(page: &[u8], at: usize, n: usize) -> usize {
     if at <= page.len() {
         if n <= page.len() - at {
@@ -21,7 +21,7 @@ fn with_room(page: &[u8], at: usize, n: usize) -> usize {
     flush(page, at)
 }
 
-// Puts text at a place that has room for it, and answers the place behind it.
+// Puts text at a place that has room for it, and answers the place after it.
 pub fn put_at(page: &mut [u8], at: usize, text: &[u8]) -> usize {
     if page.len() < at {
         return at;
@@ -33,7 +33,7 @@ pub fn put_at(page: &mut [u8], at: usize, text: &[u8]) -> usize {
     at + text.len()
 }
 
-// Puts text behind what the page holds, and answers the place behind it.
+// Puts text after what the page holds, and answers the place after it.
 pub fn put(page: &mut [u8], at: usize, text: &[u8]) -> usize {
     let place = with_room(page, at, text.len());
     put_at(page, place, text)

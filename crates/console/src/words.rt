@@ -49,7 +49,7 @@ fn word_end(line: &[u8], from: usize) -> usize
     i
 }
 
-// The place behind the first space from a place on, or the line's end.
+// The place after the first space from a place on, or the line's end.
 fn past_space(line: &[u8], from: usize) -> usize {
     let e = word_end(line, from);
     if e < line.len() {
@@ -58,7 +58,7 @@ fn past_space(line: &[u8], from: usize) -> usize {
     e
 }
 
-// What stands behind the first word of a line and its space.
+// What stands after the first word of a line and its space.
 pub fn rest<'a>(line: &'a [u8]) -> &'a [u8] {
     part(line, past_space(line, 0), line.len())
 }

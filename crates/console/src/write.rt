@@ -40,7 +40,7 @@ pub enum Effect {
     Refused(u8),
 }
 
-// What a call came to, and the connection behind it.
+// What a call came to, and the connection after it.
 pub struct Called {
     pub effect: Effect,
     pub conn: Conn,
@@ -72,7 +72,7 @@ fn of_finish(finish: FinishResult) -> Effect {
     }
 }
 
-// What output came to, and the connection behind it.
+// What output came to, and the connection after it.
 fn of_written(written: Written) -> Called {
     let wrote = written.wrote;
     let conn = written.conn;
@@ -182,7 +182,7 @@ fn put_wrote(page: &mut [u8], at: usize, room: &[u8], n: usize, last: &[u8]) -> 
     put(page, d, last)
 }
 
-// ` touched` where a byte behind what was written changed.
+// ` touched` where a byte after what was written changed.
 fn put_touched(page: &mut [u8], at: usize, room: &[u8], n: usize) -> usize {
     if touched(room, n) {
         return put(page, at, b" touched");

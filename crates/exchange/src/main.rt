@@ -1,6 +1,7 @@
 // A station's end of an exchange: what a web server sends comes on standard input, what the station answers goes to
 // standard output. Each request is asked for its reading once its parameters are there; the reading is written to the
-// request's STDOUT, STDOUT is ended, and then the request. Replies that events owe are written as they come.
+// request's STDOUT, STDOUT is ended, and then the request. A request that faults or is aborted is ended at once, so that
+// its slot is free again. Replies that events owe are written as they come.
 use fastcgi::Conn;
 use fastcgi::Event;
 use fastcgi::FinishResult;
@@ -38,6 +39,14 @@ fn send_end(out: &[u8], last: FinishResult) {
     }
 }
 
+// Ends a request: what it still owes is sent, and its slot is free again.
+fn end_request(c: Conn, store: &mut [u8], id: u16, out: &mut [u8]) -> Conn {
+    let finished = finish(c, store, id, 0, out);
+    let last = finished.result;
+    send_end(out, last);
+    finished.conn
+}
+
 // Writes a request's reading back, ends its STDOUT and then the request. Where it sent no reading, that is said.
 fn answer(c: Conn, store: &mut [u8], id: u16, out: &mut [u8]) -> Conn {
     let reading = value(c, store, id, b"READING", b"no reading");
@@ -49,16 +58,28 @@ fn answer(c: Conn, store: &mut [u8], id: u16, out: &mut [u8]) -> Conn {
     let end = ended.wrote;
     send(out, end);
     let over = ended.conn;
-    let finished = finish(over, store, id, 0, out);
-    let last = finished.result;
-    send_end(out, last);
-    finished.conn
+    end_request(over, store, id, out)
+}
+
+// The request that an event leaves without anything more to come; 0 for none, since no request has that id.
+fn given_up(e: Event) -> u16 {
+    if let Event::Fault { id, fault: _ } = e {
+        return id;
+    }
+    if let Event::Abort { id } = e {
+        return id;
+    }
+    0
 }
 
 // What the station does at an event.
 fn react(c: Conn, store: &mut [u8], e: Event, out: &mut [u8]) -> Conn {
     let owed = owed_reply(e, out);
     send(out, owed);
+    let over = given_up(e);
+    if over != 0 {
+        return end_request(c, store, over, out);
+    }
     if let Event::Ready { id, length: _ } = e {
         return answer(c, store, id, out);
     }

@@ -21,6 +21,6 @@ lengthAt s at =
     else if length s - at <? 4 then Malformed
     else Is (fourAt s at) (at + 4)
 
--- A length as it is written, in the shorter form.
+-- A length as it is written, in the shorter form (house rule).
 unfoldable pub lengthBytes : ℕ → List ℕ
 lengthBytes n = if n <? 128 then n ∷ [] else bytes4 (n + 2147483648)

@@ -32,14 +32,15 @@ top-set b3 b2 b1 b0 h = omega arith
 high-bit : (n : ℕ) → n < 2147483648 → 128 ≤ (n + 2147483648) / 16777216 % 256
 high-bit n h = omega arith
 
--- A length of one byte, and one of four, read after other bytes.
+-- A length of one byte, read after other bytes.
 one-read : (front : List ℕ) (b : ℕ) (rest : List ℕ) → b < 128 → lengthAt (front ++ b ∷ rest) (length front) ≡ Is b (length front + 1)
 unfolding lengthAt
 one-read front b rest h =
     let more : length front < length (front ++ b ∷ rest) = simp length-append (omega arith) in
     simp (lt-leb _ _ more, getD-append-seam front b rest 0, lt-ltb _ _ h)
 
-four-read : (front : List ℕ) (b3 b2 b1 b0 n : ℕ) (rest : List ℕ) → 128 ≤ b3 → number4 (b3 - 128) b2 b1 b0 ≡ n
+-- Four bytes, the first with its top bit set, are the length of their number, whatever it is.
+pub four-read : (front : List ℕ) (b3 b2 b1 b0 n : ℕ) (rest : List ℕ) → 128 ≤ b3 → number4 (b3 - 128) b2 b1 b0 ≡ n
     → lengthAt (front ++ b3 ∷ b2 ∷ b1 ∷ b0 ∷ rest) (length front) ≡ Is n (length front + 4)
 unfolding lengthAt fourAt
 four-read front b3 b2 b1 b0 n rest h e =

@@ -24,17 +24,14 @@ end-output-requires c κs = search needs
 send-requires-2 : tie.Need-send-requires-2
 send-requires-2 c κs = search needs
 
-finish-requires : tie.Need-finish-requires
-finish-requires c κs = search needs
-
-send-end-requires : tie.Need-send-end-requires
-send-end-requires c κs = search needs
+end-request-requires : tie.Need-end-request-requires
+end-request-requires c κs = search needs
 
 same-length : tie.Need-same-length
 same-length c = search needs
 
 same-length-2 : tie.Need-same-length-2
-same-length-2 c = c .before .before .before .before .out3 .given ∙ c .before .before .before .before .before .before .before .before .before .before .before .before .before .before .out2 .given ∙ c .before .before .before .before .before .before .before .before .before .before .before .before .before .before .before .before .before .before .before .before .before .out .given
+same-length-2 c = c .before .out3 .given ∙ c .before .before .before .before .before .before .before .before .before .before .before .out2 .given ∙ c .before .before .before .before .before .before .before .before .before .before .before .before .before .before .before .before .before .before .out .given
 
 returns : tie.Need-returns
 returns c = search needs
@@ -50,8 +47,7 @@ answer-spec =
     send-requires
     end-output-requires
     send-requires-2
-    finish-requires
-    send-end-requires
+    end-request-requires
     same-length
     same-length-2
     returns)
