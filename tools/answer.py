@@ -13,23 +13,15 @@ In an answer .b7 stands for seven .before.
 import os
 import re
 import sys
+from usage import arguments, stop
 
-
-def stop(why):
-    print(why, __doc__.split('\n')[0], sep='\n', file=sys.stderr)
-    sys.exit(2)
-
-
-args = sys.argv[1:]
-if args and args[0] in ('-h', '--help'):
-    print(__doc__, end='')
-    sys.exit()
+args = arguments(__doc__)
 if len(args) != 2:
-    stop('answer.py: it takes a crate and a function')
+    stop(__doc__, 'it takes a crate and a function')
 crate, function = args
 path = 'crates/%s/proofs/%s/Proof.antt' % (crate, function)
 if not os.path.exists(path):
-    stop('answer.py: there is no %s' % path)
+    stop(__doc__, 'there is no %s' % path)
 text = open(path).read()
 sections = []
 for line in sys.stdin.read().split('\n'):

@@ -7,27 +7,14 @@ A run of `.before` is written .bN. The whole output is kept in target/last-CRATE
 """
 import os
 import re
-import shutil
 import subprocess
-import sys
+from usage import arguments, need_crate, stop
 
-
-def stop(why):
-    print(why, __doc__.split('\n')[0], sep='\n', file=sys.stderr)
-    sys.exit(2)
-
-
-args = sys.argv[1:]
-if args and args[0] in ('-h', '--help'):
-    print(__doc__, end='')
-    sys.exit()
+args = arguments(__doc__)
 if len(args) not in (1, 3) or len(args) == 3 and args[1] != '-g':
-    stop('goals.py: it takes a crate, and -g with what to look for')
+    stop(__doc__, 'it takes a crate, and -g with what to look for')
 crate, wanted = args[0], args[2] if len(args) == 3 else None
-if not os.path.isdir('crates/' + crate):
-    stop('goals.py: there is no crates/%s here' % crate)
-if not shutil.which('rt'):
-    stop('goals.py: rt is not on the PATH')
+need_crate(__doc__, crate)
 words = ['--allow-holes'] if wanted else []
 ran = subprocess.run(['rt', 'dev', crate] + words, capture_output=True, text=True, env=dict(os.environ, RT_CUT='0'))
 out = ran.stdout + ran.stderr

@@ -5,38 +5,25 @@ Run it at the top of the repository. FUNCTION is the folder below proofs/, as st
 path comes first; .bN stands for N times .before.
 """
 import glob
-import os
 import re
 import shutil
 import subprocess
-import sys
+from usage import arguments, need_crate, stop
 
-
-def stop(why):
-    print(why, __doc__.split('\n')[0], sep='\n', file=sys.stderr)
-    sys.exit(2)
-
-
-args = sys.argv[1:]
-if args and args[0] in ('-h', '--help'):
-    print(__doc__, end='')
-    sys.exit()
+args = arguments(__doc__)
 if len(args) < 2:
-    stop('paths.py: it takes a crate and a function')
+    stop(__doc__, 'it takes a crate and a function')
 crate, function, only = args[0], args[1], args[2:]
-if not os.path.isdir('crates/' + crate):
-    stop('paths.py: there is no crates/%s here' % crate)
+need_crate(__doc__, crate)
 sources = glob.glob('crates/%s/src/**/*.rt' % crate, recursive=True)
 if not any(re.search(r'\bfn %s\b' % re.escape(function.split('/')[-1]), open(f).read()) for f in sources):
-    stop('paths.py: crates/%s has no function %s' % (crate, function))
-if not shutil.which('rt'):
-    stop('paths.py: rt is not on the PATH')
+    stop(__doc__, 'crates/%s has no function %s' % (crate, function))
 made = 'target/generated-%s' % crate
 shutil.rmtree(made, ignore_errors=True)
 subprocess.run(['rt', 'dev', crate, '--generated', made], capture_output=True, text=True)
 files = [f for f in glob.glob(made + '/**/Lts*.antt', recursive=True) if '/%s/' % function in f]
 if not files:
-    stop('paths.py: rt dev wrote nothing for %s; tools/goals.py %s says why' % (function, crate))
+    stop(__doc__, 'rt dev wrote nothing for %s; tools/goals.py %s says why' % (function, crate))
 lines = open(files[0]).read().split('\n')
 records, needs, current, indent = {}, [], None, 0
 for i, line in enumerate(lines):

@@ -2,16 +2,13 @@
 """usage: tools/prune.py FILE..    drops the names of `use M.{..}` lines that an antt file does not mention"""
 import os
 import re
-import sys
 
-paths = sys.argv[1:]
-if paths and paths[0] in ('-h', '--help'):
-    print(__doc__)
-    sys.exit()
+from usage import arguments, stop
+
+paths = arguments(__doc__)
 missing = [path for path in paths if not os.path.isfile(path)]
 if missing or not paths:
-    print('prune.py: there is no file %s' % missing[0] if missing else 'prune.py: it takes files', __doc__, sep='\n', file=sys.stderr)
-    sys.exit(2)
+    stop(__doc__, 'there is no file %s' % missing[0] if missing else 'it takes files')
 for path in paths:
     text = open(path).read()
     lines = text.split('\n')

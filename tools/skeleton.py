@@ -5,26 +5,13 @@ Run it at the top of the repository. The work lines of what is offered are left 
 """
 import os
 import re
-import shutil
 import subprocess
-import sys
+from usage import arguments, need_crate, stop
 
-
-def stop(why):
-    print(why, __doc__.split('\n')[0], sep='\n', file=sys.stderr)
-    sys.exit(2)
-
-
-args = sys.argv[1:]
-if args and args[0] in ('-h', '--help'):
-    print(__doc__, end='')
-    sys.exit()
+args = arguments(__doc__)
 if len(args) != 1:
-    stop('skeleton.py: it takes a crate')
-if not os.path.isdir('crates/' + args[0]):
-    stop('skeleton.py: there is no crates/%s here' % args[0])
-if not shutil.which('rt'):
-    stop('skeleton.py: rt is not on the PATH')
+    stop(__doc__, 'it takes a crate')
+need_crate(__doc__, args[0])
 ran = subprocess.run(['rt', 'dev', args[0]], capture_output=True, text=True, env=dict(os.environ, RT_CUT='0'))
 lines = (ran.stdout + ran.stderr).split('\n')
 i = 0
