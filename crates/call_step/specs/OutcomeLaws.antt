@@ -30,7 +30,7 @@ changed-open (Change.Put i r) t f = refl
 changed-open (Change.Take i r) t f = refl
 changed-open Change.Close t f = refl
 
--- check is given to a state in shape that is open, with a store of the right size
+-- a step reads only in a state in shape that is open, with a store of the right size
 pub check-read : (size : ℕ) (fits is-open : Bool) (bytes : ℕ) → checkedStep size fits is-open bytes ≡ StepCheck.Read → (size ≡ STORE) × (fits ≡ true) × (is-open ≡ true)
 unfolding checkedStep
 check-read size fits is-open bytes e =

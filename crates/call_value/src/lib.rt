@@ -10,7 +10,7 @@ use pairs::pair::Pair;
 ghost use mathlib.Core.Path.{_≡_};
 ghost use mathlib.Core.Option.{none, some};
 ghost use Rattle.connection.specs.Calls.{value, source, pairAtNumber};
-ghost use Rattle.connection.specs.RequestCalls.{isFaulted, onFound, FromStore, FromFallback};
+ghost use Rattle.connection.specs.RequestCalls.{onFound, FromStore, FromFallback};
 ghost use Rattle.pairs.specs.Pair.{valueOf};
 ghost use Rattle.pair_list.specs.List.{firstNamed};
 ghost use Rattle.call_list.specs.Part.{PartOrElse, valuePlace};

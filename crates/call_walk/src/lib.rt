@@ -121,6 +121,7 @@ pub enum ReadFrom {
     Refused(Refusal),
 }
 
+// What was read, as an answer that could also be a refusal.
 fn as_read(read: Read) -> ReadFrom
     ensures { λ r. ⌜ readBy r ≡ ReadIs read ⌝ }
 {

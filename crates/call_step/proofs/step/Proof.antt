@@ -23,7 +23,7 @@ in-shape-requires c κs = search needs
 check-step-requires : tie.Need-check-step-requires
 check-step-requires c κs = search needs
 
--- the check that was asked for, by the whole state
+-- what the check says, by the whole state
 check : (c : tie.After-check-step) → c .check-step .result ≡ checkedStep (length (c .before .before .before .before .before .before .before .before .before .args .store .now)) (inShape (c .before .before .before .before .before .before .before .before .before .args .c)) (c .before .before .before .before .before .before .before .before .before .args .c .«open») (length (c .before .before .before .before .before .before .before .before .before .args .piece .now))
 check c =
     let a = c .before .before .before .before .before .before .before .before .before .args in

@@ -1,4 +1,4 @@
--- `call_walk::read_on` meets its contract: the proof follows the function's statements. A walk that `walk_pairs` makes goes to `moved`, and what that makes to `next_pair`.
+-- `call_walk::read_on` meets its contract: the proof follows the function's statements. A walk that `walk_pairs` makes goes to `moved_to`, and what that makes to `next_pair`.
 -- All that is known of the three is that they meet their own contracts. The machine value of a walk is stored and passed on as it is; in a local the lifetime of its type is erased.
 use mathlib.Core.Path.{_≡_, refl, ap, _∙_}
 use Prim.Native.Nat.{ℕ, _<_, _^_}

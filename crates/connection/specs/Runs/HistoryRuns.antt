@@ -98,7 +98,7 @@ module _ (R : ℕ) where
       subst (λ c. Holds (memoryOf (stepOf m (b ∷ []))) (changed c (withByte R h b))) (event-seen R (stepOf m (b ∷ []) .event) (usedOf m (b ∷ [])))
       (holds-one m (StepOver (b ∷ [])) (ByteItem b) h (step-linked m (b ∷ []) (i .steady) all) (ap byteItems used) (all 0) i)
 
-  -- content with more content behind it tells nothing that changes anything
+  -- content with more content after it tells nothing that changes anything
   quiet-content : (target : Aim) (st : State) (store : List ℕ) (b : ℕ) (p : Position) → 0 < p .content → changeOf R (onTarget target st store (b ∷ []) p .event) ≡ Keeps
   unfolding ofBegin ofQuery ofRequest
   quiet-content Aim.Skip st store b p l = refl
