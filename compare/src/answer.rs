@@ -34,6 +34,7 @@ pub enum Fault {
     WrongType = 23,
     TooLong = 24,
     Malformed = 25,
+    Repeated = 26,
 }
 
 /// Why an opening is refused: the protocol statuses of END_REQUEST that are sent for it.

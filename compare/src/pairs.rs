@@ -88,6 +88,14 @@ pub fn well_formed(list: &[u8]) -> bool {
     pairs.place() == list.len()
 }
 
+/// Whether two pairs have the same name. Names in order have equal ones side by side; to look at each two of them would
+/// be slow, since 4,096 bytes have room for 1,088 names that all differ.
+pub fn repeats_a_name(list: &[u8]) -> bool {
+    let mut names: Vec<&[u8]> = Pairs::new(list).map(|pair| pair.name(list)).collect();
+    names.sort_unstable();
+    names.windows(2).any(|two| two[0] == two[1])
+}
+
 /// Writes a pair at the buffer's start, in the shortest form of its lengths, and answers the bytes written.
 pub fn write_pair(buffer: &mut [u8], name: &[u8], value: &[u8]) -> Result<usize, Refusal> {
     if name.len() > LONGEST || value.len() > LONGEST {

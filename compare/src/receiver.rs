@@ -1,7 +1,7 @@
 //! Start and step: the bytes of a connection, read one phase at a time.
 
 use crate::answer::{Close, Event, Fault, Named, Refusal, Role, Status, Step, Stream};
-use crate::pairs::{well_formed, Pairs};
+use crate::pairs::{repeats_a_name, well_formed, Pairs};
 use crate::state::{area, Connection, Life, Request, Target, Turn, AREA, BEGIN_BODY, QUERY, STORE};
 use crate::wire::{kind, Header, HEADER, KEEP_CONN, VERSION};
 
@@ -205,6 +205,9 @@ impl Connection {
         if !well_formed(&area[..length]) {
             return Err(Fault::Malformed);
         }
+        if repeats_a_name(&area[..length]) {
+            return Err(Fault::Repeated);
+        }
         request.turn = match request.role {
             Role::Responder | Role::Filter => Turn::Stdin,
             Role::Authorizer => Turn::Done,
@@ -266,7 +269,7 @@ impl Connection {
         Event::Open { id, role, keep }
     }
 
-    /// A query is whole. Values and other names don't matter.
+    /// A query is whole. Values, other names and names that come twice don't matter.
     fn answer_query(&mut self, store: &mut [u8]) -> Event {
         let length = self.gathered as usize;
         self.forget_body();

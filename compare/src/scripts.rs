@@ -5,6 +5,7 @@
 //! bytes are gathered, or makes the content a body's, pokes the bytes, the target and the content with it.
 
 mod calls;
+mod lists;
 mod odd;
 mod pokes;
 mod records;

@@ -22,7 +22,7 @@ impl Tally {
         }
         for call in ["step", "feed"] {
             wanted.extend((11..=14).map(|n| format!("{call}: closed {n}")));
-            wanted.extend((21..=25).map(|n| format!("{call}: fault {n}")));
+            wanted.extend((21..=26).map(|n| format!("{call}: fault {n}")));
             wanted.extend((0..8).map(|n| format!("{call}: query {n:03b}")));
             wanted.extend(
                 [

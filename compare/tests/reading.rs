@@ -3,7 +3,7 @@
 mod common;
 
 use common::{Station, DROP, KEEP, PORT};
-use compare::answer::{Output, Refusal, Source};
+use compare::answer::{Event, Output, Refusal, Source, Stream};
 use compare::state::{Connection, STORE};
 use compare::wire::kind::*;
 
@@ -25,7 +25,7 @@ fn values() {
     let mut station = Station::new();
     station.open(1, KEEP);
     let mut list = PORT.to_vec();
-    list.extend(b"\x01\x00A\x01\x03A123\x00\x02ok");
+    list.extend(b"\x01\x00A\x01\x03B123\x00\x02ok");
     station.send(PARAMS, 1, &list);
     let value = |station: &Station, name: &[u8]| {
         let Station { connection, store } = station;
@@ -38,8 +38,9 @@ fn values() {
     station.send(PARAMS, 1, &[]);
     let stored = |bytes: &[u8]| (Ok(Source::Store), bytes.to_vec());
     assert_eq!(value(&station, b"SERVER_PORT"), stored(b"80"));
-    // The first match, an empty value; an empty name is one like others.
+    // An empty value; an empty name is one like others.
     assert_eq!(value(&station, b"A"), stored(b""));
+    assert_eq!(value(&station, b"B"), stored(b"123"));
     assert_eq!(value(&station, b""), stored(b"ok"));
     let fallback = (Ok(Source::Fallback), b"none".to_vec());
     assert_eq!(value(&station, b"a"), fallback);
@@ -55,6 +56,31 @@ fn values() {
     station.open(1, KEEP);
     station.send(ABORT, 1, &[]);
     assert_eq!(value(&station, b"SERVER_PORT"), refused);
+}
+
+/// Only a caller that changes the store can bring about two matches: the first counts.
+#[test]
+fn the_first_match_in_a_damaged_list() {
+    let mut station = Station::new();
+    station.open(1, KEEP);
+    station.send(PARAMS, 1, b"\x01\x01A1\x01\x01B2\x01\x01C3");
+    station.send(PARAMS, 1, &[]);
+    let Station { connection, store } = &mut station;
+    store[6] = b'A';
+    store[10] = b'A';
+    assert_eq!(connection.value(store, 1, b"A", b"-"), b"1");
+    assert_eq!(connection.value(store, 1, b"B", b"-"), b"-");
+    // Pairs by number and walks still show all three.
+    let pair = connection.pair_at(store, 1, 2).unwrap();
+    assert_eq!(
+        (pair.name(&store[..12]), pair.value(&store[..12])),
+        (&b"A"[..], &b"3"[..])
+    );
+    assert_eq!(connection.walk(store, 1).unwrap().count(), 3);
+    // The next records do not look at the list again.
+    let end = connection.step(store, &[1, 5, 0, 1, 0, 0, 0, 0]).unwrap();
+    let stream = Stream::Stdin;
+    assert_eq!(end.event, Some(Event::End { id: 1, stream }));
 }
 
 #[test]

@@ -5,7 +5,7 @@ use compare::wire::{kind, Header};
 /// Content bytes of a STDIN record.
 pub const RECORD: usize = 8_192;
 
-fn record(bytes: &mut Vec<u8>, kind: u8, id: u16, content: &[u8]) {
+pub fn record(bytes: &mut Vec<u8>, kind: u8, id: u16, content: &[u8]) {
     let header = Header {
         version: 1,
         kind,

@@ -2,9 +2,11 @@
 //!
 //!     bench time ROUNDS FILE             times; FILE is written, and read again in pieces
 //!     bench count SYMBOL PIECE TOTAL     one receiver once, for callgrind; prints the number of steps
+//!     bench params SYMBOL LIST 0|1       one request's parameters once, 1: with the record that ends them
 //!     bench agree STREAMS                random connections: what is told, and the store that is left
 
 mod input;
+mod lists;
 mod receivers;
 mod timing;
 
@@ -26,13 +28,14 @@ fn main() -> ExitCode {
             (Ok(piece), Ok(total)) => count(symbol, piece, total),
             _ => false,
         },
+        ["params", symbol, list, ended] => params(symbol, list, ended == "1"),
         ["agree", streams] => streams.parse().is_ok_and(agree),
         _ => false,
     };
     if done {
         ExitCode::SUCCESS
     } else {
-        eprintln!("bench time ROUNDS FILE | bench count SYMBOL PIECE TOTAL | bench agree STREAMS");
+        eprintln!("bench time ROUNDS FILE | bench count SYMBOL PIECE TOTAL | bench params SYMBOL LIST 0|1 | bench agree STREAMS");
         ExitCode::FAILURE
     }
 }
@@ -44,6 +47,16 @@ fn count(symbol: &str, piece: usize, total: usize) -> bool {
     let bytes = input::input(total);
     let sum = (receiver.digest)(&mut vec![0; STORE], &bytes, piece);
     println!("{} {sum}", input::steps(&bytes, piece));
+    true
+}
+
+fn params(symbol: &str, list: &str, ended: bool) -> bool {
+    let receiver = RECEIVERS.iter().find(|r| r.symbol == symbol);
+    let (Some(receiver), Some(bytes)) = (receiver, lists::request(list, ended)) else {
+        return false;
+    };
+    let sum = (receiver.digest)(&mut vec![0; STORE], &bytes, bytes.len());
+    println!("{sum}");
     true
 }
 

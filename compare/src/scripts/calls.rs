@@ -1,6 +1,6 @@
 //! Calls anywhere, with any arguments; rooms at the edge of what is needed.
 
-use super::records::{any_name, append_pair};
+use super::lists::{any_name, append_pair};
 use super::Draft;
 use crate::answer::Event;
 use crate::console::words::hex;

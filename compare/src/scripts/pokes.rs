@@ -3,7 +3,8 @@
 use super::records::begin_body;
 use super::Draft;
 use crate::console::words::hex;
-use crate::state::{Connection, Life, Request, Turn, AREA, SLOTS};
+use crate::pairs::{Pair, Pairs};
+use crate::state::{area, Connection, Life, Request, Turn, AREA, SLOTS};
 
 impl Draft {
     /// An open connection with some requests, all of it in shape and between two records.
@@ -185,7 +186,7 @@ impl Draft {
     /// A slot's field, the reader's counts, or the target with all that belongs to it.
     fn poke_any(&mut self) {
         let slot = self.random.index(SLOTS);
-        match self.random.below(26) {
+        match self.random.below(28) {
             0 => {
                 let open = self.random.index(2);
                 self.line(format!("poke open {open}"));
@@ -208,14 +209,7 @@ impl Draft {
                 self.line(format!("poke length {slot} {length}"));
             }
             5 | 6 => self.poked_request(slot),
-            7..=9 => {
-                // A damaged list: its bytes, or its length.
-                let id = self.some_id();
-                let slot = self.console.connection.find(id).unwrap_or(slot);
-                let place = slot * AREA + self.random.index(24);
-                let value = self.random.pick(&[0, 1, 2, 3, 5, 127, 128, 255]);
-                self.line(format!("poke byte {place} {value}"));
-            }
+            7..=9 => self.poke_list(slot),
             10..=12 => {
                 let held = self.random.pick(&[0, 1, 3, 6, 7, 7, 8, 9, u64::MAX]);
                 let header = self.half_header();
@@ -233,7 +227,59 @@ impl Draft {
             }
             15..=17 => self.poke_begin(),
             18..=20 => self.poke_query(),
+            21 | 22 => self.poke_live(),
             _ => self.poke_due(slot),
+        }
+    }
+
+    /// A damaged list, mostly of an active request: any of its bytes, or a name that then comes twice.
+    fn poke_list(&mut self, slot: usize) {
+        let id = self.some_id();
+        let slot = self.console.connection.find(id).unwrap_or(slot);
+        if self.random.one_in(2) && self.poke_name_twice(slot) {
+            return;
+        }
+        let place = slot * AREA + self.random.index(24);
+        let value = self.random.pick(&[0, 1, 2, 3, 5, 127, 128, 255]);
+        self.line(format!("poke byte {place} {value}"));
+    }
+
+    /// A name becomes that of an earlier pair: after PARAMS has ended nothing else leads to a list with two matches.
+    /// Answers whether two names have the length for it.
+    pub(super) fn poke_name_twice(&mut self, slot: usize) -> bool {
+        let request = self.console.connection.slots[slot];
+        let length = usize::from(request.length).min(AREA);
+        let list = self.console.store[area(slot)][..length].to_vec();
+        let pairs: Vec<Pair> = Pairs::new(&list).collect();
+        let fits = |one: &Pair, two: &Pair| {
+            one.name_length == two.name_length && one.name_length < 12 && one.name_at < two.name_at
+        };
+        let found = pairs
+            .iter()
+            .find_map(|one| Some((one, pairs.iter().find(|two| fits(one, two))?)));
+        let Some((one, two)) = found else {
+            return false;
+        };
+        let name = one.name(&list);
+        for (i, byte) in name.iter().enumerate() {
+            let place = slot * AREA + two.name_at + i;
+            self.line(format!("poke byte {place} {byte}"));
+        }
+        self.line(format!("value {} {} -", request.id, hex(name)));
+        true
+    }
+
+    /// A request that is not spent any more shows what a fault or an abort left of it.
+    pub(super) fn poke_live(&mut self) {
+        let connection = &self.console.connection;
+        let spent: Vec<_> = (0..SLOTS)
+            .filter(|&slot| connection.taken(slot) && connection.slots[slot].spent())
+            .collect();
+        if !spent.is_empty() {
+            let slot = self.random.pick(&spent);
+            let id = self.console.connection.slots[slot].id;
+            self.line(format!("poke spent {slot} live"));
+            self.line(format!("walk {id}"));
         }
     }
 

@@ -1,8 +1,7 @@
-//! Records, lists and queries, well formed or damaged.
+//! Records, and what BEGIN and GET_VALUES have in them.
 
-use crate::pairs::{pair_length, write_pair};
+use super::lists::{any_value, append_long_pair, append_pair, damaged_list, filled_list};
 use crate::random::Random;
-use crate::state::AREA;
 use crate::wire::record_with;
 
 /// A record with random padding, whose bytes and reserved byte are anything.
@@ -37,125 +36,6 @@ pub fn begin_body(random: &mut Random) -> [u8; 8] {
         _ => 1,
     };
     body
-}
-
-pub fn append_pair(list: &mut Vec<u8>, name: &[u8], value: &[u8]) {
-    let mut buffer = vec![0; pair_length(name, value)];
-    write_pair(&mut buffer, name, value).expect("it has just the room");
-    list.extend(buffer);
-}
-
-/// A pair with one of its lengths in four bytes, or both, whatever they are.
-fn append_long_pair(random: &mut Random, list: &mut Vec<u8>, name: &[u8], value: &[u8]) {
-    let long = random.within(1, 3);
-    for (bit, part) in [(1, name), (2, value)] {
-        if part.len() < 128 && long & bit == 0 {
-            list.push(part.len() as u8);
-        } else {
-            list.extend((part.len() as u32 | 0x8000_0000).to_be_bytes());
-        }
-    }
-    list.extend(name);
-    list.extend(value);
-}
-
-/// Few names, so that one comes twice and one is the start of another.
-pub fn any_name(random: &mut Random) -> Vec<u8> {
-    match random.below(10) {
-        0 => Vec::new(),
-        1..=6 => random
-            .pick(&["A", "AB", "ABC", "a", "READING", "SERVER_PORT", "EMPTY"])
-            .into(),
-        7 => vec![b'n'; random.pick(&[126, 127, 128, 129])],
-        _ => {
-            let n = random.within(1, 12);
-            random.bytes(n)
-        }
-    }
-}
-
-fn any_value(random: &mut Random) -> Vec<u8> {
-    let n = match random.below(10) {
-        0 => 0,
-        1 => random.pick(&[126, 127, 128, 129, 200]),
-        _ => random.within(1, 12),
-    };
-    random.bytes(n)
-}
-
-/// Mostly in the shortest form of the lengths.
-pub fn few_pairs(random: &mut Random) -> Vec<u8> {
-    let mut list = Vec::new();
-    let long = random.one_in(4);
-    for _ in 0..random.below(6) {
-        let (name, value) = (any_name(random), any_value(random));
-        if long {
-            append_long_pair(random, &mut list, &name, &value);
-        } else {
-            append_pair(&mut list, &name, &value);
-        }
-    }
-    list
-}
-
-/// A well-formed list of just so many bytes, which are more than 300.
-pub fn filled_list(random: &mut Random, length: usize) -> Vec<u8> {
-    let mut list = few_pairs(random);
-    while list.len() + 300 > length {
-        list = few_pairs(random);
-    }
-    // The last pair fills up: a name of one byte, and its value's length in four.
-    let value = random.bytes(length - list.len() - 6);
-    append_pair(&mut list, b"Z", &value);
-    list
-}
-
-pub fn any_list(random: &mut Random) -> Vec<u8> {
-    match random.below(20) {
-        0 | 1 => Vec::new(),
-        2 => filled_list(random, AREA),
-        3 => filled_list(random, AREA + 1),
-        4 => {
-            let length = random.within(400, AREA);
-            filled_list(random, length)
-        }
-        5 | 6 => damaged_list(random),
-        _ => few_pairs(random),
-    }
-}
-
-/// Mostly malformed.
-pub fn damaged_list(random: &mut Random) -> Vec<u8> {
-    let mut list = few_pairs(random);
-    match random.below(6) {
-        // The last byte lacks, or one is too many.
-        0 => {
-            list.pop();
-        }
-        1 => list.push(random.byte()),
-        // The four-byte form of a small number, which is no damage.
-        2 => {
-            let n = random.byte() & 0x7f;
-            list.extend(if random.one_in(2) {
-                [0x80, 0, 0, n, 0]
-            } else {
-                [0, 0x80, 0, 0, n]
-            });
-            list.extend(random.bytes(n.into()));
-        }
-        // Two lengths whose sum passes 32 bits, or a cut length.
-        3 => list.extend([0xff, 0xff, 0xff, 0xff, 0xff, 0xff, 0xff, 0xff, 1, 2]),
-        4 => {
-            let n = random.within(1, 7);
-            let length = random.pick(&[0, 5, 0x7f, 0x80]);
-            list.extend(&[0x80, 0, 0, length, 0x80, 0, 0][..n]);
-        }
-        _ => {
-            let n = random.within(1, 30);
-            list.extend(random.bytes(n));
-        }
-    }
-    list
 }
 
 /// The content of a query, up to 513 bytes.

@@ -1,6 +1,7 @@
 //! What a web server sends: requests side by side, their records cut anywhere; and the same with damage.
 
-use super::records::{any_list, begin_body, damaged_list, query, record};
+use super::lists::{any_list, damaged_list};
+use super::records::{begin_body, query, record};
 use super::{stream, Draft};
 use crate::console::words::hex;
 use crate::state::{Life, Turn, AREA};
@@ -38,6 +39,9 @@ impl Draft {
             }
             if !self.silent && self.random.one_in(8) {
                 self.finish_some();
+            }
+            if damaged && !self.silent && self.random.one_in(6) {
+                self.change_some();
             }
         }
     }
@@ -251,6 +255,17 @@ impl Draft {
         let content = self.random.bytes(n);
         self.lists.insert(id, Vec::new());
         record(&mut self.random, kind::PARAMS, id, &content)
+    }
+
+    /// What no traffic can bring about: a name that comes twice after PARAMS has ended, a spent request that is live.
+    fn change_some(&mut self) {
+        let id = self.some_id();
+        match self.console.connection.find(id) {
+            Some(slot) if self.random.one_in(2) => {
+                self.poke_name_twice(slot);
+            }
+            _ => self.poke_live(),
+        }
     }
 
     fn finish_some(&mut self) {

@@ -47,7 +47,8 @@ fn value_in<'a>(list: &'a [u8], name: &[u8], fallback: &'a [u8]) -> &'a [u8]
 }
 
 // The value of the first pair with that name, as a part of the store; the fallback where there is none, and where
-// the call is refused (2, 9, 1, 3, 4).
+// the call is refused (2, 9, 1, 3, 4). In a run at most one pair has that name (theorem
+// `connection/Runs/OneMatch.value-one-match`).
 pub fn value<'a>(c: Conn, store: &'a [u8], id: u16, name: &[u8], fallback: &'a [u8]) -> &'a [u8]
     ensures { λ r. ⌜ (now r ≡ value c (now (store .entry)) id (now (name .entry)) (now (fallback .entry)))
         × PartOrElse (store .entry) (fallback .entry) r (valuePlace c (now (store .entry)) id (now (name .entry))) ⌝ }

@@ -58,6 +58,7 @@ pub fn fault_number(fault: Fault) -> u8
         Fault::WrongType => 23,
         Fault::TooLong => 24,
         Fault::Malformed => 25,
+        Fault::Repeated => 26,
     }
 }
 

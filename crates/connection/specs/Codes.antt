@@ -38,6 +38,7 @@ faultNumber Fault.OutOfTurn = 22
 faultNumber Fault.WrongType = 23
 faultNumber Fault.TooLong = 24
 faultNumber Fault.Malformed = 25
+faultNumber Fault.Repeated = 26
 
 abbrev pub closeNumber : Close → ℕ
 closeNumber Close.Version = 11

@@ -1,13 +1,14 @@
 -- The rules for one request. They see the request's record and its own area, and nothing else: no slot, no other
 -- request.
 use Prim.Native.Nat.{ℕ, _+_}
-use mathlib.Core.Bool.{Bool, true, false}
+use mathlib.Core.Bool.{Bool, true, false, not}
 use mathlib.Core.List.{List}
 use lib.ListN.{length, take}
 use Rattle.wire.specs.Test.{if_then_else_, _<?_, _≤?_, _=?_}
 use Rattle.wire.specs.Buffer.{copied, zeros}
 use Rattle.record.specs.Names.{BEGIN-REQUEST, ABORT-REQUEST, PARAMS, STDIN, DATA}
 use Rattle.pair_list.specs.List.{wellFormed}
+use Rattle.pair_repeats.specs.Repeats.{repeats}
 use Rattle.connection.specs.declared.request.Role.{Role}
 use Rattle.connection.specs.declared.request.Turn.{Turn}
 use Rattle.connection.specs.declared.request.Life.{Life}
@@ -96,9 +97,10 @@ unfoldable pub turned : Held → Turn → Event → Ruled
 turned h t e =
     ruled (record { request = withState (h .request) (withTurn (h .request .state) t); area = h .area }) Due.Skip e
 
--- What the end of PARAMS comes to: the number of a fault, or 0.
+-- What the end of PARAMS comes to: the number of a fault, or 0. A malformed list is fault 25; else one with two pairs of
+-- the same name is fault 26 (house rule).
 unfoldable pub paramsFault : List ℕ → ℕ
-paramsFault list = if wellFormed list then 0 else 25
+paramsFault list = if not (wellFormed list) then 25 else if repeats list then 26 else 0
 
 unfoldable pub paramsEnded : Held → Ruled
 paramsEnded h =

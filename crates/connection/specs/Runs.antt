@@ -26,6 +26,7 @@ pub mod DueLive
 pub mod SpentSilent
 pub mod HistoryOnMachine
 pub mod Freed
+pub mod OneMatch
 pub mod AfterClose
 pub mod StaysSpent
 pub mod RestSkipped

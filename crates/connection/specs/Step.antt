@@ -13,7 +13,7 @@ use Rattle.record_reader.specs.Position.{betweenRecords, afterHeader, advanced}
 use Rattle.record_reader.specs.declared.Position.{Position}
 use Rattle.record_reader.specs.declared.Phase.{Phase}
 use Rattle.record_reader.specs.declared.Advanced.{Advanced}
-use Rattle.pair_list.specs.List.{wellFormed, firstNamed}
+use Rattle.pair_list.specs.List.{wellFormed, isNamed, firstNamed}
 use Rattle.pair_list.specs.declared.Found.{Found}
 use Rattle.connection.specs.declared.request.Role.{Role}
 use Rattle.connection.specs.declared.request.Due.{Due}
@@ -105,10 +105,6 @@ MAX-REQS = 70 ∷ 67 ∷ 71 ∷ 73 ∷ 95 ∷ 77 ∷ 65 ∷ 88 ∷ 95 ∷ 82 ∷
 
 abbrev pub MPXS-CONNS : List ℕ
 MPXS-CONNS = 70 ∷ 67 ∷ 71 ∷ 73 ∷ 95 ∷ 77 ∷ 80 ∷ 88 ∷ 83 ∷ 95 ∷ 67 ∷ 79 ∷ 78 ∷ 78 ∷ 83 ∷ []
-
-abbrev pub isNamed : Found → Bool
-isNamed (Found.At p) = true
-isNamed Found.Nothing = false
 
 unfoldable pub names : List ℕ → List ℕ → Bool
 names list name = isNamed (firstNamed list name)

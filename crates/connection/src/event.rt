@@ -13,14 +13,15 @@ pub enum Status {
     UnknownRole,
 }
 
-// What a request did wrong, 21 to 25: a second BEGIN_REQUEST, a stream out of turn, a type that no request has, more
-// parameters than its area holds, a malformed list of parameters.
+// What a request did wrong, 21 to 26: a second BEGIN_REQUEST, a stream out of turn, a type that no request has, more
+// parameters than its area holds, a malformed list of parameters, a list in which a name comes twice.
 pub enum Fault {
     BeginAgain,
     OutOfTurn,
     WrongType,
     TooLong,
     Malformed,
+    Repeated,
 }
 
 // Why a connection closes, 11 to 14: a version other than 1, a BEGIN_REQUEST that has not 8 bytes, a query that is too

@@ -12,7 +12,9 @@ use Rattle.record.specs.Body.{beginBodyOf}
 use Rattle.record_reader.specs.Position.{advanced, inHeader}
 use Rattle.pairs.specs.Length.{fourAt, lengthAt}
 use Rattle.pairs.specs.Pair.{pairAt}
-use Rattle.pair_list.specs.List.{pairsIn, pairsFrom, endingOf, wellFormed}
+use Rattle.wire.specs.Compare.{sameBytes}
+use Rattle.pair_list.specs.List.{pairsIn, pairsFrom, endingOf, wellFormed, firstIn}
+use Rattle.pair_repeats.specs.Repeats.{repeatsIn, repeats}
 use Rattle.connection.specs.Request.{withTurn, withLife, faulted, turned, paramsFault, paramsEnded, onParams, onInput, onLive, onHeader, opened}
 use Rattle.connection.specs.Slots.{requestAt, areaAt, putRequest, putArea, takeSlot, holdsId, findFrom}
 use Rattle.connection.specs.Shape.{idFits, slotsFit, positionFits, inShape}
@@ -32,6 +34,19 @@ portCut = 0x0B ∷ 0x02 ∷ 83 ∷ 69 ∷ 82 ∷ 86 ∷ 69 ∷ 82 ∷ 95 ∷ 80 
 abbrev pub port : List ℕ
 port = portCut ++ (48 ∷ [])
 
+-- TEMP with the value -, then with none; TEMPS; a pair without name and value
+abbrev temp : List ℕ
+temp = 0x04 ∷ 0x01 ∷ 84 ∷ 69 ∷ 77 ∷ 80 ∷ 45 ∷ []
+
+abbrev tempAgain : List ℕ
+tempAgain = 0x04 ∷ 0x00 ∷ 84 ∷ 69 ∷ 77 ∷ 80 ∷ []
+
+abbrev temps : List ℕ
+temps = 0x05 ∷ 0x00 ∷ 84 ∷ 69 ∷ 77 ∷ 80 ∷ 83 ∷ []
+
+abbrev nameless : List ℕ
+nameless = 0x00 ∷ 0x00 ∷ []
+
 -- Lengths and pairs are read at the cursor 0; `Is n k`: the number n, and the cursor k after it.
 abbrev pub table : List Row
 table =
@@ -46,6 +61,12 @@ table =
     ∷ (pairAt port 0 gives Read.Pair (record { name = 2; «name_len» = 11; value = 13; «value_len» = 2 }) 15)
     ∷ (pairAt portCut 0 gives Read.Malformed 0)
     ∷ (wellFormed portCut gives false)
+    ∷ (paramsFault (temp ++ tempAgain) gives 26)
+    ∷ (paramsFault (temp ++ port ++ temps ++ tempAgain) gives 26)
+    ∷ (paramsFault (temp ++ temps) gives 0)
+    ∷ (paramsFault (nameless ++ temp ++ nameless) gives 26)
+    ∷ (paramsFault (nameless ++ temp) gives 0)
+    ∷ (paramsFault (temp ++ tempAgain ++ portCut) gives 25)
     ∷ (told 3 (begin 1 1 ++ empty PARAMS 1) gives Note.Told (Event.Open 1 1 true) ∷ Note.Told (Event.Ready 1 0) ∷ [])
     ∷ (lastOf (told 34 (begins 16 ++ begin 17 4)) gives Note.Told (Event.Refuse 17 3))
     ∷ (lastOf (told 34 (begins 16 ++ begin 17 1)) gives Note.Told (Event.Refuse 17 2))
@@ -53,5 +74,6 @@ table =
     ∷ []
 
 pub cases : Holds table
-unfolding number4 copied taken lowestFree withBit withSlot headerOf beginBodyOf advanced inHeader fourAt lengthAt pairAt pairsIn pairsFrom endingOf wellFormed withTurn withLife faulted turned paramsFault paramsEnded onParams onInput onLive onHeader opened requestAt areaAt putRequest putArea takeSlot holdsId findFrom idFits slotsFit positionFits inShape onInactive onActive judged opens begun ofBegin advances stepRefusal stepped started fed told lastOf begin empty begins
-cases = (refl, (refl, (refl, (refl, (refl, (refl, (refl, (refl, (refl, (refl, (refl, (refl, (refl, (refl, (refl, tt)))))))))))))))
+unfolding number4 copied taken lowestFree withBit withSlot headerOf beginBodyOf advanced inHeader fourAt lengthAt pairAt sameBytes firstIn pairsIn pairsFrom endingOf wellFormed repeatsIn repeats withTurn withLife faulted turned paramsFault paramsEnded onParams onInput onLive onHeader opened requestAt areaAt putRequest putArea takeSlot holdsId findFrom idFits slotsFit positionFits inShape onInactive onActive judged opens begun ofBegin advances stepRefusal stepped started fed told lastOf begin empty begins
+cases =
+    (refl, (refl, (refl, (refl, (refl, (refl, (refl, (refl, (refl, (refl, (refl, (refl, (refl, (refl, (refl, (refl, (refl, (refl, (refl, (refl, (refl, tt)))))))))))))))))))))

@@ -13,6 +13,7 @@ use Rattle.pairs.specs.Length.{fourAt, lengthAt}
 use Rattle.wire.specs.Compare.{sameBytes}
 use Rattle.pairs.specs.Pair.{pairAt}
 use Rattle.pair_list.specs.List.{pairsIn, pairsFrom, endingOf, wellFormed, firstIn, firstNamed}
+use Rattle.pair_repeats.specs.Repeats.{repeatsIn, repeats}
 use Rattle.record_writer.specs.Written.{paddingOf, recordBytes, chunksIn, chunks, streamBytes}
 use Rattle.machine.specs.Timeline.{byteItems}
 use Rattle.connection.specs.declared.request.Turn.{Turn}
@@ -57,6 +58,6 @@ pub record Premises : Type 0 where
   stops-early : seenOfOne (header 1 1 8 ∷ []) ≡ []
 
 pub premises : Premises
-unfolding copied taken lowestFree withBit withSlot withoutBit withoutSlot headerOf beginBodyOf headerBytes endBodyBytes advanced inHeader number4 fourAt lengthAt pairAt sameBytes pairsIn pairsFrom endingOf wellFormed firstIn firstNamed paddingOf recordBytes chunksIn chunks streamBytes flatten withTurn withLife faulted aborted turned paramsFault paramsEnded onParams onStdin onData onInput onLive onHeader grown opened Of.valueIn Of.writes Of.saidOn Of.sayIn Of.owesOut Of.owesErr Of.finishBytes Of.finishIn requestAt areaAt putRequest putArea takeSlot freeSlot holdsId findFrom idFits slotsFit positionFits inShape onInactive onActive judged opens begun ofBegin ofRequest advances stepRefusal stepped started showing C.lentRefusal C.callRefusal C.value C.say C.released C.finishes C.finish byteItems requestOf called memoryAfter seenIn itemsOf finalMemory allSeen timeline startOf seenOf closes
+unfolding copied taken lowestFree withBit withSlot withoutBit withoutSlot headerOf beginBodyOf headerBytes endBodyBytes advanced inHeader number4 fourAt lengthAt pairAt sameBytes pairsIn pairsFrom endingOf wellFormed repeatsIn repeats firstIn firstNamed paddingOf recordBytes chunksIn chunks streamBytes flatten withTurn withLife faulted aborted turned paramsFault paramsEnded onParams onStdin onData onInput onLive onHeader grown opened Of.valueIn Of.writes Of.saidOn Of.sayIn Of.owesOut Of.owesErr Of.finishBytes Of.finishIn requestAt areaAt putRequest putArea takeSlot freeSlot holdsId findFrom idFits slotsFit positionFits inShape onInactive onActive judged opens begun ofBegin ofRequest advances stepRefusal stepped started showing C.lentRefusal C.callRefusal C.value C.say C.released C.finishes C.finish byteItems requestOf called memoryAfter seenIn itemsOf finalMemory allSeen timeline startOf seenOf closes
 premises =
     record { closed-by-another = refl; not-alone = refl; cut-in-header = refl; refused-for-others = refl; opens-alone = refl; stops-early = refl }

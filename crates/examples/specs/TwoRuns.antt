@@ -18,6 +18,7 @@ use Rattle.pairs.specs.Length.{fourAt, lengthAt}
 use Rattle.wire.specs.Compare.{sameBytes}
 use Rattle.pairs.specs.Pair.{pairAt}
 use Rattle.pair_list.specs.List.{pairsIn, pairsFrom, endingOf, wellFormed, firstIn, firstNamed}
+use Rattle.pair_repeats.specs.Repeats.{repeatsIn, repeats}
 use Rattle.record_writer.specs.Written.{paddingOf, recordBytes, chunksIn, chunks, streamBytes}
 use Rattle.machine.specs.Timeline.{byteItems, itemBytes, headerId, headerContent, headerPadding, scanLeft, scanWhole, scanNext, isOwn, isOwnCall, purgeFrom, purge}
 use Rattle.connection.specs.declared.answer.Output.{Output}
@@ -155,25 +156,25 @@ pub observed-of-one : observed 1 A
     (some (one 4 Turn.Stdin true pairArea)) none
     ∷ Heard (Note.Told (Event.Open 1 1 true))
     ∷ []
-unfolding copied taken lowestFree withBit withSlot withoutBit withoutSlot headerOf beginBodyOf headerBytes endBodyBytes advanced inHeader number4 fourAt lengthAt pairAt sameBytes pairsIn pairsFrom endingOf wellFormed firstIn firstNamed paddingOf recordBytes chunksIn chunks streamBytes flatten withTurn withLife faulted aborted turned paramsFault paramsEnded onParams onStdin onData onInput onLive onHeader grown opened Of.valueIn Of.writes Of.saidOn Of.sayIn Of.owesOut Of.owesErr Of.finishBytes Of.finishIn requestAt areaAt putRequest putArea takeSlot freeSlot holdsId findFrom idFits slotsFit positionFits inShape onInactive onActive judged opens begun ofBegin ofRequest advances stepRefusal stepped started showing C.lentRefusal C.callRefusal C.value C.say C.released C.finishes C.finish byteItems requestOf called memoryAfter seenIn itemsOf finalMemory allSeen timeline startOf seenOf
+unfolding copied taken lowestFree withBit withSlot withoutBit withoutSlot headerOf beginBodyOf headerBytes endBodyBytes advanced inHeader number4 fourAt lengthAt pairAt sameBytes pairsIn pairsFrom endingOf wellFormed repeatsIn repeats firstIn firstNamed paddingOf recordBytes chunksIn chunks streamBytes flatten withTurn withLife faulted aborted turned paramsFault paramsEnded onParams onStdin onData onInput onLive onHeader grown opened Of.valueIn Of.writes Of.saidOn Of.sayIn Of.owesOut Of.owesErr Of.finishBytes Of.finishIn requestAt areaAt putRequest putArea takeSlot freeSlot holdsId findFrom idFits slotsFit positionFits inShape onInactive onActive judged opens begun ofBegin ofRequest advances stepRefusal stepped started showing C.lentRefusal C.callRefusal C.value C.say C.released C.finishes C.finish byteItems requestOf called memoryAfter seenIn itemsOf finalMemory allSeen timeline startOf seenOf
 observed-of-one = refl
 
 -- At the end it is active anew, with an area of zeros.
 pub one-at-the-end : requestOf 1 (ending A) ≡ some (one 0 Turn.Params false (zeros AREA))
-unfolding copied taken lowestFree withBit withSlot withoutBit withoutSlot headerOf beginBodyOf headerBytes endBodyBytes advanced inHeader number4 fourAt lengthAt pairAt sameBytes pairsIn pairsFrom endingOf wellFormed firstIn firstNamed paddingOf recordBytes chunksIn chunks streamBytes flatten withTurn withLife faulted aborted turned paramsFault paramsEnded onParams onStdin onData onInput onLive onHeader grown opened Of.valueIn Of.writes Of.saidOn Of.sayIn Of.owesOut Of.owesErr Of.finishBytes Of.finishIn requestAt areaAt putRequest putArea takeSlot freeSlot holdsId findFrom idFits slotsFit positionFits inShape onInactive onActive judged opens begun ofBegin ofRequest advances stepRefusal stepped started showing C.lentRefusal C.callRefusal C.value C.say C.released C.finishes C.finish byteItems requestOf called memoryAfter seenIn itemsOf finalMemory allSeen timeline startOf seenOf
+unfolding copied taken lowestFree withBit withSlot withoutBit withoutSlot headerOf beginBodyOf headerBytes endBodyBytes advanced inHeader number4 fourAt lengthAt pairAt sameBytes pairsIn pairsFrom endingOf wellFormed repeatsIn repeats firstIn firstNamed paddingOf recordBytes chunksIn chunks streamBytes flatten withTurn withLife faulted aborted turned paramsFault paramsEnded onParams onStdin onData onInput onLive onHeader grown opened Of.valueIn Of.writes Of.saidOn Of.sayIn Of.owesOut Of.owesErr Of.finishBytes Of.finishIn requestAt areaAt putRequest putArea takeSlot freeSlot holdsId findFrom idFits slotsFit positionFits inShape onInactive onActive judged opens begun ofBegin ofRequest advances stepRefusal stepped started showing C.lentRefusal C.callRefusal C.value C.say C.released C.finishes C.finish byteItems requestOf called memoryAfter seenIn itemsOf finalMemory allSeen timeline startOf seenOf
 one-at-the-end = refl
 
 -- ---- the premises
 ends-between : EndsBetweenRecords A
-unfolding copied taken lowestFree withBit withSlot withoutBit withoutSlot headerOf beginBodyOf headerBytes endBodyBytes advanced inHeader number4 fourAt lengthAt pairAt sameBytes pairsIn pairsFrom endingOf wellFormed firstIn firstNamed paddingOf recordBytes chunksIn chunks streamBytes flatten withTurn withLife faulted aborted turned paramsFault paramsEnded onParams onStdin onData onInput onLive onHeader grown opened Of.valueIn Of.writes Of.saidOn Of.sayIn Of.owesOut Of.owesErr Of.finishBytes Of.finishIn requestAt areaAt putRequest putArea takeSlot freeSlot holdsId findFrom idFits slotsFit positionFits inShape onInactive onActive judged opens begun ofBegin ofRequest advances stepRefusal stepped started showing C.lentRefusal C.callRefusal C.value C.say C.released C.finishes C.finish byteItems requestOf called memoryAfter seenIn itemsOf finalMemory allSeen timeline startOf seenOf
+unfolding copied taken lowestFree withBit withSlot withoutBit withoutSlot headerOf beginBodyOf headerBytes endBodyBytes advanced inHeader number4 fourAt lengthAt pairAt sameBytes pairsIn pairsFrom endingOf wellFormed repeatsIn repeats firstIn firstNamed paddingOf recordBytes chunksIn chunks streamBytes flatten withTurn withLife faulted aborted turned paramsFault paramsEnded onParams onStdin onData onInput onLive onHeader grown opened Of.valueIn Of.writes Of.saidOn Of.sayIn Of.owesOut Of.owesErr Of.finishBytes Of.finishIn requestAt areaAt putRequest putArea takeSlot freeSlot holdsId findFrom idFits slotsFit positionFits inShape onInactive onActive judged opens begun ofBegin ofRequest advances stepRefusal stepped started showing C.lentRefusal C.callRefusal C.value C.say C.released C.finishes C.finish byteItems requestOf called memoryAfter seenIn itemsOf finalMemory allSeen timeline startOf seenOf
 ends-between = between-whole A (record { is-open = refl; no-content = refl; no-padding = refl; no-header = refl })
 
 never-overloaded : refusedIn 1 (observedIn A) ≡ false
-unfolding refusedIn copied taken lowestFree withBit withSlot withoutBit withoutSlot headerOf beginBodyOf headerBytes endBodyBytes advanced inHeader number4 fourAt lengthAt pairAt sameBytes pairsIn pairsFrom endingOf wellFormed firstIn firstNamed paddingOf recordBytes chunksIn chunks streamBytes flatten withTurn withLife faulted aborted turned paramsFault paramsEnded onParams onStdin onData onInput onLive onHeader grown opened Of.valueIn Of.writes Of.saidOn Of.sayIn Of.owesOut Of.owesErr Of.finishBytes Of.finishIn requestAt areaAt putRequest putArea takeSlot freeSlot holdsId findFrom idFits slotsFit positionFits inShape onInactive onActive judged opens begun ofBegin ofRequest advances stepRefusal stepped started showing C.lentRefusal C.callRefusal C.value C.say C.released C.finishes C.finish byteItems requestOf called memoryAfter seenIn itemsOf finalMemory allSeen timeline startOf seenOf
+unfolding refusedIn copied taken lowestFree withBit withSlot withoutBit withoutSlot headerOf beginBodyOf headerBytes endBodyBytes advanced inHeader number4 fourAt lengthAt pairAt sameBytes pairsIn pairsFrom endingOf wellFormed repeatsIn repeats firstIn firstNamed paddingOf recordBytes chunksIn chunks streamBytes flatten withTurn withLife faulted aborted turned paramsFault paramsEnded onParams onStdin onData onInput onLive onHeader grown opened Of.valueIn Of.writes Of.saidOn Of.sayIn Of.owesOut Of.owesErr Of.finishBytes Of.finishIn requestAt areaAt putRequest putArea takeSlot freeSlot holdsId findFrom idFits slotsFit positionFits inShape onInactive onActive judged opens begun ofBegin ofRequest advances stepRefusal stepped started showing C.lentRefusal C.callRefusal C.value C.say C.released C.finishes C.finish byteItems requestOf called memoryAfter seenIn itemsOf finalMemory allSeen timeline startOf seenOf
 never-overloaded = refl
 
 alone-is-purged : timelineOf B ≡ purge 1 (timelineOf A)
-unfolding purgeFrom scanNext scanWhole scanLeft isOwn isOwnCall itemBytes headerId headerContent headerPadding copied taken lowestFree withBit withSlot withoutBit withoutSlot headerOf beginBodyOf headerBytes endBodyBytes advanced inHeader number4 fourAt lengthAt pairAt sameBytes pairsIn pairsFrom endingOf wellFormed firstIn firstNamed paddingOf recordBytes chunksIn chunks streamBytes flatten withTurn withLife faulted aborted turned paramsFault paramsEnded onParams onStdin onData onInput onLive onHeader grown opened Of.valueIn Of.writes Of.saidOn Of.sayIn Of.owesOut Of.owesErr Of.finishBytes Of.finishIn requestAt areaAt putRequest putArea takeSlot freeSlot holdsId findFrom idFits slotsFit positionFits inShape onInactive onActive judged opens begun ofBegin ofRequest advances stepRefusal stepped started showing C.lentRefusal C.callRefusal C.value C.say C.released C.finishes C.finish byteItems requestOf called memoryAfter seenIn itemsOf finalMemory allSeen timeline startOf seenOf
+unfolding purgeFrom scanNext scanWhole scanLeft isOwn isOwnCall itemBytes headerId headerContent headerPadding copied taken lowestFree withBit withSlot withoutBit withoutSlot headerOf beginBodyOf headerBytes endBodyBytes advanced inHeader number4 fourAt lengthAt pairAt sameBytes pairsIn pairsFrom endingOf wellFormed repeatsIn repeats firstIn firstNamed paddingOf recordBytes chunksIn chunks streamBytes flatten withTurn withLife faulted aborted turned paramsFault paramsEnded onParams onStdin onData onInput onLive onHeader grown opened Of.valueIn Of.writes Of.saidOn Of.sayIn Of.owesOut Of.owesErr Of.finishBytes Of.finishIn requestAt areaAt putRequest putArea takeSlot freeSlot holdsId findFrom idFits slotsFit positionFits inShape onInactive onActive judged opens begun ofBegin ofRequest advances stepRefusal stepped started showing C.lentRefusal C.callRefusal C.value C.say C.released C.finishes C.finish byteItems requestOf called memoryAfter seenIn itemsOf finalMemory allSeen timeline startOf seenOf
 alone-is-purged = refl
 
 -- So what is observed of 1 is the same in B.

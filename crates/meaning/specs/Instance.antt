@@ -9,6 +9,7 @@ use Rattle.record.specs.Header.{headerOf}
 use Rattle.record.specs.Body.{beginBodyOf}
 use Rattle.record.specs.Split.{frontLength, wholeFront, front, splitIn, split}
 use Rattle.pair_list.specs.List.{pairsIn, pairsFrom, endingOf, wellFormed}
+use Rattle.pair_repeats.specs.Repeats.{repeatsIn, repeats}
 use Rattle.connection.specs.Sizes.{QUERY, STORE}
 use Rattle.connection.specs.Event.{Event}
 use Rattle.connection.specs.Request.{withTurn, withLife, faulted, turned, paramsFault, paramsEnded, onParams, onStdin, onInput, onLive, onHeader, opened}
@@ -27,5 +28,5 @@ some =
 
 pub some-mean : means (started (zeros QUERY) (zeros STORE) .state) (started (zeros QUERY) (zeros STORE) .store) some .notes
     ≡ Note.Told (Event.Open 1 1 true) ∷ Note.Told (Event.Ready 1 0) ∷ Note.Shown 1 5 97 ∷ Note.Shown 1 5 98 ∷ Note.Shown 1 5 99 ∷ []
-unfolding copied taken lowestFree withBit withSlot headerOf beginBodyOf pairsIn pairsFrom endingOf wellFormed withTurn withLife faulted turned paramsFault paramsEnded onParams onStdin onInput onLive onHeader opened requestAt areaAt putRequest putArea takeSlot holdsId findFrom onInactive onActive judged opens begun ofBegin ofRequest started frontLength wholeFront front splitIn split contentMeans headerMeans restMeans recordsMean means showing
+unfolding copied taken lowestFree withBit withSlot headerOf beginBodyOf pairsIn pairsFrom endingOf wellFormed repeatsIn repeats withTurn withLife faulted turned paramsFault paramsEnded onParams onStdin onInput onLive onHeader opened requestAt areaAt putRequest putArea takeSlot holdsId findFrom onInactive onActive judged opens begun ofBegin ofRequest started frontLength wholeFront front splitIn split contentMeans headerMeans restMeans recordsMean means showing
 some-mean = refl

@@ -55,6 +55,11 @@ unfoldable pub numberIn : List Pair → ℕ → Found
 numberIn [] k = Found.Nothing
 numberIn (p ∷ ps) k = if k =? 0 then Found.At p else numberIn ps (k - 1)
 
+-- whether one was found
+abbrev pub isNamed : Found → Bool
+isNamed (Found.At p) = true
+isNamed Found.Nothing = false
+
 -- The same in a whole list: of a list that is malformed somewhere, the pairs before that place count.
 unfoldable pub firstNamed : List ℕ → List ℕ → Found
 unfolding pairsFrom firstIn
@@ -63,3 +68,8 @@ firstNamed s name = firstIn s name (pairsFrom s 0 .pairs)
 unfoldable pub pairNumber : List ℕ → ℕ → Found
 unfolding pairsFrom numberIn
 pairNumber s k = numberIn (pairsFrom s 0 .pairs) k
+
+-- The first pair with a name among those from a cursor on.
+unfoldable pub firstFrom : List ℕ → ℕ → List ℕ → Found
+unfolding pairsFrom firstIn
+firstFrom s at name = firstIn s name (pairsFrom s at .pairs)

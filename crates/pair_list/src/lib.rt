@@ -4,7 +4,7 @@ use pairs::pair::Read;
 use pairs::pair::read_pair;
 use wire::same;
 ghost use mathlib.Core.Path.{_≡_};
-ghost use Rattle.pair_list.specs.List.{endingOf, wellFormed, firstNamed, pairNumber};
+ghost use Rattle.pair_list.specs.List.{endingOf, wellFormed, firstFrom, firstNamed, pairNumber};
 
 // How a list ends: with its bytes used up, or before a pair that cannot be read, which starts at a place.
 pub enum Ending {
@@ -41,11 +41,11 @@ pub fn well_formed(list: &[u8]) -> bool
     }
 }
 
-// The first pair with that name.
-pub fn first_named(list: &[u8], name: &[u8]) -> Found
-    ensures { λ r. ⌜ r ≡ firstNamed (now (list .entry)) (now (name .entry)) ⌝ }
+// The first pair with that name, from a cursor on.
+pub fn first_from(list: &[u8], start: usize, name: &[u8]) -> Found
+    ensures { λ r. ⌜ r ≡ firstFrom (now (list .entry)) start (now (name .entry)) ⌝ }
 {
-    let mut at: usize = 0;
+    let mut at = start;
     while at < list.len() {
         let read = read_pair(list, at);
         let Read::Pair(p, next) = read else {
@@ -59,6 +59,13 @@ pub fn first_named(list: &[u8], name: &[u8]) -> Found
         at = next;
     }
     Found::Nothing
+}
+
+// The first pair with that name.
+pub fn first_named(list: &[u8], name: &[u8]) -> Found
+    ensures { λ r. ⌜ r ≡ firstNamed (now (list .entry)) (now (name .entry)) ⌝ }
+{
+    first_from(list, 0, name)
 }
 
 // The pair of number k, counted from 0.

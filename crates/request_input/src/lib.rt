@@ -8,6 +8,7 @@ use connection::request::Request;
 use connection::request::Turn;
 use connection::sizes::AREA;
 use pair_list::well_formed;
+use pair_repeats::list_repeats;
 use request_fault::Ruling;
 use request_fault::end_turn;
 use request_fault::fault;
@@ -16,24 +17,44 @@ use request_state::after_stdin;
 use wire::copy_into;
 use wire::least;
 ghost use mathlib.Core.Path.{_≡_};
-ghost use Rattle.connection.specs.Request.{listOf, paramsEnded, onParams, onStdin, onData, grown};
-ghost use Rattle.pair_list.specs.List.{wellFormed};
+ghost use Rattle.connection.specs.Request.{listOf, paramsFault, paramsEnded, onParams, onStdin, onData, grown};
 ghost use Rattle.request_fault.specs.Answer.{held, ruledBy};
+ghost use Rattle.request_input.specs.Answer.{endNumber};
 
-// The list of a request is well formed.
-fn list_well_formed(r: Request, area: &[u8]) -> bool
-    ensures { λ x. ⌜ x ≡ wellFormed (listOf (held r (now (area .entry)))) ⌝ }
+// What the end of PARAMS comes to.
+enum ParamsEnd {
+    Ready,
+    Fault(Fault),
+}
+
+// What it comes to for a list: a fault if the list is malformed, else a fault if it repeats a name, else ready.
+fn list_end(list: &[u8]) -> ParamsEnd
+    ensures { λ x. ⌜ endNumber x ≡ paramsFault (now (list .entry)) ⌝ }
+{
+    if !well_formed(list) {
+        return ParamsEnd::Fault(Fault::Malformed);
+    }
+    if list_repeats(list) {
+        return ParamsEnd::Fault(Fault::Repeated);
+    }
+    ParamsEnd::Ready
+}
+
+// The same for the list of a request.
+fn own_list_end(r: Request, area: &[u8]) -> ParamsEnd
+    ensures { λ x. ⌜ endNumber x ≡ paramsFault (listOf (held r (now (area .entry)))) ⌝ }
 {
     let z: usize = 0;
     let n = least(r.length as usize, area.len());
-    well_formed(&area[z..n])
+    list_end(&area[z..n])
 }
 
-// The end of PARAMS: the request is ready, or its list is malformed.
+// The end of PARAMS: the request is ready, or it has a fault.
 fn end_params(r: Request, area: &mut [u8]) -> Ruling
     ensures { λ x. ⌜ ruledBy x (now (area .exit)) ≡ paramsEnded (held r (now (area .entry))) ⌝ }
 {
-    if list_well_formed(r, area) {
+    let end = own_list_end(r, area);
+    let ParamsEnd::Fault(f) = end else {
         let m = r.state;
         let role = m.role;
         let t = after_params(role);
@@ -46,8 +67,8 @@ fn end_params(r: Request, area: &mut [u8]) -> Ruling
                 length: r.length,
             },
         );
-    }
-    fault(r, area, Fault::Malformed)
+    };
+    fault(r, area, f)
 }
 
 // PARAMS with n content bytes.

@@ -53,7 +53,8 @@ faultBack n =
     else if n =? 22 then Fault.OutOfTurn
     else if n =? 23 then Fault.WrongType
     else if n =? 24 then Fault.TooLong
-    else Fault.Malformed
+    else if n =? 25 then Fault.Malformed
+    else Fault.Repeated
 
 fault-back : (f : Fault) → faultBack (faultNumber f) ≡ f
 fault-back Fault.BeginAgain = refl
@@ -61,6 +62,7 @@ fault-back Fault.OutOfTurn = refl
 fault-back Fault.WrongType = refl
 fault-back Fault.TooLong = refl
 fault-back Fault.Malformed = refl
+fault-back Fault.Repeated = refl
 
 abbrev closeBack : ℕ → Close
 closeBack n =

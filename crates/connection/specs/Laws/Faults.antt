@@ -129,10 +129,10 @@ only-rules st store h i used sized full found r is skip fits q a same-request sa
     })
 
 fault-rule : (kind m : ℕ) (h : Held) (id n : ℕ) → onHeader kind m h .event ≡ Event.Fault id n
-    → (21 ≤ n) × (n ≤ 25) × (h .request .id ≡ id) × (onHeader kind m h ≡ faulted h n)
+    → (21 ≤ n) × (n ≤ 26) × (h .request .id ≡ id) × (onHeader kind m h ≡ faulted h n)
 unfolding faulted aborted turned
 fault-rule kind m h id n =
-    by-rule (λ (r : Ruled). r .event ≡ Event.Fault id n → (21 ≤ n) × (n ≤ 25) × (h .request .id ≡ id) × (r ≡ faulted h n)) h
+    by-rule (λ (r : Ruled). r .event ≡ Event.Fault id n → (21 ≤ n) × (n ≤ 26) × (h .request .id ≡ id) × (r ≡ faulted h n)) h
     (λ d e. let z : _≡_ {A = ℕ} 0 1 = cc in absurd (omega arith))
     (λ k low high e. let q : k ≡ n = cc in (omega arith, omega arith, cc, ap (faulted h) q))
     (λ e. let z : _≡_ {A = ℕ} 0 1 = cc in absurd (omega arith))
@@ -158,11 +158,11 @@ pub life-alone : (m : RequestState) (l : Life)
 unfolding withLife
 life-alone m l = (refl, refl, refl, refl, refl, refl, refl)
 
--- A fault of its own request alone: the number is one of 21 to 25, the request keeps its id and all marks but its
+-- A fault of its own request alone: the number is one of 21 to 26, the request keeps its id and all marks but its
 -- life, its length is 0 and its area zeros.
 abbrev pub FaultAlone : State → List ℕ → ℕ → ℕ → Stepped → Type 0
 FaultAlone st store id n s =
-    (i : ℕ) × (find (st .conn .table) id ≡ Slot.At i) × (21 ≤ n) × (n ≤ 25)
+    (i : ℕ) × (find (st .conn .table) id ≡ Slot.At i) × (21 ≤ n) × (n ≤ 26)
     × Only st store i (record { id = id; length = 0; state = withLife (requestAt (st .conn .table) i .state) Life.Faulted }) (zeros AREA) s
 
 -- Where a step tells a fault, it is one of its own request alone.

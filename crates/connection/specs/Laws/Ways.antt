@@ -15,6 +15,7 @@ use Rattle.record_reader.specs.Position.{inHeader, advanced}
 use Rattle.record_reader.specs.declared.Position.{Position}
 use Rattle.record_reader.specs.declared.Phase.{Phase}
 use Rattle.pair_list.specs.List.{wellFormed}
+use Rattle.pair_repeats.specs.Repeats.{repeats}
 use Rattle.connection.specs.declared.request.Role.{Role}
 use Rattle.connection.specs.declared.request.Turn.{Turn}
 use Rattle.connection.specs.declared.request.Due.{Due}
@@ -33,11 +34,14 @@ use Rattle.connection.specs.Step.{State, Left, dueTo, openWith, reads, c
 use Rattle.connection.specs.Laws.Progress.{Fits, admitted-fits}
 
 -- ---- what a header does to its request
-module _ (P : Ruled → Type 0) (h : Held) (waits : (d : Due) → P (ruled h d Event.None)) (faults : (n : ℕ) → 21 ≤ n → n ≤ 25 → P (faulted h n)) (aborts : P (aborted h))
+module _ (P : Ruled → Type 0) (h : Held) (waits : (d : Due) → P (ruled h d Event.None)) (faults : (n : ℕ) → 21 ≤ n → n ≤ 26 → P (faulted h n)) (aborts : P (aborted h))
     (readies : (t : Turn) → P (turned h t (Event.Ready (h .request .id) (h .request .length)))) (ends : (t : Turn) (s : ℕ) → P (turned h t (Event.End (h .request .id) s))) where
   rule-ended : P (paramsEnded h)
   unfolding paramsEnded paramsFault
-  rule-ended = byTest (wellFormed (listOf h)) (λ t. simp t (readies _)) (λ t. simp t (faults 25 (omega arith) (omega arith)))
+  rule-ended =
+      byTest (wellFormed (listOf h))
+      (λ t. byTest (repeats (listOf h)) (λ s. simp (t, s) (faults 26 (omega arith) (omega arith))) (λ s. simp (t, s) (readies _)))
+      (λ t. simp t (faults 25 (omega arith) (omega arith)))
 
   rule-params : (n : ℕ) → P (onParams n h)
   unfolding onParams
@@ -66,7 +70,7 @@ module _ (P : Ruled → Type 0) (h : Held) (waits : (d : Due) → P (ruled h d E
       (λ r. simp (t, s, i, r) (faults 22 (omega arith) (omega arith))))
       (λ i. simp (t, s, i) (faults 23 (omega arith) (omega arith)))))
 
-  -- What holds of a request left alone, of faults 21 to 25, of an abort and of a stream's end holds of what any
+  -- What holds of a request left alone, of faults 21 to 26, of an abort and of a stream's end holds of what any
   -- header does to it.
   pub by-rule : (kind n : ℕ) → P (onHeader kind n h)
   unfolding onHeader

@@ -17,6 +17,7 @@ use Rattle.pairs.specs.Length.{fourAt, lengthAt}
 use Rattle.wire.specs.Compare.{sameBytes}
 use Rattle.pairs.specs.Pair.{pairAt}
 use Rattle.pair_list.specs.List.{pairsIn, pairsFrom, endingOf, wellFormed, firstIn, firstNamed, numberIn, pairNumber}
+use Rattle.pair_repeats.specs.Repeats.{repeatsIn, repeats}
 use Rattle.record_writer.specs.Written.{paddingOf, recordBytes, chunksIn, chunks, streamBytes}
 use Rattle.machine.specs.Timeline.{byteItems}
 use Rattle.connection.specs.declared.answer.Output.{Output}
@@ -109,7 +110,7 @@ pub record SmallRuns : Type 0 where
   last-slot : Alike (fifteen ++ begin 1 ++ oneParam 1 7) (begin 1 ++ oneParam 1 7) (opened-one ∷ []) (one 1 Turn.Params (7 ∷ zeros (AREA - 1)))
 
 pub small-runs : SmallRuns
-unfolding names queryOf queried onManagement ofQuery copied taken lowestFree withBit withSlot withoutBit withoutSlot headerOf beginBodyOf headerBytes endBodyBytes advanced inHeader number4 fourAt lengthAt pairAt sameBytes pairsIn pairsFrom endingOf wellFormed firstIn firstNamed paddingOf recordBytes chunksIn chunks streamBytes flatten withTurn withLife faulted aborted turned paramsFault paramsEnded onParams onStdin onData onInput onLive onHeader grown opened Of.valueIn Of.writes Of.saidOn Of.sayIn Of.owesOut Of.owesErr Of.finishBytes Of.finishIn requestAt areaAt putRequest putArea takeSlot freeSlot holdsId findFrom idFits slotsFit positionFits inShape onInactive onActive judged opens begun ofBegin ofRequest advances stepRefusal stepped started showing C.lentRefusal C.callRefusal C.value C.pairAtNumber Of.pairIn pairNumber numberIn C.say C.released C.finishes C.finish byteItems requestOf called memoryAfter seenIn itemsOf finalMemory allSeen timeline startOf seenOf
+unfolding names queryOf queried onManagement ofQuery copied taken lowestFree withBit withSlot withoutBit withoutSlot headerOf beginBodyOf headerBytes endBodyBytes advanced inHeader number4 fourAt lengthAt pairAt sameBytes pairsIn pairsFrom endingOf wellFormed repeatsIn repeats firstIn firstNamed paddingOf recordBytes chunksIn chunks streamBytes flatten withTurn withLife faulted aborted turned paramsFault paramsEnded onParams onStdin onData onInput onLive onHeader grown opened Of.valueIn Of.writes Of.saidOn Of.sayIn Of.owesOut Of.owesErr Of.finishBytes Of.finishIn requestAt areaAt putRequest putArea takeSlot freeSlot holdsId findFrom idFits slotsFit positionFits inShape onInactive onActive judged opens begun ofBegin ofRequest advances stepRefusal stepped started showing C.lentRefusal C.callRefusal C.value C.pairAtNumber Of.pairIn pairNumber numberIn C.say C.released C.finishes C.finish byteItems requestOf called memoryAfter seenIn itemsOf finalMemory allSeen timeline startOf seenOf
 small-runs =
     record {
       rest-skipped = record { whole-seen = refl; whole-left = refl; alone-seen = refl; alone-left = refl };

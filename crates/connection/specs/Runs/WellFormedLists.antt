@@ -1,4 +1,4 @@
--- In a run the list of a request whose PARAMS have ended, and that is not faulted, is well formed.
+-- In a run the list of a request whose PARAMS have ended, and that is not faulted, is well formed and repeats no name.
 use mathlib.Core.Path.{_≡_, refl, ap, sym, _∙_, subst}
 use mathlib.Core.List.{List, [], _∷_}
 use mathlib.Core.Option.{Option}
@@ -11,6 +11,7 @@ use Rattle.wire.specs.Test.{if_then_else_, byTest}
 use Rattle.record.specs.Names.{BEGIN-REQUEST, ABORT-REQUEST, RESPONDER, AUTHORIZER, FILTER}
 use Rattle.record.specs.Body.{beginBodyOf}
 use Rattle.pair_list.specs.List.{wellFormed}
+use Rattle.pair_repeats.specs.Repeats.{repeats}
 use Rattle.machine.specs.Machine.{Decided, Stays, Leaves, Closes}
 use Rattle.machine.specs.Laws.{Laws, HeaderOutcomeOk, BeginOutcomeOk, CallOutcomeOk}
 use Rattle.machine.specs.Shape.{SlotOk, WellShaped}
@@ -40,9 +41,14 @@ use Rattle.connection.specs.Runs.LinkingStep.{loadedOf, open-loaded}
 use Rattle.connection.specs.Runs.LinkingRuns.{run-linked, start-loaded, start-steady}
 use Rattle.connection.specs.Runs.Hygiene.{timeline-ok}
 
--- PARAMS have ended and the request is not faulted: then its list is well formed
+-- what the end of PARAMS asks of a list
+pub record Good (list : List ℕ) : Type 0 where
+  pub formed : wellFormed list ≡ true
+  pub once : repeats list ≡ false
+
+-- PARAMS have ended and the request is not faulted: then its list is well formed, and no two pairs have the same name
 abbrev pub ListOk : Held → Type 0
-ListOk h = inParams (h .request .state .turn) ≡ false → isFaulted (h .request .state .life) ≡ false → wellFormed (listOf h) ≡ true
+ListOk h = inParams (h .request .state .turn) ≡ false → isFaulted (h .request .state .life) ≡ false → Good (listOf h)
 
 -- content comes for a request that is not spent; PARAMS content while PARAMS have not ended
 abbrev pub InTurn : Due → ℕ → Held → Type 0
@@ -64,22 +70,25 @@ not-faulted Life.Live e = refl
 not-faulted Life.Faulted e = true-false e
 not-faulted Life.Aborted e = refl
 
-well-formed : (list : List ℕ) → eqb (paramsFault list) 0 ≡ true → wellFormed list ≡ true
+good : (list : List ℕ) → eqb (paramsFault list) 0 ≡ true → Good list
 unfolding paramsFault
-well-formed list e = byTest (wellFormed list) (λ w. w) (λ w. true-false (sym (rw w at e)))
+good list e =
+    byTest (wellFormed list)
+    (λ w. byTest (repeats list) (λ r. true-false (sym (rw (w, r) at e))) (λ r. record { formed = w; once = r }))
+    (λ w. true-false (sym (rw w at e)))
 
 module _ (n : ℕ) (h : Held) where
   by-faulted : (k : ℕ) → Decides n (faulted h k)
   unfolding faulted withLife
   by-faulted k = record { list = λ t f. true-false f; due = tt }
 
-  by-turned : (t : Turn) (e : Event) → wellFormed (listOf h) ≡ true → Decides n (turned h t e)
+  by-turned : (t : Turn) (e : Event) → Good (listOf h) → Decides n (turned h t e)
   unfolding turned withTurn
   by-turned t e w = record { list = λ a b. w; due = tt }
 
   by-ended : Decides n (paramsEnded h)
   unfolding paramsEnded
-  by-ended = byTest (eqb (paramsFault (listOf h)) 0) (λ e. simp e (by-turned _ _ (well-formed (listOf h) e))) (λ e. simp e (by-faulted _))
+  by-ended = byTest (eqb (paramsFault (listOf h)) 0) (λ e. simp e (by-turned _ _ (good (listOf h) e))) (λ e. simp e (by-faulted _))
 
   by-params : inParams (h .request .state .turn) ≡ true → isSpent (h .request .state .life) ≡ false → Decides n (onParams n h)
   unfolding onParams
@@ -182,7 +191,7 @@ turn-end r output buffer = turn-writes _ _ _ r buffer (record { length = refl; t
 
 written-list : (h : Held) (w : Of.Writing) → ListOk h → SameTurn (h .request) (w .request) → CallOutcomeOk ListOk InTurn h (writtenAs h w)
 written-list h w ok s =
-    ((λ t f. ap (λ n. wellFormed (take n (h .area))) (s .length) ∙ ok (sym (ap inParams (s .turn)) ∙ t) (sym (ap isFaulted (s .life)) ∙ f)), due-same)
+    ((λ t f. subst (λ (n : ℕ). Good (take n (h .area))) (sym (s .length)) (ok (sym (ap inParams (s .turn)) ∙ t) (sym (ap isFaulted (s .life)) ∙ f))), due-same)
   where
     due-same : (due : Due) (n : ℕ) → InTurn due n h → InTurn due n (record { request = w .request; area = h .area })
     due-same Due.Skip n r = tt
@@ -213,7 +222,7 @@ call-list (ForSay output bytes buffer) h f = written-list h (Of.sayIn (h .reques
 call-list (ForEnd output buffer) h f = written-list h (Of.endIn (h .request) output buffer) f (turn-end (h .request) output buffer)
 call-list (ForFinish status buffer) h f = finished-list (h .request .state .keep) h (Of.finishIn (h .request) status buffer) f
 
--- The laws of shape, with lists well formed for shape.
+-- The laws of shape, with good lists for shape.
 abbrev pub list-laws : Laws receiver
 list-laws =
     record {

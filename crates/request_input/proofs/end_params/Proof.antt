@@ -1,10 +1,19 @@
-use Rattle.connection.specs.Request.{paramsEnded, paramsFault}
+use mathlib.Core.Path.{_≡_, _∙_, sym, ap}
+use Rattle.request_fault.specs.Answer.{held}
+use Rattle.request_input.specs.Answer.{endNumber}
+use Rattle.request_input.specs.Laws.{ends-ready, ends-in-fault}
 use borrow.Author.Needs.{needs}
 use Rattle.request_input.proofs.end_params.Statement.{statement}
 use Rattle.request_input.proofs.end_params.Tie as tie
 
-list-well-formed-requires : tie.Need-list-well-formed-requires
-list-well-formed-requires c κs = search needs
+own-list-end-requires : tie.Need-own-list-end-requires
+own-list-end-requires c κs = search needs
+
+enum-known-end : tie.Need-enum-known-end
+enum-known-end c = search needs
+
+enum-told : tie.Need-enum-told
+enum-told c = search needs
 
 after-params-requires : tie.Need-after-params-requires
 after-params-requires c κs = search needs
@@ -16,10 +25,14 @@ same-length : tie.Need-same-length
 same-length c = search needs
 
 returns : tie.Need-returns
-unfolding paramsEnded paramsFault
 returns c =
-    let w = c .before .before .before .before in
-    simp (c .before .before .end-turn .ensures, w .after-params .ensures, w .before .before .if1 .taken, ← w .before .before .before .list-well-formed .ensures)
+    let t = c .before .before .before .before in
+    let o = t .before .before in
+    let w = o .before .before in
+    let a = w .before .before .before .args in
+    let e = ap endNumber (o .enum-told .given .1) in
+    let r = ends-ready (held (a .r) (a .area .now)) (sym e ∙ w .own-list-end .ensures) in
+    simp (c .before .before .end-turn .ensures, t .after-params .ensures, r)
 
 fault-requires : tie.Need-fault-requires
 fault-requires c κs = search needs
@@ -28,16 +41,19 @@ same-length-2 : tie.Need-same-length-2
 same-length-2 c = search needs
 
 returns-2 : tie.Need-returns-2
-unfolding paramsEnded paramsFault
 returns-2 c =
-    let w = c .before .before .before .before in
-    simp (c .before .before .fault .ensures, w .if1 .left, ← w .before .list-well-formed .ensures)
+    let k = c .before .before .before .before .before in
+    let w = k .before .before in
+    let a = w .before .before .before .args in
+    c .before .before .fault .ensures ∙ sym (ends-in-fault (held (a .r) (a .area .now)) (k .end .given .0 .0) (sym (ap endNumber (k .end .given .1)) ∙ w .own-list-end .ensures))
 
 pub end-params-spec : {M : Type 1} → statement M
 end-params-spec =
     tie.close
     (tie.spec
-    list-well-formed-requires
+    own-list-end-requires
+    enum-known-end
+    enum-told
     after-params-requires
     end-turn-requires
     same-length

@@ -1,0 +1,4 @@
+pub mod Repeats
+pub mod Keys
+pub mod KeysLaws
+pub mod RepeatsLaws
