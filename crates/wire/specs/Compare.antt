@@ -1,10 +1,10 @@
 -- Names are compared byte by byte; their lengths must agree.
-use Prim.Native.Nat.{ℕ}
+use Prim.Native.Nat.{ℕ, suc}
 use mathlib.Core.Bool.{Bool, true, false}
 use mathlib.Core.List.{List, [], _∷_}
+use lib.ListN.{length}
 use Rattle.wire.specs.Test.{if_then_else_, _=?_}
 use Rattle.wire.specs.declared.Compared.{Compared}
-use Rattle.wire.specs.declared.Compared.the-variants.{Equal, Different}
 
 unfoldable pub sameBytes : List ℕ → List ℕ → Bool
 sameBytes [] [] = true
@@ -12,5 +12,12 @@ sameBytes [] (y ∷ ys) = false
 sameBytes (x ∷ xs) [] = false
 sameBytes (x ∷ xs) (y ∷ ys) = if x =? y then sameBytes xs ys else false
 
-unfoldable pub comparedBytes : List ℕ → List ℕ → Compared
-comparedBytes a b = if sameBytes a b then Equal else Different
+-- How many places are compared: all up to the first that differs, which counts.
+unfoldable pub placesUpTo : List ℕ → List ℕ → ℕ
+placesUpTo [] ys = 0
+placesUpTo (x ∷ xs) [] = 0
+placesUpTo (x ∷ xs) (y ∷ ys) = if x =? y then suc (placesUpTo xs ys) else 1
+
+-- What a comparison finds: equal or not, and the places compared. Where the lengths differ, none is.
+unfoldable pub compared : List ℕ → List ℕ → Compared
+compared a b = record { equal = sameBytes a b; places = if length a =? length b then placesUpTo a b else 0 }

@@ -4,7 +4,7 @@ ghost use Prim.Native.Nat.{_+_, _≤_, _<_, min};
 ghost use lib.ListN.{length};
 ghost use Rattle.wire.specs.Number.{number2, number4};
 ghost use Rattle.wire.specs.Buffer.{putAt, copied, zeros};
-ghost use Rattle.wire.specs.Compare.{sameBytes, comparedBytes};
+ghost use Rattle.wire.specs.Compare.{sameBytes, compared};
 
 // A number of two bytes as a wider one. (A cast of an array's element asks that the element fits; this asks nothing.)
 pub fn widen(n: u16) -> usize
@@ -69,35 +69,41 @@ pub fn least(a: usize, b: usize) -> usize
     if a < b { a } else { b }
 }
 
-// What a comparison finds.
-pub enum Compared {
-    Equal,
-    Different,
+// What a comparison finds: whether the names are equal, and how many places were compared.
+pub struct Compared {
+    pub equal: bool,
+    pub places: usize,
 }
 
 // Lengths first, then byte by byte up to the first that differs.
 pub fn compare(a: &[u8], b: &[u8]) -> Compared
-    ensures { λ r. ⌜ r ≡ comparedBytes (now (a .entry)) (now (b .entry)) ⌝ }
+    ensures { λ r. ⌜ r ≡ compared (now (a .entry)) (now (b .entry)) ⌝ }
 {
     if a.len() != b.len() {
-        return Compared::Different;
+        return Compared {
+            equal: false,
+            places: 0,
+        };
     }
     let mut i: usize = 0;
     while i < a.len() {
+        let n = i + 1;
         if a[i] != b[i] {
-            return Compared::Different;
+            return Compared {
+                equal: false,
+                places: n,
+            };
         }
-        i += 1;
+        i = n;
     }
-    Compared::Equal
+    Compared {
+        equal: true,
+        places: i,
+    }
 }
 
 pub fn same(a: &[u8], b: &[u8]) -> bool
     ensures { λ r. ⌜ r ≡ sameBytes (now (a .entry)) (now (b .entry)) ⌝ }
 {
-    let c = compare(a, b);
-    match c {
-        Compared::Equal => true,
-        Compared::Different => false,
-    }
+    compare(a, b).equal
 }
