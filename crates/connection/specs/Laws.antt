@@ -2,6 +2,7 @@
 pub mod SlotsLaws
 pub mod ShapeLaws
 pub mod TableShape
+pub mod Rules
 pub mod RequestShape
 pub mod PieceLaws
 pub mod StateShape

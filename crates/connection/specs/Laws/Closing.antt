@@ -16,7 +16,8 @@ use Rattle.connection.specs.Request.{Held, Ruled, faulted, aborted, turn
 use Rattle.connection.specs.Slots.{heldAt}
 use Rattle.connection.specs.Laws.ShapeLaws.{closed-in-shape}
 use Rattle.connection.specs.Step.{State, Left, closedConn, closes, onActive, ofRequest, Stepped, stays, leaves, stepRefusal, stepped}
-use Rattle.connection.specs.Laws.Ways.{nameless-not-final, by-rule, isFinal, isCause, Way, by-way}
+use Rattle.connection.specs.Laws.Ways.{nameless-not-final, isFinal, isCause, Way, by-way}
+use Rattle.connection.specs.Laws.Rules.{by-rule}
 
 -- an event that closes the connection
 abbrev pub isClosing : Event → Bool

@@ -25,9 +25,10 @@ use Rattle.connection.specs.Slots.{requestAt, areaAt, heldAt, find}
 use Rattle.connection.specs.Laws.SlotsLaws.{Sized, request-of-put, request-of-other, put-occupied, other-of-take, taken-of-take-other, area-length, area-of-put, area-of-other, find-at}
 use Rattle.connection.specs.Step.{State, Left, putsBack, closes, onActive, ofRequest, Stepped, leaves, stepped}
 use Rattle.connection.specs.Laws.Progress.{Fits}
-use Rattle.connection.specs.Laws.StepSizes.{content-area}
-use Rattle.connection.specs.Laws.Ways.{nameless-not-final, by-rule, isFinal, Way, concerned, by-way}
+use Rattle.connection.specs.Laws.StepSizes.{header-area, content-area}
+use Rattle.connection.specs.Laws.Ways.{nameless-not-final, isFinal, Way, concerned, by-way}
 use Rattle.connection.specs.Laws.Closing.{isClosing}
+use Rattle.connection.specs.Laws.Rules.{by-rule}
 
 -- ---- slots that a step is not about
 -- Slot j is as it was: its request, its area, and whether it is taken.
@@ -35,12 +36,6 @@ pub record Untouched (st : State) (store : List ℕ) (j : ℕ) (s : Stepped) : T
   pub request : requestAt (s .state .conn .table) j ≡ requestAt (st .conn .table) j
   pub area : areaAt (s .store) j ≡ areaAt store j
   pub is-taken : taken j (s .state .conn .table .occupied) ≡ taken j (st .conn .table .occupied)
-
--- an area keeps its length under the rules of its request
-ruled-area : (kind n : ℕ) (h : Held) → length (onHeader kind n h .held .area) ≡ length (h .area)
-unfolding faulted aborted turned
-ruled-area kind n h =
-    by-rule (λ (r : Ruled). length (r .held .area) ≡ length (h .area)) h (λ d. refl) (λ k low high. length-replicate (length (h .area)) 0) refl (λ t. refl) (λ t s. refl) kind n
 
 -- a request put back
 module _ (st : State) (store : List ℕ) (i : ℕ) (full : length store ≡ STORE) (low : i < SLOTS) (h : Held) (fits : length (h .area) ≡ AREA) where
@@ -68,7 +63,7 @@ step-other-slots st store piece j apart =
     go fits used _ (Way.Rules h i k e) o =
         let low = find-at (st .conn .table) (h .id) i e .low in
         let held = heldAt (st .conn .table) store i in
-        untouched-put st store i (fits .size) low (onHeader (h .kind) (h .content) held .held) (ruled-area (h .kind) (h .content) held ∙ area-length store i (fits .size) low) _ _ used j (other i k)
+        untouched-put st store i (fits .size) low (onHeader (h .kind) (h .content) held .held) (header-area (h .kind) (h .content) held ∙ area-length store i (fits .size) low) _ _ used j (other i k)
     go fits used _ (Way.Feeds due i bytes p k low aim some) o =
         let held = heldAt (st .conn .table) store i in
         untouched-put st store i (fits .size) low (onContent due bytes held .held) (content-area due bytes held ∙ area-length store i (fits .size) low) _ _ used j (other i k)

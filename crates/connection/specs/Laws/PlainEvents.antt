@@ -1,70 +1,35 @@
 -- The events of headers, of BEGIN bodies and of queries show no bytes: what they tell does not depend on the bytes
 -- they came with.
-use Prim.Native.Nat.{ℕ, _+_}
+use Prim.Native.Nat.{ℕ}
 use mathlib.Core.Path.{_≡_, refl}
 use mathlib.Core.List.{List, []}
 use lib.Dec.{ltb, eqb}
 use Rattle.wire.specs.Test.{byTest}
-use Rattle.record.specs.Names.{VERSION, BEGIN-REQUEST, ABORT-REQUEST, GET-VALUES, RESPONDER, AUTHORIZER, FILTER}
+use Rattle.record.specs.Names.{VERSION, BEGIN-REQUEST, GET-VALUES, RESPONDER, AUTHORIZER, FILTER}
 use Rattle.record.specs.declared.header.Header.{Header}
 use Rattle.record.specs.declared.body.BeginBody.{BeginBody}
 use Rattle.record_reader.specs.declared.Position.{Position}
 use Rattle.pair_list.specs.List.{wellFormed}
 use Rattle.connection.specs.declared.request.Role.{Role}
-use Rattle.connection.specs.declared.request.Turn.{Turn}
 use Rattle.connection.specs.declared.state.Slot.{Slot}
 use Rattle.connection.specs.declared.state.Frame.{Frame}
-use Rattle.connection.specs.Sizes.{SLOTS, AREA, QUERY}
+use Rattle.connection.specs.Sizes.{SLOTS, QUERY}
 use Rattle.connection.specs.Event.{Event}
-use Rattle.connection.specs.Request.{Held, listOf, isSpent, faulted, aborted, turned, paramsFault, paramsEnded, onParams, onStdin, onData, inTurn, isInput, turnType, onInput, onLive, onHeader}
+use Rattle.connection.specs.Request.{Held, Ruled, faulted, aborted, turned, onHeader}
 use Rattle.connection.specs.Slots.{heldAt, find, onSlot, freeSlotOf}
 use Rattle.connection.specs.Step.{State, closes, queryOf, queried, onManagement, onInactive, onActive, judged, opens, begun, ofBegin, ofQuery}
 use Rattle.connection.specs.Bytewise.{notes}
+use Rattle.connection.specs.Laws.Rules.{by-rule}
 
 -- an event that shows no bytes
 abbrev pub Plain : Event → Type 0
 Plain e = (x y : List ℕ) → notes e x ≡ notes e y
 
 -- ---- the rules of one request
-plain-faulted : (h : Held) (n : ℕ) → Plain (faulted h n .event)
-unfolding faulted
-plain-faulted h n x y = refl
-
-plain-ended : (h : Held) → Plain (paramsEnded h .event)
-unfolding paramsEnded turned
-plain-ended h x y =
-    byTest (eqb (paramsFault (listOf h)) 0) (λ t. simp t) (λ t. simp t (plain-faulted h (paramsFault (listOf h)) x y))
-
-plain-params : (n : ℕ) (h : Held) → Plain (onParams n h .event)
-unfolding onParams
-plain-params n h x y =
-    byTest (ltb AREA (h .request .length + n)) (λ t. simp t (plain-faulted h 24 x y))
-    (λ t. byTest (eqb n 0) (λ s. simp (t, s) (plain-ended h x y)) (λ s. simp (t, s)))
-
-plain-turn : (t : Turn) (n : ℕ) (h : Held) → Plain (inTurn t n h .event)
-unfolding onStdin onData turned
-plain-turn Turn.Params n h x y = plain-params n h x y
-plain-turn Turn.Stdin n h x y = byTest (eqb n 0) (λ s. simp s) (λ s. simp s)
-plain-turn Turn.Data n h x y = byTest (eqb n 0) (λ s. simp s) (λ s. simp s)
-plain-turn Turn.Done n h x y = plain-faulted h 22 x y
-
-plain-live : (kind n : ℕ) (h : Held) → Plain (onLive kind n h .event)
-unfolding onLive onInput aborted
-plain-live kind n h x y =
-    byTest (eqb kind BEGIN-REQUEST) (λ t. simp t (plain-faulted h 21 x y))
-    (λ t.
-    byTest (eqb kind ABORT-REQUEST) (λ s. simp (t, s))
-    (λ s.
-    byTest (isInput kind)
-    (λ i.
-    byTest (eqb kind (turnType (h .request .state .turn)))
-    (λ r. simp (t, s, i, r) (plain-turn (h .request .state .turn) n h x y))
-    (λ r. simp (t, s, i, r) (plain-faulted h 22 x y)))
-    (λ i. simp (t, s, i) (plain-faulted h 23 x y))))
-
 plain-header : (kind n : ℕ) (h : Held) → Plain (onHeader kind n h .event)
-unfolding onHeader
-plain-header kind n h x y = byTest (isSpent (h .request .state .life)) (λ t. simp t) (λ t. simp t (plain-live kind n h x y))
+unfolding faulted aborted turned
+plain-header kind n h =
+    by-rule (λ (r : Ruled). Plain (r .event)) h (λ d x y. refl) (λ k low high x y. refl) (λ x y. refl) (λ t x y. refl) (λ t s x y. refl) kind n
 
 -- ---- queries, headers, BEGIN bodies
 plain-queried : (st : State) (store list : List ℕ) (f : Frame) → Plain (queried st store list f .event)

@@ -11,7 +11,8 @@ use Rattle.connection.specs.Slots.{requestAt, heldAt, find}
 use Rattle.connection.specs.Step.{State, Left, closes, onActive, ofRequest, Stepped, stepped}
 use Rattle.connection.specs.Laws.SlotsLaws.{find-at}
 use Rattle.connection.specs.Laws.Progress.{Fits}
-use Rattle.connection.specs.Laws.Ways.{by-rule, Nameless, Way, concerned, by-way}
+use Rattle.connection.specs.Laws.Ways.{Nameless, Way, concerned, by-way}
+use Rattle.connection.specs.Laws.Rules.{by-rule}
 
 ready-rule : (kind m : ℕ) (h : Held) (id n : ℕ) → onHeader kind m h .event ≡ Event.Ready id n → (h .request .id ≡ id) × (h .request .length ≡ n)
 unfolding faulted aborted turned

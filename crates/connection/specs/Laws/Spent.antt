@@ -15,7 +15,8 @@ use Rattle.connection.specs.Run.{eventId}
 use Rattle.connection.specs.Laws.SlotsLaws.{find-at, only-slot}
 use Rattle.connection.specs.Laws.ShapeLaws.{InUse, Aimed, shaped}
 use Rattle.connection.specs.Laws.Progress.{Fits}
-use Rattle.connection.specs.Laws.Ways.{by-rule, Nameless, Way, concerned, by-way}
+use Rattle.connection.specs.Laws.Ways.{Nameless, Way, concerned, by-way}
+use Rattle.connection.specs.Laws.Rules.{by-rule}
 
 -- Of which request does an event speak that is none of an active request's?
 nameless-inactive : (t : Table) (e : Event) (R : ℕ) → 0 < R → Nameless t e → eventId e ≡ R → find t R ≡ Slot.Nowhere

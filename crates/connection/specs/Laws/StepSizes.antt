@@ -10,7 +10,7 @@ use borrow.Author.Tests.{leb-true, eqb-true, eqb-false, eq-eqb}
 use Rattle.wire.specs.Test.{byTest}
 use Rattle.wire.specs.Buffer.{copied, hasRoom}
 use Rattle.wire.specs.BufferLaws.{put-length}
-use Rattle.record.specs.Names.{VERSION, BEGIN-REQUEST, ABORT-REQUEST, GET-VALUES, RESPONDER, AUTHORIZER, FILTER}
+use Rattle.record.specs.Names.{VERSION, BEGIN-REQUEST, GET-VALUES, RESPONDER, AUTHORIZER, FILTER}
 use Rattle.record.specs.declared.header.Header.{Header}
 use Rattle.record.specs.declared.body.BeginBody.{BeginBody}
 use Rattle.record_reader.specs.Position.{advanced}
@@ -19,19 +19,19 @@ use Rattle.record_reader.specs.declared.Position.{Position}
 use Rattle.record_reader.specs.declared.Phase.{Phase}
 use Rattle.pair_list.specs.List.{wellFormed}
 use Rattle.connection.specs.declared.request.Role.{Role}
-use Rattle.connection.specs.declared.request.Turn.{Turn}
 use Rattle.connection.specs.declared.request.Due.{Due}
 use Rattle.connection.specs.declared.state.Slot.{Slot}
 use Rattle.connection.specs.declared.state.Target.{Target}
 use Rattle.connection.specs.declared.state.Frame.{Frame}
 use Rattle.connection.specs.Sizes.{SLOTS, AREA, STORE, QUERY}
 use Rattle.connection.specs.Event.{Event}
-use Rattle.connection.specs.Request.{Held, listOf, isSpent, faulted, aborted, turned, paramsFault, paramsEnded, onParams, onStdin, onData, inTurn, isInput, turnType, onInput, onLive, onHeader, grown, onContent}
+use Rattle.connection.specs.Request.{Held, Ruled, faulted, aborted, turned, onHeader, grown, onContent}
 use Rattle.connection.specs.Slots.{heldAt, find, onSlot, freeSlotOf}
 use Rattle.connection.specs.Laws.SlotsLaws.{Sized, put-sized, take-sized, area-length, put-area-length, find-at}
 use Rattle.connection.specs.Laws.ShapeLaws.{Aimed, shaped}
 use Rattle.connection.specs.Step.{State, Left, reads, closes, putsBack, queried, onManagement, onInactive, onActive, judged, opens, begun, ofBegin, ofQuery, ofRequest, onTarget, onPhase, advances, stepRefusal, stepped, started}
 use Rattle.connection.specs.Laws.Progress.{admitted-fits, step-advances, step-refused, step-nothing}
+use Rattle.connection.specs.Laws.Rules.{by-rule}
 
 -- The lengths that the code's types give, and the store's.
 pub record Sizes (st : State) (store : List ℕ) : Type 0 where
@@ -52,53 +52,10 @@ copied-length l at x =
     byTest (hasRoom l at (length x)) (λ t. simp t (put-length l at x (leb-true (at + length x) (length l) t))) (λ t. simp t)
 
 -- ---- an area keeps its length under the rules of its request
-turned-area : (h : Held) (t : Turn) (e : Event) → length (turned h t e .held .area) ≡ length (h .area)
-unfolding turned
-turned-area h t e = refl
-
-faulted-area : (h : Held) (n : ℕ) → length (faulted h n .held .area) ≡ length (h .area)
-unfolding faulted
-faulted-area h n = length-replicate (length (h .area)) 0
-
-aborted-area : (h : Held) → length (aborted h .held .area) ≡ length (h .area)
-unfolding aborted
-aborted-area h = refl
-
-ended-area : (h : Held) → length (paramsEnded h .held .area) ≡ length (h .area)
-unfolding paramsEnded
-ended-area h =
-    byTest (eqb (paramsFault (listOf h)) 0) (λ t. simp t (turned-area h _ _)) (λ t. simp t (faulted-area h _))
-
-params-area : (n : ℕ) (h : Held) → length (onParams n h .held .area) ≡ length (h .area)
-unfolding onParams
-params-area n h =
-    byTest (ltb AREA (h .request .length + n)) (λ t. simp t (faulted-area h 24))
-    (λ t. byTest (eqb n 0) (λ s. simp (t, s) (ended-area h)) (λ s. simp (t, s)))
-
-turn-area : (t : Turn) (n : ℕ) (h : Held) → length (inTurn t n h .held .area) ≡ length (h .area)
-unfolding onStdin onData
-turn-area Turn.Params n h = params-area n h
-turn-area Turn.Stdin n h = byTest (eqb n 0) (λ s. simp s (turned-area h _ _)) (λ s. simp s)
-turn-area Turn.Data n h = byTest (eqb n 0) (λ s. simp s (turned-area h _ _)) (λ s. simp s)
-turn-area Turn.Done n h = faulted-area h 22
-
-live-area : (kind n : ℕ) (h : Held) → length (onLive kind n h .held .area) ≡ length (h .area)
-unfolding onLive onInput
-live-area kind n h =
-    byTest (eqb kind BEGIN-REQUEST) (λ t. simp t (faulted-area h 21))
-    (λ t.
-    byTest (eqb kind ABORT-REQUEST) (λ s. simp (t, s) (aborted-area h))
-    (λ s.
-    byTest (isInput kind)
-    (λ i.
-    byTest (eqb kind (turnType (h .request .state .turn)))
-    (λ r. simp (t, s, i, r) (turn-area (h .request .state .turn) n h))
-    (λ r. simp (t, s, i, r) (faulted-area h 22)))
-    (λ i. simp (t, s, i) (faulted-area h 23))))
-
-header-area : (kind n : ℕ) (h : Held) → length (onHeader kind n h .held .area) ≡ length (h .area)
-unfolding onHeader
-header-area kind n h = byTest (isSpent (h .request .state .life)) (λ t. simp t) (λ t. simp t (live-area kind n h))
+pub header-area : (kind n : ℕ) (h : Held) → length (onHeader kind n h .held .area) ≡ length (h .area)
+unfolding faulted aborted turned
+header-area kind n h =
+    by-rule (λ (r : Ruled). length (r .held .area) ≡ length (h .area)) h (λ d. refl) (λ k low high. length-replicate (length (h .area)) 0) refl (λ t. refl) (λ t s. refl) kind n
 
 -- content: grown or as it was
 pub content-area : (due : Due) (x : List ℕ) (h : Held) → length (onContent due x h .held .area) ≡ length (h .area)

@@ -1,6 +1,6 @@
 -- How a step can end, case by case: one list of ways for all that is proved of every step.
 use mathlib.Core.Path.{_≡_, refl}
-use Prim.Native.Nat.{ℕ, _+_, _-_, _≤_, _<_, min}
+use Prim.Native.Nat.{ℕ, _+_, _-_, _<_, min}
 use mathlib.Core.Bool.{Bool, true, false}
 use mathlib.Core.List.{List, []}
 use native.Mathlib.Omega.{arith}
@@ -8,73 +8,28 @@ use lib.ListN.{length, take}
 use lib.Dec.{ltb, leb, eqb}
 use borrow.Author.Tests.{ltb-true, eqb-true}
 use Rattle.wire.specs.Test.{if_then_else_, byTest, _=?_}
-use Rattle.record.specs.Names.{VERSION, BEGIN-REQUEST, ABORT-REQUEST, GET-VALUES, RESPONDER, AUTHORIZER, FILTER, STDIN, DATA}
+use Rattle.record.specs.Names.{VERSION, BEGIN-REQUEST, GET-VALUES, RESPONDER, AUTHORIZER, FILTER}
 use Rattle.record.specs.declared.header.Header.{Header}
 use Rattle.record.specs.declared.body.BeginBody.{BeginBody}
 use Rattle.record_reader.specs.Position.{inHeader, advanced}
 use Rattle.record_reader.specs.declared.Position.{Position}
 use Rattle.record_reader.specs.declared.Phase.{Phase}
 use Rattle.pair_list.specs.List.{wellFormed}
-use Rattle.pair_repeats.specs.Repeats.{repeats}
 use Rattle.connection.specs.declared.request.Role.{Role}
-use Rattle.connection.specs.declared.request.Turn.{Turn}
 use Rattle.connection.specs.declared.request.Due.{Due}
 use Rattle.connection.specs.declared.state.Table.{Table}
 use Rattle.connection.specs.declared.state.Slot.{Slot}
 use Rattle.connection.specs.declared.state.Target.{Target}
 use Rattle.connection.specs.declared.state.Frame.{Frame}
 use Rattle.connection.specs.declared.state.Conn.{Conn}
-use Rattle.connection.specs.Sizes.{SLOTS, AREA, QUERY}
+use Rattle.connection.specs.Sizes.{SLOTS, QUERY}
 use Rattle.connection.specs.Event.{Event}
 use Rattle.connection.specs.Codes.{roleNumber}
-use Rattle.connection.specs.Request.{Held, Ruled, ruled, listOf, isSpent, faulted, aborted, turned, paramsFault, paramsEnded, onParams, onStdin, onData, inTurn, isInput, turnType, onInput, onLive, onHeader, opened}
+use Rattle.connection.specs.Request.{opened}
 use Rattle.connection.specs.Slots.{takeSlot, freeSlotOf, find, onSlot}
 use Rattle.connection.specs.Laws.ShapeLaws.{Aimed, shaped}
 use Rattle.connection.specs.Step.{State, Left, dueTo, openWith, reads, closes, queryOf, queried, onManagement, onInactive, onActive, judged, opens, begun, ofBegin, ofQuery, ofRequest, onTarget, onPhase, Stepped, stays, leaves, advances, stepRefusal, stepped}
 use Rattle.connection.specs.Laws.Progress.{Fits, admitted-fits}
-
--- ---- what a header does to its request
-module _ (P : Ruled → Type 0) (h : Held) (waits : (d : Due) → P (ruled h d Event.None)) (faults : (n : ℕ) → 21 ≤ n → n ≤ 26 → P (faulted h n)) (aborts : P (aborted h))
-    (readies : (t : Turn) → P (turned h t (Event.Ready (h .request .id) (h .request .length)))) (ends : (t : Turn) (s : ℕ) → P (turned h t (Event.End (h .request .id) s))) where
-  rule-ended : P (paramsEnded h)
-  unfolding paramsEnded paramsFault
-  rule-ended =
-      byTest (wellFormed (listOf h))
-      (λ t. byTest (repeats (listOf h)) (λ s. simp (t, s) (faults 26 (omega arith) (omega arith))) (λ s. simp (t, s) (readies _)))
-      (λ t. simp t (faults 25 (omega arith) (omega arith)))
-
-  rule-params : (n : ℕ) → P (onParams n h)
-  unfolding onParams
-  rule-params n =
-      byTest (ltb AREA (h .request .length + n)) (λ t. simp t (faults 24 (omega arith) (omega arith)))
-      (λ t. byTest (eqb n 0) (λ s. simp (t, s) rule-ended) (λ s. simp (t, s) (waits Due.Params)))
-
-  rule-turn : (t : Turn) (n : ℕ) → P (inTurn t n h)
-  unfolding onStdin onData
-  rule-turn Turn.Params n = rule-params n
-  rule-turn Turn.Stdin n = byTest (eqb n 0) (λ s. simp s (ends _ STDIN)) (λ s. simp s (waits Due.Stdin))
-  rule-turn Turn.Data n = byTest (eqb n 0) (λ s. simp s (ends _ DATA)) (λ s. simp s (waits Due.Data))
-  rule-turn Turn.Done n = faults 22 (omega arith) (omega arith)
-
-  rule-live : (kind n : ℕ) → P (onLive kind n h)
-  unfolding onLive onInput
-  rule-live kind n =
-      byTest (eqb kind BEGIN-REQUEST) (λ t. simp t (faults 21 (omega arith) (omega arith)))
-      (λ t.
-      byTest (eqb kind ABORT-REQUEST) (λ s. simp (t, s) aborts)
-      (λ s.
-      byTest (isInput kind)
-      (λ i.
-      byTest (eqb kind (turnType (h .request .state .turn)))
-      (λ r. simp (t, s, i, r) (rule-turn (h .request .state .turn) n))
-      (λ r. simp (t, s, i, r) (faults 22 (omega arith) (omega arith))))
-      (λ i. simp (t, s, i) (faults 23 (omega arith) (omega arith)))))
-
-  -- What holds of a request left alone, of faults 21 to 26, of an abort and of a stream's end holds of what any
-  -- header does to it.
-  pub by-rule : (kind n : ℕ) → P (onHeader kind n h)
-  unfolding onHeader
-  by-rule kind n = byTest (isSpent (h .request .state .life)) (λ t. simp t (waits Due.Skip)) (λ t. simp t (rule-live kind n))
 
 -- ---- the ways
 -- an event that ends a connection or spends a request: a close, a fault, an abort

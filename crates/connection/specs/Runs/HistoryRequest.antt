@@ -7,75 +7,36 @@ use Prim.Native.Nat.{ℕ, _+_, _≤_, _<_}
 use native.Mathlib.Omega.{arith}
 use lib.ListN.{length, take, drop, length-append, length-take}
 use lib.Seq.{take-at}
-use lib.Dec.{eqb, ltb, leb}
+use lib.Dec.{eqb, leb}
 use Rattle.wire.specs.Test.{if_then_else_, byTest}
 use Rattle.wire.specs.BufferLaws.{copied-room}
-use Rattle.record.specs.Names.{BEGIN-REQUEST, ABORT-REQUEST, RESPONDER, AUTHORIZER, FILTER, PARAMS}
+use Rattle.record.specs.Names.{RESPONDER, AUTHORIZER, FILTER, PARAMS}
 use Rattle.record.specs.Body.{beginBodyOf}
 use Rattle.machine.specs.Machine.{BeginOutcome, Declined, Accepted, CallOutcome, Stays, Leaves, Closes, Skip}
-use Rattle.connection.specs.declared.request.Turn.{Turn}
 use Rattle.connection.specs.declared.request.Due.{Due}
 use Rattle.connection.specs.declared.request.Role.{Role}
 use Rattle.connection.specs.Sizes.{AREA}
-use Rattle.connection.specs.Event.{Event}
-use Rattle.connection.specs.Request.{Held, Ruled, listOf, isSpent, isInput, turnType, faulted, aborted, turned, paramsFault, paramsEnded, onParams, onStdin, onData, inTurn, onInput, onLive, onHeader, grown, opened, withLife, withTurn, afterParams, afterStdin}
+use Rattle.connection.specs.Request.{Held, Ruled, listOf, isSpent, faulted, aborted, turned, onHeader, grown, opened, withLife, withTurn, afterParams, afterStdin}
 use Rattle.connection.specs.RequestCalls as Of
 use Rattle.connection.specs.Laws.CuttingContent.{grown-room}
 use Rattle.connection.specs.Bytewise.{Note}
-use borrow.Author.Tests.{eqb-true, eq-eqb}
+use borrow.Author.Tests.{eq-eqb}
 use Rattle.connection.specs.declared.request.Request.{Request}
 use Rattle.connection.specs.RequestCalls.{inParams}
 use Rattle.connection.specs.Arguments.{Argument, ForValue, ForSource, ForPair, ForWalk, ForSay, ForEnd, ForFinish, Answer, FinishedWith, refused}
 use Rattle.connection.specs.Runs.Receiver.{beginAs, receiveBegin, finishedAs, receiveCall}
 use Rattle.connection.specs.Runs.ReceiverLaws.{say-same, end-same}
 use Rattle.connection.specs.Runs.HistoryOnMachine.{opensOrFaults, tellsAnew, isFinish, isClose, takesAfter, takesTold}
+use Rattle.connection.specs.Laws.Rules.{Rule, header-rule, by-rule}
 
 -- ---- its list
 -- a header leaves the list, or empties it and tells so
 abbrev pub KeepsList : Held → Ruled → Type 0
 KeepsList h r = listOf (r .held) ≡ (if opensOrFaults (r .event) then [] else listOf h)
 
-module _ (n : ℕ) (h : Held) where
-  list-faulted : (k : ℕ) → KeepsList h (faulted h k)
-  unfolding faulted
-  list-faulted k = refl
-
-  list-turned : (t : Turn) (e : Event) → opensOrFaults e ≡ false → KeepsList h (turned h t e)
-  unfolding turned
-  list-turned t e f = rw f
-
-  list-ended : KeepsList h (paramsEnded h)
-  unfolding paramsEnded
-  list-ended = byTest (eqb (paramsFault (listOf h)) 0) (λ e. simp e (list-turned _ _ refl)) (λ e. simp e (list-faulted _))
-
-  list-params : KeepsList h (onParams n h)
-  unfolding onParams
-  list-params =
-      byTest (ltb AREA (h .request .length + n))
-      (λ e. simp e (list-faulted 24))
-      (λ e. byTest (eqb n 0) (λ z. simp (e, z) list-ended) (λ z. simp (e, z) refl))
-
-  list-turn : (t : Turn) → KeepsList h (inTurn t n h)
-  unfolding onStdin onData
-  list-turn Turn.Params = list-params
-  list-turn Turn.Stdin = byTest (eqb n 0) (λ z. simp z (list-turned _ _ refl)) (λ z. simp z refl)
-  list-turn Turn.Data = byTest (eqb n 0) (λ z. simp z (list-turned _ _ refl)) (λ z. simp z refl)
-  list-turn Turn.Done = list-faulted 22
-
-  list-live : (kind : ℕ) → KeepsList h (onLive kind n h)
-  unfolding onLive onInput aborted
-  list-live kind =
-      byTest (eqb kind BEGIN-REQUEST)
-      (λ a. simp a (list-faulted 21))
-      (λ a. byTest (eqb kind ABORT-REQUEST)
-      (λ b. simp (a, b) refl)
-      (λ b. byTest (isInput kind)
-      (λ i. byTest (eqb kind (turnType (h .request .state .turn))) (λ e. simp (a, b, i, e) (list-turn (h .request .state .turn))) (λ e. simp (a, b, i, e) (list-faulted 22)))
-      (λ i. simp (a, b, i) (list-faulted 23))))
-
-  pub list-header : (kind : ℕ) → KeepsList h (onHeader kind n h)
-  unfolding onHeader
-  list-header kind = byTest (isSpent (h .request .state .life)) (λ e. simp e refl) (λ e. simp e (list-live kind))
+pub list-header : (n : ℕ) (h : Held) (kind : ℕ) → KeepsList h (onHeader kind n h)
+unfolding faulted aborted turned
+list-header n h kind = by-rule (KeepsList h) h (λ d. refl) (λ k low high. refl) refl (λ t. refl) (λ t s. refl) kind n
 
 -- PARAMS content is added to the list
 pub list-grown : (h : Held) (b : ℕ) → h .request .length + 1 ≤ AREA → length (h .area) ≡ AREA → listOf (grown h (b ∷ [])) ≡ listOf h ++ b ∷ []
@@ -165,67 +126,30 @@ pub off : (b : Bool) → false ≡ (if b then false else false)
 off true = refl
 off false = refl
 
-module _ (kind n : ℕ) (h : Held) where
-  takes-faulted : (k : ℕ) → TakesBy h kind n (faulted h k)
-  unfolding faulted withLife
-  takes-faulted k = record { told = refl; due = λ z. off (eqb kind PARAMS) }
+past-params : (t : Role) → inParams (afterParams t) ≡ false
+past-params Role.Responder = refl
+past-params Role.Authorizer = refl
+past-params Role.Filter = refl
 
-  module _ (live : isSpent (h .request .state .life) ≡ false) where
-    past-params : (t : Role) → inParams (afterParams t) ≡ false
-    past-params Role.Responder = refl
-    past-params Role.Authorizer = refl
-    past-params Role.Filter = refl
+past-stdin : (t : Role) → inParams (afterStdin t) ≡ false
+past-stdin Role.Responder = refl
+past-stdin Role.Authorizer = refl
+past-stdin Role.Filter = refl
 
-    past-stdin : (t : Role) → inParams (afterStdin t) ≡ false
-    past-stdin Role.Responder = refl
-    past-stdin Role.Authorizer = refl
-    past-stdin Role.Filter = refl
-
-    takes-ended : n ≡ 0 → TakesBy h kind n (paramsEnded h)
-    unfolding paramsEnded turned withTurn
-    takes-ended z =
-        byTest (eqb (paramsFault (listOf h)) 0)
-        (λ e. simp e (record { told = rw (live, past-params (h .request .state .role)); due = λ k. absurd (omega arith) }))
-        (λ e. simp e (takes-faulted _))
-
-    takes-params : h .request .state .turn ≡ Turn.Params → kind ≡ PARAMS → TakesBy h kind n (onParams n h)
-    unfolding onParams
-    takes-params t q =
-        byTest (ltb AREA (h .request .length + n))
-        (λ e. simp e (takes-faulted 24))
-        (λ e. byTest (eqb n 0) (λ z. simp (e, z) (takes-ended (eqb-true n 0 z))) (λ z. simp (e, z) (record { told = refl; due = λ k. rw (eq-eqb kind PARAMS q, live, t) })))
-
-    takes-turn : (t : Turn) → h .request .state .turn ≡ t → kind ≡ turnType t → TakesBy h kind n (inTurn t n h)
-    unfolding onStdin onData turned withTurn
-    takes-turn Turn.Params t q = takes-params t q
-    takes-turn Turn.Stdin t q =
-        byTest (eqb n 0)
-        (λ z. simp z (record { told = rw (live, t, past-stdin (h .request .state .role)); due = λ k. rw q }))
-        (λ z. simp z (record { told = refl; due = λ k. rw q }))
-    takes-turn Turn.Data t q =
-        byTest (eqb n 0)
-        (λ z. simp z (record { told = rw (live, t); due = λ k. rw q }))
-        (λ z. simp z (record { told = refl; due = λ k. rw q }))
-    takes-turn Turn.Done t q = takes-faulted 22
-
-    takes-abort : TakesBy h kind n (aborted h)
-    unfolding aborted withLife
-    takes-abort = record { told = refl; due = λ z. off (eqb kind PARAMS) }
-
-    takes-live : TakesBy h kind n (onLive kind n h)
-    unfolding onLive onInput
-    takes-live =
-        byTest (eqb kind BEGIN-REQUEST)
-        (λ a. simp a (takes-faulted 21))
-        (λ a. byTest (eqb kind ABORT-REQUEST)
-        (λ b. simp (a, b) takes-abort)
-        (λ b. byTest (isInput kind)
-        (λ i. byTest (eqb kind (turnType (h .request .state .turn))) (λ e. simp (a, b, i, e) (takes-turn (h .request .state .turn) refl (eqb-true kind (turnType (h .request .state .turn)) e))) (λ e. simp (a, b, i, e) (takes-faulted 22)))
-        (λ i. simp (a, b, i) (takes-faulted 23))))
-
-  pub takes-header : TakesBy h kind n (onHeader kind n h)
-  unfolding onHeader
-  takes-header = byTest (isSpent (h .request .state .life)) (λ e. simp e (record { told = refl; due = λ z. rw e (off (eqb kind PARAMS)) })) (λ e. simp e (takes-live e))
+pub takes-header : (kind n : ℕ) (h : Held) → TakesBy h kind n (onHeader kind n h)
+unfolding faulted aborted turned withLife withTurn
+takes-header kind n h = of (onHeader kind n h) (header-rule kind n h)
+  where
+    of : (r : Ruled) → Rule kind n h r → TakesBy h kind n r
+    of r (Rule.Skips e) = record { told = refl; due = λ z. rw e (off (eqb kind PARAMS)) }
+    of r (Rule.Faults k low high) = record { told = refl; due = λ z. off (eqb kind PARAMS) }
+    of r (Rule.Aborts l) = record { told = refl; due = λ z. off (eqb kind PARAMS) }
+    of r (Rule.Params t room) = record { told = refl; due = λ z. rw (eq-eqb kind PARAMS (t .type), t .live, t .turn) }
+    of r (Rule.Readies t z f) = record { told = rw (t .live, past-params (h .request .state .role)); due = λ k. absurd (omega arith) }
+    of r (Rule.Stdin t) = record { told = refl; due = λ z. rw (t .type) }
+    of r (Rule.StdinEnds t z) = record { told = rw (t .live, t .turn, past-stdin (h .request .state .role)); due = λ k. rw (t .type) }
+    of r (Rule.Data t) = record { told = refl; due = λ z. rw (t .type) }
+    of r (Rule.DataEnds t z) = record { told = rw (t .live, t .turn); due = λ k. rw (t .type) }
 
 -- PARAMS content
 pub takes-grown : (h : Held) (x : List ℕ) → takes (grown h x) ≡ takes h

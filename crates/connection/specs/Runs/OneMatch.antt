@@ -1,12 +1,12 @@
 -- In a run `value` has at most one match.
-use mathlib.Core.Path.{_≡_, refl, ap, sym, _∙_}
+use mathlib.Core.Path.{_≡_}
 use mathlib.Core.List.{List, List·Memᴰ}
-use mathlib.Core.Bool.{Bool, true, false}
+use mathlib.Core.Bool.{false}
 use Prim.Native.Nat.{ℕ}
 use native.Mathlib.Omega.{arith}
 use lib.Dec.{eqb}
 use borrow.Author.Tests.{eqb-true}
-use Rattle.wire.specs.Test.{if_then_else_, byTest}
+use Rattle.wire.specs.Test.{byTest}
 use Rattle.pairs.specs.Pair.{nameOf, valueOf}
 use Rattle.pairs.specs.declared.pair.Pair.{Pair}
 use Rattle.pair_list.specs.List.{pairsFrom, firstNamed}
@@ -19,7 +19,7 @@ use Rattle.connection.specs.Slots.{heldAt}
 use Rattle.connection.specs.Calls as C
 use Rattle.connection.specs.Run.{WholeRun, ending}
 use Rattle.connection.specs.Laws.SlotsLaws.{find-at}
-use Rattle.connection.specs.Runs.Freed.{Admitted, lent-admitted}
+use Rattle.connection.specs.Runs.Freed.{lent-admitted}
 use Rattle.connection.specs.Runs.WellFormedLists.{ListOk, lists-well-formed}
 
 -- a request whose list can be read is past PARAMS and not faulted, so a pair of its list is the only one with its name

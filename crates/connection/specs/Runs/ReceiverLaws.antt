@@ -14,24 +14,23 @@ use borrow.Author.Tests.{eqb-true, ltb-false}
 use Rattle.wire.specs.Test.{if_then_else_, byTest}
 use Rattle.wire.specs.Buffer.{zeros}
 use Rattle.wire.specs.BufferLaws.{copied-room, put-length}
-use Rattle.record.specs.Names.{BEGIN-REQUEST, ABORT-REQUEST, GET-VALUES, RESPONDER, AUTHORIZER, FILTER}
+use Rattle.record.specs.Names.{BEGIN-REQUEST, GET-VALUES, RESPONDER, AUTHORIZER, FILTER}
 use Rattle.record.specs.Body.{beginBodyOf}
 use Rattle.machine.specs.Machine.{Decided, Stays, Leaves, Closes}
 use Rattle.machine.specs.Laws.{Laws, HeaderOutcomeOk, BeginOutcomeOk, CallOutcomeOk, InactiveOutcomeOk, ManagementOutcomeOk}
-use Rattle.connection.specs.declared.request.Turn.{Turn}
 use Rattle.connection.specs.declared.request.Due.{Due}
 use Rattle.connection.specs.declared.request.Request.{Request}
 use Rattle.connection.specs.declared.request.Role.{Role}
 use Rattle.connection.specs.declared.answer.Output.{Output}
 use Rattle.connection.specs.Sizes.{SLOTS, AREA, QUERY}
-use Rattle.connection.specs.Event.{Event}
-use Rattle.connection.specs.Request.{Held, listOf, isSpent, isInput, turnType, faulted, aborted, turned, paramsFault, paramsEnded, onParams, onStdin, onData, inTurn, onInput, onLive, onHeader, grown, opened}
+use Rattle.connection.specs.Request.{Held, Ruled, faulted, aborted, turned, onHeader, grown, opened}
 use Rattle.connection.specs.RequestCalls as Of
 use Rattle.connection.specs.Laws.RequestShape.{Room, keeps-header}
 use Rattle.connection.specs.Laws.CuttingContent.{grown-room}
 use Rattle.connection.specs.Bytewise.{Note}
 use Rattle.connection.specs.Arguments.{Argument, ForValue, ForSource, ForPair, ForWalk, ForSay, ForEnd, ForFinish, FinishedWith}
 use Rattle.connection.specs.Runs.Receiver.{cleanArea, receiveHeader, receiveByte, beginAs, receiveBegin, receiveManagement, receiveInactive, writtenAs, finishedAs, receiveCall, receiver, noteOf, dueStream}
+use Rattle.connection.specs.Laws.Rules.{by-rule}
 
 -- ---- what a header does to an area
 -- list and area stay, or the list is empty and the area zeroed
@@ -39,47 +38,10 @@ abbrev pub KeepsOrZeroes : Held → Held → Type 0
 KeepsOrZeroes h q =
     ((q .request .length ≡ h .request .length) × (q .area ≡ h .area)) ⊎ ((q .request .length ≡ 0) × (q .area ≡ zeros (length (h .area))))
 
-module _ (n : ℕ) (h : Held) where
-  area-faulted : (k : ℕ) → KeepsOrZeroes h (faulted h k .held)
-  unfolding faulted
-  area-faulted k = inr (refl, refl)
-
-  area-turned : (t : Turn) (e : Event) → KeepsOrZeroes h (turned h t e .held)
-  unfolding turned
-  area-turned t e = inl (refl, refl)
-
-  area-ended : KeepsOrZeroes h (paramsEnded h .held)
-  unfolding paramsEnded
-  area-ended = byTest (eqb (paramsFault (listOf h)) 0) (λ e. simp e (area-turned _ _)) (λ e. simp e (area-faulted _))
-
-  area-params : KeepsOrZeroes h (onParams n h .held)
-  unfolding onParams
-  area-params =
-      byTest (ltb AREA (h .request .length + n))
-      (λ e. simp e (area-faulted 24))
-      (λ e. byTest (eqb n 0) (λ z. simp (e, z) area-ended) (λ z. simp (e, z) (inl (refl, refl))))
-
-  area-turn : (t : Turn) → KeepsOrZeroes h (inTurn t n h .held)
-  unfolding onStdin onData
-  area-turn Turn.Params = area-params
-  area-turn Turn.Stdin = byTest (eqb n 0) (λ z. simp z (area-turned _ _)) (λ z. simp z (inl (refl, refl)))
-  area-turn Turn.Data = byTest (eqb n 0) (λ z. simp z (area-turned _ _)) (λ z. simp z (inl (refl, refl)))
-  area-turn Turn.Done = area-faulted 22
-
-  area-live : (kind : ℕ) → KeepsOrZeroes h (onLive kind n h .held)
-  unfolding onLive onInput aborted
-  area-live kind =
-      byTest (eqb kind BEGIN-REQUEST)
-      (λ a. simp a (area-faulted 21))
-      (λ a. byTest (eqb kind ABORT-REQUEST)
-      (λ b. simp (a, b) (inl (refl, refl)))
-      (λ b. byTest (isInput kind)
-      (λ i. byTest (eqb kind (turnType (h .request .state .turn))) (λ e. simp (a, b, i, e) (area-turn (h .request .state .turn))) (λ e. simp (a, b, i, e) (area-faulted 22)))
-      (λ i. simp (a, b, i) (area-faulted 23))))
-
-  pub area-header : (kind : ℕ) → KeepsOrZeroes h (onHeader kind n h .held)
-  unfolding onHeader
-  area-header kind = byTest (isSpent (h .request .state .life)) (λ e. simp e (inl (refl, refl))) (λ e. simp e (area-live kind))
+pub area-header : (n : ℕ) (h : Held) (kind : ℕ) → KeepsOrZeroes h (onHeader kind n h .held)
+unfolding faulted aborted turned
+area-header n h kind =
+    by-rule (λ (r : Ruled). KeepsOrZeroes h (r .held)) h (λ d. inl (refl, refl)) (λ k low high. inr (refl, refl)) (inl (refl, refl)) (λ t. inl (refl, refl)) (λ t s. inl (refl, refl)) kind n
 
 -- An area keeps its length.
 pub same-length : (h q : Held) → KeepsOrZeroes h q → length (q .area) ≡ length (h .area)

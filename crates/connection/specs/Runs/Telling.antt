@@ -2,22 +2,20 @@
 use mathlib.Core.Path.{_≡_, refl, ap, ap₂, sym, _∙_}
 use mathlib.Core.List.{List, [], _∷_, _++_, map, append-assoc}
 use mathlib.Core.Bool.{Bool, true, false}
-use Prim.Native.Nat.{ℕ, _+_, _<_}
+use Prim.Native.Nat.{ℕ, _<_}
 use native.Mathlib.Omega.{arith}
-use lib.Dec.{eqb, ltb}
+use lib.Dec.{eqb}
 use borrow.Author.Tests.{ne-eqb}
-use Rattle.wire.specs.Test.{if_then_else_, byTest}
-use Rattle.record.specs.Names.{BEGIN-REQUEST, ABORT-REQUEST}
+use Rattle.wire.specs.Test.{if_then_else_}
 use Rattle.machine.specs.Machine.{Observation, RequestEvent, NoticeEvent, CloseEvent, CountAnswer, CallAnswer, eventFrom, asList, concerns, observed}
-use Rattle.connection.specs.declared.request.Turn.{Turn}
 use Rattle.connection.specs.declared.request.Due.{Due}
-use Rattle.connection.specs.Sizes.{AREA}
 use Rattle.connection.specs.Event.{Event}
-use Rattle.connection.specs.Request.{Held, listOf, isSpent, isInput, turnType, faulted, aborted, turned, paramsFault, paramsEnded, onParams, onStdin, onData, inTurn, onInput, onLive, onHeader, onContent}
+use Rattle.connection.specs.Request.{Held, Ruled, faulted, aborted, turned, onHeader, onContent}
 use Rattle.connection.specs.Step.{queryOf}
 use Rattle.connection.specs.Bytewise.{Note, notes, showing}
 use Rattle.connection.specs.Runs.Receiver.{QueryWith, UnknownType, noticeEvent, receiver, noteOf, receiveByte}
 use Rattle.connection.specs.Run.{Observed, Heard, Answered, eventId, idOf, seenOf}
+use Rattle.connection.specs.Laws.Rules.{by-rule}
 
 -- ---- observations
 -- an event of a request, with this id (the four that name no request are never one of a request)
@@ -73,44 +71,11 @@ Names id (Event.Query conns reqs mpxs) = ⊥
 Names id (Event.Unknown kind) = ⊥
 Names id (Event.Closed n) = ⊥
 
-module _ (n : ℕ) (h : Held) where
-  names-faulted : (k : ℕ) → Names (h .request .id) (faulted h k .event)
-  unfolding faulted
-  names-faulted k = refl
-
-  names-ended : Names (h .request .id) (paramsEnded h .event)
-  unfolding paramsEnded turned
-  names-ended = byTest (eqb (paramsFault (listOf h)) 0) (λ e. simp e) (λ e. simp e (names-faulted _))
-
-  names-params : Names (h .request .id) (onParams n h .event)
-  unfolding onParams
-  names-params =
-      byTest (ltb AREA (h .request .length + n))
-      (λ e. simp e (names-faulted 24))
-      (λ e. byTest (eqb n 0) (λ z. simp (e, z) names-ended) (λ z. simp (e, z) tt))
-
-  names-turn : (t : Turn) → Names (h .request .id) (inTurn t n h .event)
-  unfolding onStdin onData turned
-  names-turn Turn.Params = names-params
-  names-turn Turn.Stdin = byTest (eqb n 0) (λ z. simp z refl) (λ z. simp z tt)
-  names-turn Turn.Data = byTest (eqb n 0) (λ z. simp z refl) (λ z. simp z tt)
-  names-turn Turn.Done = names-faulted 22
-
-  names-live : (kind : ℕ) → Names (h .request .id) (onLive kind n h .event)
-  unfolding onLive onInput aborted
-  names-live kind =
-      byTest (eqb kind BEGIN-REQUEST)
-      (λ a. simp a (names-faulted 21))
-      (λ a. byTest (eqb kind ABORT-REQUEST)
-      (λ b. simp (a, b) refl)
-      (λ b. byTest (isInput kind)
-      (λ i. byTest (eqb kind (turnType (h .request .state .turn))) (λ e. simp (a, b, i, e) (names-turn (h .request .state .turn))) (λ e. simp (a, b, i, e) (names-faulted 22)))
-      (λ i. simp (a, b, i) (names-faulted 23))))
-
-  -- A header's event names the header's request.
-  pub names-header : (kind : ℕ) → Names (h .request .id) (onHeader kind n h .event)
-  unfolding onHeader
-  names-header kind = byTest (isSpent (h .request .state .life)) (λ e. simp e tt) (λ e. simp e (names-live kind))
+-- A header's event names the header's request.
+pub names-header : (n : ℕ) (h : Held) (kind : ℕ) → Names (h .request .id) (onHeader kind n h .event)
+unfolding faulted aborted turned
+names-header n h kind =
+    by-rule (λ (r : Ruled). Names (h .request .id) (r .event)) h (λ d. tt) (λ k low high. refl) refl (λ t. refl) (λ t s. refl) kind n
 
 -- what the machine tells of it is what the step tells
 pub header-told : (id : ℕ) (e : Event) (x : List ℕ) → Names id e → map Heard (notes e x) ≡ toldAll (asList receiver (eventFrom receiver id (noteOf e 0)))

@@ -6,9 +6,9 @@ use mathlib.Core.Bool.{Bool, true, false}
 use Prim.Native.Nat.{ℕ, suc, _+_, _≤_, _<_}
 use native.Mathlib.Omega.{arith}
 use lib.ListN.{length, take}
-use lib.Dec.{eqb, ltb, leb}
+use lib.Dec.{eqb, leb}
 use Rattle.wire.specs.Test.{if_then_else_, byTest}
-use Rattle.record.specs.Names.{BEGIN-REQUEST, ABORT-REQUEST, RESPONDER, AUTHORIZER, FILTER}
+use Rattle.record.specs.Names.{RESPONDER, AUTHORIZER, FILTER}
 use Rattle.record.specs.Body.{beginBodyOf}
 use Rattle.pair_list.specs.List.{wellFormed}
 use Rattle.pair_repeats.specs.Repeats.{repeats}
@@ -24,8 +24,7 @@ use Rattle.connection.specs.declared.request.RequestState.{RequestState}
 use Rattle.connection.specs.declared.request.Request.{Request}
 use Rattle.connection.specs.declared.answer.Output.{Output}
 use Rattle.connection.specs.Sizes.{SLOTS, AREA, QUERY}
-use Rattle.connection.specs.Event.{Event}
-use Rattle.connection.specs.Request.{Held, Ruled, listOf, isSpent, isInput, turnType, withTurn, withLife, faulted, aborted, turned, paramsFault, paramsEnded, onParams, onStdin, onData, inTurn, onInput, onLive, onHeader, grown, opened}
+use Rattle.connection.specs.Request.{Held, Ruled, listOf, isSpent, withTurn, withLife, faulted, aborted, turned, paramsFault, onHeader, grown, opened}
 use Rattle.connection.specs.RequestCalls as Of
 use Rattle.connection.specs.RequestCalls.{inParams, isFaulted}
 use Rattle.connection.specs.Slots.{heldAt}
@@ -40,6 +39,7 @@ use Rattle.connection.specs.Run.{Memory, WholeRun, beginning, ending}
 use Rattle.connection.specs.Runs.LinkingStep.{loadedOf, open-loaded}
 use Rattle.connection.specs.Runs.LinkingRuns.{run-linked, start-loaded, start-steady}
 use Rattle.connection.specs.Runs.Hygiene.{timeline-ok}
+use Rattle.connection.specs.Laws.Rules.{OnTurn, Rule, header-rule}
 
 -- what the end of PARAMS asks of a list
 pub record Good (list : List ℕ) : Type 0 where
@@ -70,63 +70,33 @@ not-faulted Life.Live e = refl
 not-faulted Life.Faulted e = true-false e
 not-faulted Life.Aborted e = refl
 
-good : (list : List ℕ) → eqb (paramsFault list) 0 ≡ true → Good list
+good : (list : List ℕ) → paramsFault list ≡ 0 → Good list
 unfolding paramsFault
 good list e =
     byTest (wellFormed list)
-    (λ w. byTest (repeats list) (λ r. true-false (sym (rw (w, r) at e))) (λ r. record { formed = w; once = r }))
-    (λ w. true-false (sym (rw w at e)))
+    (λ w.
+    byTest (repeats list)
+    (λ r. let z : _≡_ {A = ℕ} 26 0 = simp (w, r) at e in absurd (omega arith))
+    (λ r. record { formed = w; once = r }))
+    (λ w. let z : _≡_ {A = ℕ} 25 0 = simp w at e in absurd (omega arith))
 
-module _ (n : ℕ) (h : Held) where
-  by-faulted : (k : ℕ) → Decides n (faulted h k)
-  unfolding faulted withLife
-  by-faulted k = record { list = λ t f. true-false f; due = tt }
+by-header : (n : ℕ) (h : Held) (kind : ℕ) → ListOk h → Decides n (onHeader kind n h)
+unfolding faulted aborted turned withLife withTurn
+by-header n h kind ok = of (onHeader kind n h) (header-rule kind n h)
+  where
+    kept : {t : Turn} → OnTurn kind h t → inParams t ≡ false → Good (listOf h)
+    kept t p = ok (ap inParams (t .turn) ∙ p) (not-faulted (h .request .state .life) (t .live))
 
-  by-turned : (t : Turn) (e : Event) → Good (listOf h) → Decides n (turned h t e)
-  unfolding turned withTurn
-  by-turned t e w = record { list = λ a b. w; due = tt }
-
-  by-ended : Decides n (paramsEnded h)
-  unfolding paramsEnded
-  by-ended = byTest (eqb (paramsFault (listOf h)) 0) (λ e. simp e (by-turned _ _ (good (listOf h) e))) (λ e. simp e (by-faulted _))
-
-  by-params : inParams (h .request .state .turn) ≡ true → isSpent (h .request .state .life) ≡ false → Decides n (onParams n h)
-  unfolding onParams
-  by-params p live =
-      byTest (ltb AREA (h .request .length + n))
-      (λ e. simp e (by-faulted 24))
-      (λ e. byTest (eqb n 0) (λ z. simp (e, z) by-ended) (λ z. simp (e, z) (record { list = λ t f. true-false (sym p ∙ t); due = (p, live) })))
-
-  module _ (ok : ListOk h) (live : isSpent (h .request .state .life) ≡ false) where
-    by-turn : (t : Turn) → h .request .state .turn ≡ t → Decides n (inTurn t n h)
-    unfolding onStdin onData
-    by-turn Turn.Params e = by-params (ap inParams e) live
-    by-turn Turn.Stdin e =
-        let w = ok (ap inParams e) (not-faulted (h .request .state .life) live) in
-        byTest (eqb n 0) (λ z. simp z (by-turned _ _ w)) (λ z. simp z (record { list = ok; due = live }))
-    by-turn Turn.Data e =
-        let w = ok (ap inParams e) (not-faulted (h .request .state .life) live) in
-        byTest (eqb n 0) (λ z. simp z (by-turned _ _ w)) (λ z. simp z (record { list = ok; due = live }))
-    by-turn Turn.Done e = by-faulted 22
-
-    by-abort : Decides n (aborted h)
-    unfolding aborted withLife
-    by-abort = record { list = λ t f. ok t (not-faulted (h .request .state .life) live); due = tt }
-
-    by-live : (kind : ℕ) → Decides n (onLive kind n h)
-    unfolding onLive onInput
-    by-live kind =
-        byTest (eqb kind BEGIN-REQUEST)
-        (λ a. simp a (by-faulted 21))
-        (λ a. byTest (eqb kind ABORT-REQUEST)
-        (λ b. simp (a, b) by-abort)
-        (λ b. byTest (isInput kind)
-        (λ i. byTest (eqb kind (turnType (h .request .state .turn))) (λ e. simp (a, b, i, e) (by-turn (h .request .state .turn) refl)) (λ e. simp (a, b, i, e) (by-faulted 22)))
-        (λ i. simp (a, b, i) (by-faulted 23))))
-
-  by-header : (kind : ℕ) → ListOk h → Decides n (onHeader kind n h)
-  unfolding onHeader
-  by-header kind ok = byTest (isSpent (h .request .state .life)) (λ e. simp e (record { list = ok; due = tt })) (λ e. simp e (by-live ok e kind))
+    of : (r : Ruled) → Rule kind n h r → Decides n r
+    of r (Rule.Skips e) = record { list = ok; due = tt }
+    of r (Rule.Faults k low high) = record { list = λ t f. true-false f; due = tt }
+    of r (Rule.Aborts l) = record { list = λ t f. ok t (not-faulted (h .request .state .life) l); due = tt }
+    of r (Rule.Params t room) = record { list = ok; due = (ap inParams (t .turn), t .live) }
+    of r (Rule.Readies t z f) = record { list = λ a b. good (listOf h) f; due = tt }
+    of r (Rule.Stdin t) = record { list = ok; due = t .live }
+    of r (Rule.StdinEnds t z) = record { list = λ a b. kept t refl; due = tt }
+    of r (Rule.Data t) = record { list = ok; due = t .live }
+    of r (Rule.DataEnds t z) = record { list = λ a b. kept t refl; due = tt }
 
 decided-list : (n : ℕ) (q : Held) (e : Option Note) (due : Due) → ListOk q → InTurn due n q → HeaderOutcomeOk ListOk InTurn n (Decided q e (dueStream due))
 decided-list n q e Due.Skip f r = f
