@@ -1,4 +1,5 @@
-//! What the calls answer. The discriminants are the numbers that the rules give to each case.
+//! What the calls answer. The discriminants are the numbers that the rules give to each case. One close and one fault
+//! carry a place, so both have a function for their number.
 
 /// When a call is refused.
 #[derive(Clone, Copy, Debug, PartialEq, Eq)]
@@ -15,26 +16,62 @@ pub enum Refusal {
     OutOfShape = 9,
 }
 
-/// Why a connection closes in a step.
+/// Why a connection closes in a step. The place is that of the query's malformed pair.
 #[derive(Clone, Copy, Debug, PartialEq, Eq)]
-#[repr(u8)]
 pub enum Close {
-    Version = 11,
-    BeginLength = 12,
-    QueryLength = 13,
-    QueryMalformed = 14,
+    Version,
+    BeginLength,
+    QueryLength,
+    QueryMalformed { place: u16 },
 }
 
-/// What a request did wrong.
+impl Close {
+    pub fn number(self) -> u8 {
+        match self {
+            Close::Version => 11,
+            Close::BeginLength => 12,
+            Close::QueryLength => 13,
+            Close::QueryMalformed { .. } => 14,
+        }
+    }
+
+    pub fn place(self) -> Option<u16> {
+        match self {
+            Close::QueryMalformed { place } => Some(place),
+            Close::Version | Close::BeginLength | Close::QueryLength => None,
+        }
+    }
+}
+
+/// What a request did wrong. The place is that of the list's malformed pair.
 #[derive(Clone, Copy, Debug, PartialEq, Eq)]
-#[repr(u8)]
 pub enum Fault {
-    BeginAgain = 21,
-    OutOfTurn = 22,
-    WrongType = 23,
-    TooLong = 24,
-    Malformed = 25,
-    Repeated = 26,
+    BeginAgain,
+    OutOfTurn,
+    WrongType,
+    TooLong,
+    Malformed { place: u16 },
+    Repeated,
+}
+
+impl Fault {
+    pub fn number(self) -> u8 {
+        match self {
+            Fault::BeginAgain => 21,
+            Fault::OutOfTurn => 22,
+            Fault::WrongType => 23,
+            Fault::TooLong => 24,
+            Fault::Malformed { .. } => 25,
+            Fault::Repeated => 26,
+        }
+    }
+
+    pub fn place(self) -> Option<u16> {
+        match self {
+            Fault::Malformed { place } => Some(place),
+            _ => None,
+        }
+    }
 }
 
 /// Why an opening is refused: the protocol statuses of END_REQUEST that are sent for it.

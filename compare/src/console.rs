@@ -6,7 +6,7 @@ pub mod text;
 pub mod words;
 
 use crate::answer::{Event, Output, Refusal, Source};
-use crate::pairs::{write_pair, Pair};
+use crate::pairs::{write_pair, Pair, Reading};
 use crate::reply::reply;
 use crate::state::{area, Connection, AREA, STORE};
 use std::fmt::Write;
@@ -167,12 +167,14 @@ impl Console {
             Err(refusal) => return refused(refusal),
         };
         let mut text = format!("walk {}", walk.list().len());
-        for pair in walk.by_ref() {
-            let pair = numbers(pair).map(|n| n.to_string()).join(",");
+        loop {
+            let pair = match walk.read_on() {
+                Reading::Pair(pair) => numbers(pair).map(|n| n.to_string()).join(","),
+                Reading::End => return format!("{text} end {}", walk.place()),
+                Reading::Malformed { place } => return format!("{text} malformed at {place}"),
+            };
             write!(text, " {pair}").expect("a string takes all");
         }
-        write!(text, " stop {}", walk.place()).expect("a string takes all");
-        text
     }
 
     fn finish(&mut self, id: u16, status: u32, room: usize) -> String {

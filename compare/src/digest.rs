@@ -7,7 +7,7 @@ use crate::state::Connection;
 /// The digest has 56 bits.
 const MODULUS: u64 = 1 << 56;
 
-/// A kind, an id, a small number and a length in one number.
+/// A kind, an id, a small number, and a length or a place in one number.
 fn packed(kind: u8, id: u16, what: u8, n: u16) -> u64 {
     u64::from(kind) + (u64::from(id) << 8) + (u64::from(what) << 24) + (u64::from(n) << 32)
 }
@@ -27,7 +27,7 @@ fn weight(told: &Result<Step, Refusal>) -> u64 {
         Event::End { id, stream } => packed(4, id, stream as u8, 0),
         Event::Abort { id } => packed(5, id, 0, 0),
         Event::Refuse { id, status } => packed(6, id, status as u8, 0),
-        Event::Fault { id, fault } => packed(7, id, fault as u8, 0),
+        Event::Fault { id, fault } => packed(7, id, fault.number(), fault.place().unwrap_or(0)),
         Event::Query(named) => packed(
             8,
             named.max_conns.into(),
@@ -35,7 +35,7 @@ fn weight(told: &Result<Step, Refusal>) -> u64 {
             named.mpxs_conns.into(),
         ),
         Event::Unknown { kind } => packed(9, 0, kind, 0),
-        Event::Closed(cause) => packed(10, 0, cause as u8, 0),
+        Event::Closed(cause) => packed(10, 0, cause.number(), cause.place().unwrap_or(0)),
     }
 }
 

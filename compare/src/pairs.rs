@@ -20,8 +20,49 @@ impl Pair {
     }
 
     pub fn value<'a>(&self, list: &'a [u8]) -> &'a [u8] {
-        &list[self.value_at..self.value_at + self.value_length]
+        &list[self.value_at..self.end()]
     }
+
+    /// The place behind it.
+    pub fn end(&self) -> usize {
+        self.value_at + self.value_length
+    }
+}
+
+/// What reading one pair answers.
+#[derive(Clone, Copy, Debug, PartialEq, Eq)]
+pub enum Reading {
+    Pair(Pair),
+    End,
+    /// The place is that of the pair's first byte, wherever in the pair reading failed.
+    Malformed {
+        place: usize,
+    },
+}
+
+/// Reads the pair at a place. At the end of the list, and past it, there is none.
+pub fn read_pair(list: &[u8], place: usize) -> Reading {
+    if place >= list.len() {
+        return Reading::End;
+    }
+    match whole_pair(list, place) {
+        Some(pair) => Reading::Pair(pair),
+        None => Reading::Malformed { place },
+    }
+}
+
+/// The pair at a place where the list has all of it.
+fn whole_pair(list: &[u8], place: usize) -> Option<Pair> {
+    let (name_length, after_name_length) = read_length(list, place)?;
+    let (value_length, name_at) = read_length(list, after_name_length)?;
+    // Each length is below 2^31, so the sums hold.
+    let pair = Pair {
+        name_at,
+        name_length,
+        value_at: name_at + name_length,
+        value_length,
+    };
+    (pair.end() <= list.len()).then_some(pair)
 }
 
 /// The pairs of a list in order, up to its end or to the first malformed one.
@@ -44,27 +85,31 @@ impl<'a> Pairs<'a> {
     pub fn place(&self) -> usize {
         self.place
     }
+
+    /// The same list at another place, which may be any.
+    pub fn moved_to(self, place: usize) -> Self {
+        Pairs { place, ..self }
+    }
+
+    /// Reads a pair and moves behind it. At the end and before a malformed pair the place stays, so that reading on
+    /// answers the same again.
+    pub fn read_on(&mut self) -> Reading {
+        let reading = read_pair(self.list, self.place);
+        if let Reading::Pair(pair) = reading {
+            self.place = pair.end();
+        }
+        reading
+    }
 }
 
 impl Iterator for Pairs<'_> {
     type Item = Pair;
 
     fn next(&mut self) -> Option<Pair> {
-        let (name_length, after_name_length) = read_length(self.list, self.place)?;
-        let (value_length, name_at) = read_length(self.list, after_name_length)?;
-        // Each length is below 2^31, so the sums hold.
-        let value_at = name_at + name_length;
-        let end = value_at + value_length;
-        if end > self.list.len() {
-            return None;
+        match self.read_on() {
+            Reading::Pair(pair) => Some(pair),
+            Reading::End | Reading::Malformed { .. } => None,
         }
-        self.place = end;
-        Some(Pair {
-            name_at,
-            name_length,
-            value_at,
-            value_length,
-        })
     }
 }
 
@@ -81,11 +126,20 @@ pub fn read_length(list: &[u8], place: usize) -> Option<(usize, usize)> {
     }
 }
 
-/// A list is well formed when pairs use up all its bytes.
-pub fn well_formed(list: &[u8]) -> bool {
+/// The place of the first malformed pair; none where pairs use up all bytes of the list.
+pub fn malformed_at(list: &[u8]) -> Option<usize> {
     let mut pairs = Pairs::new(list);
-    while pairs.next().is_some() {}
-    pairs.place() == list.len()
+    loop {
+        match pairs.read_on() {
+            Reading::Pair(_) => {}
+            Reading::End => return None,
+            Reading::Malformed { place } => return Some(place),
+        }
+    }
+}
+
+pub fn well_formed(list: &[u8]) -> bool {
+    malformed_at(list).is_none()
 }
 
 /// Whether two pairs have the same name. Names in order have equal ones side by side; to look at each two of them would

@@ -1,7 +1,7 @@
 //! Start and step: the bytes of a connection, read one phase at a time.
 
 use crate::answer::{Close, Event, Fault, Named, Refusal, Role, Status, Step, Stream};
-use crate::pairs::{repeats_a_name, well_formed, Pairs};
+use crate::pairs::{malformed_at, repeats_a_name, Pairs};
 use crate::state::{area, Connection, Life, Request, Target, Turn, AREA, BEGIN_BODY, QUERY, STORE};
 use crate::wire::{kind, Header, HEADER, KEEP_CONN, VERSION};
 
@@ -202,8 +202,10 @@ impl Connection {
             self.target = Target::Params(slot as u8);
             return Ok(None);
         }
-        if !well_formed(&area[..length]) {
-            return Err(Fault::Malformed);
+        if let Some(place) = malformed_at(&area[..length]) {
+            // An area's places take up 12 bits.
+            let place = place as u16;
+            return Err(Fault::Malformed { place });
         }
         if repeats_a_name(&area[..length]) {
             return Err(Fault::Repeated);
@@ -274,8 +276,9 @@ impl Connection {
         let length = self.gathered as usize;
         self.forget_body();
         let list = &self.query[..length];
-        if !well_formed(list) {
-            return self.close_by(store, Close::QueryMalformed);
+        if let Some(place) = malformed_at(list) {
+            let place = place as u16;
+            return self.close_by(store, Close::QueryMalformed { place });
         }
         let mut named = Named::default();
         for pair in Pairs::new(list) {

@@ -4,6 +4,7 @@
 //! What the rules leave open is kept away from: bytes of a body past those gathered. A script that pokes how many
 //! bytes are gathered, or makes the content a body's, pokes the bytes, the target and the content with it.
 
+mod broken;
 mod calls;
 mod lists;
 mod odd;

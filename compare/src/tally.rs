@@ -21,8 +21,10 @@ impl Tally {
             wanted.extend(numbers.iter().map(|n| format!("{call}: refused {n}")));
         }
         for call in ["step", "feed"] {
-            wanted.extend((11..=14).map(|n| format!("{call}: closed {n}")));
-            wanted.extend((21..=26).map(|n| format!("{call}: fault {n}")));
+            wanted.extend([11, 12, 13].map(|n| format!("{call}: closed {n}")));
+            wanted.extend([21, 22, 23, 24, 26].map(|n| format!("{call}: fault {n}")));
+            wanted.extend(PLACES.map(|place| format!("{call}: closed 14 {place}")));
+            wanted.extend(PLACES.map(|place| format!("{call}: fault 25 {place}")));
             wanted.extend((0..8).map(|n| format!("{call}: query {n:03b}")));
             wanted.extend(
                 [
@@ -32,8 +34,10 @@ impl Tally {
                 .map(|event| format!("{call}: {event}")),
             );
         }
+        wanted.extend(PLACES.map(|place| format!("walk: malformed {place}")));
         wanted.extend(
             [
+                "walk: end",
                 "finish: open",
                 "finish: closed",
                 "store: zeros",
@@ -45,6 +49,19 @@ impl Tally {
         );
         wanted.retain(|kind| !self.0.contains_key(kind));
         wanted
+    }
+}
+
+/// Where a list is malformed: in its first pair, or in one behind good pairs. Most mistakes show only at a place over
+/// 0, and some only at one that takes up two bytes.
+const PLACES: [&str; 3] = ["at 0", "at 1 to 255", "at 256 or more"];
+
+/// Which of these a place is.
+fn place_kind(place: &str) -> &'static str {
+    match place.parse::<u16>() {
+        Ok(0) => PLACES[0],
+        Ok(1..=255) => PLACES[1],
+        _ => PLACES[2],
     }
 }
 
@@ -69,19 +86,31 @@ fn kind(line: &[u8], answer: &str) -> String {
     let words: Vec<&str> = answer.split(' ').collect();
     let what = match words[..] {
         ["what" | "long"] => return answer.into(),
-        ["used", _, "refuse" | "fault", _, n] => format!("{} {n}", words[2]),
-        ["used", _, "query" | "closed", n] => format!("{} {n}", words[2]),
-        ["used", _, event, ..] => event.into(),
-        ["refuse" | "fault", _, n] => format!("{} {n}", words[0]),
-        ["query" | "closed", n] => format!("{} {n}", words[0]),
+        // What a step tells stands behind the bytes that it used.
+        ["used", _, ref event @ ..] if !event.is_empty() => event_kind(event),
+        ["walk", .., "malformed", "at", place] => format!("malformed {}", place_kind(place)),
+        ["walk", .., "end", _] => "end".into(),
         ["store", "0"] => "zeros".into(),
         ["refused", n, ..] => format!("refused {n}"),
         ["wrote", _, _, end] => end.into(),
-        [first, ..] => first.into(),
-        [] => String::new(),
+        _ => event_kind(&words),
     };
     let call = line.split(|&b| b == b' ').next().unwrap_or_default();
     format!("{}: {what}", String::from_utf8_lossy(call))
+}
+
+/// An event without the id and with the number that says which of its kind it is; of other answers the first word.
+fn event_kind(words: &[&str]) -> String {
+    match *words {
+        [event @ "fault", _, n, "at", place] | [event @ "closed", n, "at", place] => {
+            format!("{event} {n} {}", place_kind(place))
+        }
+        [event @ ("refuse" | "fault"), _, n] | [event @ ("query" | "closed"), n] => {
+            format!("{event} {n}")
+        }
+        [first, ..] => first.into(),
+        [] => String::new(),
+    }
 }
 
 impl fmt::Display for Tally {

@@ -121,6 +121,7 @@ fn what_a_feed_uses() {
     };
     assert_eq!(told(""), "used 3");
     assert_eq!(told("> fault 1 22\n"), "fault 1 22; used 3");
+    assert_eq!(told("> fault 1 25 at 15\n"), "fault 1 25 at 15; used 3");
     assert_eq!(told("> closed 11\n> used 2\n"), "closed 11; used 2");
     assert_eq!(told("> refused 1\n"), "refused 1");
     assert_eq!(
@@ -173,7 +174,7 @@ fn answers() {
         ("store \"80\"", "store 3830"),
         ("store 4 0 3", "store 4 0 3"),
         ("refused 4 \"none\"", "refused 4 6e6f6e65"),
-        ("walk 4 2,1,3,1 stop 4", "walk 4 2,1,3,1 stop 4"),
+        ("walk 4 2,1,3,1 end 4", "walk 4 2,1,3,1 end 4"),
     ] {
         assert_eq!(answer(line), wanted, "{line}");
     }

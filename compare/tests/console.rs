@@ -39,7 +39,7 @@ fn a_whole_request() {
         ("value 1 42 -", "fallback -"),
         ("pair 1 0", "pair 2 1 3 1"),
         ("pair 1 1", "refused 7"),
-        ("walk 1", "walk 4 2,1,3,1 stop 4"),
+        ("walk 1", "walk 4 2,1,3,1 end 4"),
         ("store", "store 4 0 3"),
         ("step 0105000100020000", "used 8"),
         ("step 616263", "used 2 data 1 stdin 6162"),

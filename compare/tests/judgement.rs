@@ -62,7 +62,8 @@ fn queries() {
     let mut station = Station::new();
     let bytes = record(GET_VALUES, 0, &two[..20]);
     assert_eq!(station.feed(&bytes[..27]), []);
-    assert_eq!(station.feed(&bytes[27..]), closed(Close::QueryMalformed));
+    let malformed = Close::QueryMalformed { place: 16 };
+    assert_eq!(station.feed(&bytes[27..]), closed(malformed));
 }
 
 #[test]
@@ -213,7 +214,8 @@ fn parameters_ended_at_once_and_malformed() {
     assert_eq!(station.send(PARAMS, 1, &[]), told(ready));
     station.open(2, KEEP);
     station.send(PARAMS, 2, &PORT[..14]);
-    assert_eq!(station.send(PARAMS, 2, &[]), fault(2, Fault::Malformed));
+    let malformed = Fault::Malformed { place: 0 };
+    assert_eq!(station.send(PARAMS, 2, &[]), fault(2, malformed));
     // The turn is not moved by a fault: PARAMS counts as not ended.
     assert_eq!(station.connection.slots[1].turn, Turn::Params);
 }

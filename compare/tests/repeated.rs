@@ -96,12 +96,12 @@ fn malformed_lists_that_repeat_a_name() {
     for end in [&b"\x01"[..], b"\x04\x02TEMP2", b"\x80\x00\x00", b"\xff"] {
         let list = [b"\x04\x02TEMP21\x04\x02TEMP22", end].concat();
         assert!(repeats_a_name(&list));
-        assert_eq!(ended(&list), fault(1, Fault::Malformed));
+        assert_eq!(ended(&list), fault(1, Fault::Malformed { place: 16 }));
     }
     // The second TEMP is the malformed pair; then it is whole.
     let list = b"\x04\x02TEMP21\x04\x02TEMP22";
     assert!(!repeats_a_name(&list[..15]));
-    assert_eq!(ended(&list[..15]), fault(1, Fault::Malformed));
+    assert_eq!(ended(&list[..15]), fault(1, Fault::Malformed { place: 8 }));
     assert_eq!(ended(list), fault(1, Fault::Repeated));
 }
 

@@ -62,20 +62,27 @@ fn three_requests_side_by_side() {
     assert_eq!(others, wanted);
 }
 
+/// What a capture tells about the lists of its requests.
+fn told(name: &str) -> String {
+    let file = format!("samples/captures/{name}.bin");
+    let lines = replay(&fs::read(repository().join(file)).unwrap(), 1_000);
+    let of_lists = |line: &&str| line.starts_with("ready") || line.starts_with("fault");
+    let found: Vec<_> = lines.lines().filter(of_lists).map(String::from).collect();
+    found.join(", ")
+}
+
 /// Captures in which a web server names a parameter twice; the other requests of the connection are ready.
 #[test]
 fn captures_that_repeat_a_name() {
-    let told = |name: &str| {
-        let file = format!("samples/captures/{name}.bin");
-        let lines = replay(&fs::read(repository().join(file)).unwrap(), 1_000);
-        let of_lists = |line: &&str| line.starts_with("ready") || line.starts_with("fault");
-        let found: Vec<_> = lines.lines().filter(of_lists).map(String::from).collect();
-        found.join(", ")
-    };
     assert_eq!(told("nginx-empty"), "fault 1 26");
     let wanted = "ready 1 373, fault 3 26, ready 5 425, ready 7 425";
     assert_eq!(told("haproxy-mpxs"), wanted);
     assert_eq!(told("lighttpd-headers"), "ready 1 4041");
+}
+
+#[test]
+fn a_capture_with_a_malformed_list() {
+    assert_eq!(told("go-test-malformed-params"), "fault 1 25 at 0");
 }
 
 /// What the proved replay is held to.

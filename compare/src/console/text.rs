@@ -20,7 +20,9 @@ pub fn event_text(event: &Event, piece: &[u8]) -> String {
         Event::End { id, stream } => format!("end {id} {}", stream_text(stream)),
         Event::Abort { id } => format!("abort {id}"),
         Event::Refuse { id, status } => format!("refuse {id} {}", status as u8),
-        Event::Fault { id, fault } => format!("fault {id} {}", fault as u8),
+        Event::Fault { id, fault } => {
+            format!("fault {id} {}{}", fault.number(), place_text(fault.place()))
+        }
         Event::Query(named) => format!(
             "query {}{}{}",
             u8::from(named.max_conns),
@@ -28,8 +30,13 @@ pub fn event_text(event: &Event, piece: &[u8]) -> String {
             u8::from(named.mpxs_conns)
         ),
         Event::Unknown { kind } => format!("unknown {kind}"),
-        Event::Closed(cause) => format!("closed {}", cause as u8),
+        Event::Closed(cause) => format!("closed {}{}", cause.number(), place_text(cause.place())),
     }
+}
+
+/// Where a list is malformed; nothing for the faults and closes that have no place.
+fn place_text(place: Option<u16>) -> String {
+    place.map_or(String::new(), |place| format!(" at {place}"))
 }
 
 pub fn stream_text(stream: Stream) -> &'static str {

@@ -1,5 +1,6 @@
 //! Lists of pairs: well formed, with a name that comes twice, or malformed.
 
+use super::broken::broken_list;
 use crate::pairs::{pair_length, write_pair};
 use crate::random::Random;
 use crate::state::AREA;
@@ -177,7 +178,8 @@ pub fn any_list(random: &mut Random) -> Vec<u8> {
             let length = random.within(400, AREA);
             filled_list(random, length)
         }
-        5..=7 => damaged_list(random),
+        5 => damaged_list(random),
+        6 | 7 => broken_list(random, AREA),
         8..=10 => repeating_list(random),
         11 if random.one_in(2) => many_names(random),
         11 => far_apart(random),

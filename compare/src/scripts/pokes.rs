@@ -232,11 +232,17 @@ impl Draft {
         }
     }
 
-    /// A damaged list, mostly of an active request: any of its bytes, or a name that then comes twice.
+    /// A damaged list, mostly of an active request: any of its bytes, a name that then comes twice, a pair that is
+    /// malformed.
     fn poke_list(&mut self, slot: usize) {
         let id = self.some_id();
         let slot = self.console.connection.find(id).unwrap_or(slot);
-        if self.random.one_in(2) && self.poke_name_twice(slot) {
+        let done = match self.random.below(4) {
+            0 => self.poke_name_twice(slot),
+            1 | 2 => self.poke_broken(),
+            _ => false,
+        };
+        if done {
             return;
         }
         let place = slot * AREA + self.random.index(24);

@@ -1,6 +1,6 @@
 //! What a web server sends: requests side by side, their records cut anywhere; and the same with damage.
 
-use super::lists::{any_list, damaged_list};
+use super::lists::any_list;
 use super::records::{begin_body, query, record};
 use super::{stream, Draft};
 use crate::console::words::hex;
@@ -177,7 +177,7 @@ impl Draft {
 
     /// A record that should not come, or not like this.
     fn damaged_record(&mut self, id: u16) -> Vec<u8> {
-        match self.random.below(14) {
+        match self.random.below(15) {
             0 => {
                 let mut bytes = self.next_record(id);
                 if !bytes.is_empty() && self.random.one_in(2) {
@@ -210,24 +210,10 @@ impl Draft {
                 record(&mut self.random, kind, id, &content)
             }
             5 => self.brimming_params(id),
-            6 | 7 => {
-                // A list that ends malformed.
-                let list = damaged_list(&mut self.random);
-                let mut bytes = record(&mut self.random, kind::PARAMS, id, &list);
-                bytes.extend(record(&mut self.random, kind::PARAMS, id, &[]));
-                bytes
-            }
-            8 => self.any_record(0),
-            9 => {
-                let content = query(&mut self.random);
-                record(&mut self.random, kind::GET_VALUES, 0, &content)
-            }
-            10 => {
-                let mut content = query(&mut self.random);
-                content.extend(damaged_list(&mut self.random));
-                record(&mut self.random, kind::GET_VALUES, 0, &content)
-            }
-            11 => {
+            6..=8 => self.malformed_params(id),
+            9 => self.any_record(0),
+            10 | 11 => self.malformed_query(),
+            12 => {
                 // The same record twice: a second end, a second abort.
                 let kind = self
                     .random
@@ -236,7 +222,7 @@ impl Draft {
                 bytes.extend(record(&mut self.random, kind, id, &[]));
                 bytes
             }
-            12 => {
+            13 => {
                 let n = self.random.within(1, 40);
                 self.random.bytes(n)
             }
@@ -257,8 +243,12 @@ impl Draft {
         record(&mut self.random, kind::PARAMS, id, &content)
     }
 
-    /// What no traffic can bring about: a name that comes twice after PARAMS has ended, a spent request that is live.
+    /// What no traffic can bring about: a malformed pair or a name that comes twice after PARAMS has ended, a spent
+    /// request that is live.
     fn change_some(&mut self) {
+        if self.random.one_in(2) && self.poke_broken() {
+            return;
+        }
         let id = self.some_id();
         match self.console.connection.find(id) {
             Some(slot) if self.random.one_in(2) => {

@@ -9,7 +9,8 @@ use connection::request::Role;
 use record::names;
 ghost use mathlib.Core.Path.{_≡_};
 ghost use Rattle.connection.specs.Codes.{roleNumber, streamType, outputType, statusNumber, faultNumber, closeNumber};
-ghost use Rattle.connection.specs.Codes.{refusalNumber};
+ghost use Rattle.connection.specs.Codes.{faultCause, closeCause, refusalNumber};
+ghost use Rattle.codes.specs.Place.{causeOf};
 
 pub fn role_number(role: Role) -> u8
     ensures { λ r. ⌜ r ≡ roleNumber role ⌝ }
@@ -57,7 +58,7 @@ pub fn fault_number(fault: Fault) -> u8
         Fault::OutOfTurn => 22,
         Fault::WrongType => 23,
         Fault::TooLong => 24,
-        Fault::Malformed => 25,
+        Fault::Malformed { at: _ } => 25,
         Fault::Repeated => 26,
     }
 }
@@ -69,7 +70,37 @@ pub fn close_number(close: Close) -> u8
         Close::Version => 11,
         Close::BeginLength => 12,
         Close::QueryLength => 13,
-        Close::QueryMalformed => 14,
+        Close::QueryMalformed { at: _ } => 14,
+    }
+}
+
+// The place that a fault or a close carries, if it does.
+pub enum Place {
+    Nowhere,
+    At(u16),
+}
+
+pub fn fault_place(fault: Fault) -> Place
+    ensures { λ r. ⌜ causeOf (faultNumber fault) r ≡ faultCause fault ⌝ }
+{
+    match fault {
+        Fault::BeginAgain => Place::Nowhere,
+        Fault::OutOfTurn => Place::Nowhere,
+        Fault::WrongType => Place::Nowhere,
+        Fault::TooLong => Place::Nowhere,
+        Fault::Malformed { at } => Place::At(at),
+        Fault::Repeated => Place::Nowhere,
+    }
+}
+
+pub fn close_place(close: Close) -> Place
+    ensures { λ r. ⌜ causeOf (closeNumber close) r ≡ closeCause close ⌝ }
+{
+    match close {
+        Close::Version => Place::Nowhere,
+        Close::BeginLength => Place::Nowhere,
+        Close::QueryLength => Place::Nowhere,
+        Close::QueryMalformed { at } => Place::At(at),
     }
 }
 

@@ -35,7 +35,7 @@ ghost use Rattle.connection.specs.Decision.{openState, applied};
 
 // Bytes of a query.
 fn of_query(f: Frame, gathered: &mut [u8], bytes: &[u8], p: Position) -> Decision
-    requires { ⌜ (f .gathered ≤ QUERY) × (length (now bytes) ≤ 65535) ⌝ }
+    requires { ⌜ (f .gathered ≤ QUERY) × (length (now bytes) ≤ 65535) × (length (now gathered) ≤ 65535) ⌝ }
     ensures { λ r. ⌜ ((t : Table) (s : List ℕ) → applied r t (now (gathered .exit)) s
         ≡ ofQuery (openState t f (now (gathered .entry))) s (now (bytes .entry)) p) ⌝ }
 {

@@ -16,7 +16,7 @@ ghost use mathlib.Core.List.{List};
 ghost use Prim.Native.Nat.{ℕ};
 ghost use Rattle.connection.specs.declared.state.Table.{Table};
 ghost use Rattle.connection.specs.declared.state.Frame.{Frame};
-ghost use Rattle.connection.specs.Codes.{closeNumber};
+ghost use Rattle.connection.specs.Codes.{closeCause};
 ghost use Rattle.connection.specs.Step.{noFrame, targetIf, frameAfter, frameWithin, frameAt, closes, closedConn};
 ghost use Rattle.connection.specs.Decision.{openState, applied};
 ghost use Rattle.conn_frame.specs.OnlyFrame.{onlyFrame};
@@ -104,7 +104,7 @@ pub fn only_frame(f: Frame, e: Event) -> Decision
 // The connection closes.
 pub fn closing(why: Close) -> Decision
     ensures { λ r. ⌜ ((t : Table) (fr : Frame) (g s : List ℕ) → applied r t g s
-        ≡ closes (openState t fr g) s (closeNumber why)) ⌝ }
+        ≡ closes (openState t fr g) s (closeCause why)) ⌝ }
 {
     Decision {
         change: Change::Close,

@@ -8,14 +8,16 @@ use connection::event::Event;
 use connection::sizes::QUERY;
 use connection::state::Frame;
 use connection::state::Target;
+use pair_list::Ending;
 use pair_list::Found;
 use pair_list::first_named;
-use pair_list::well_formed;
+use pair_list::list_ending;
 use record::header::Header;
 use record::names;
 ghost use mathlib.Core.Path.{_≡_};
 ghost use mathlib.Core.List.{List};
-ghost use Prim.Native.Nat.{ℕ};
+ghost use Prim.Native.Nat.{ℕ, _≤_};
+ghost use lib.ListN.{length};
 ghost use Rattle.connection.specs.declared.state.Table.{Table};
 ghost use Rattle.connection.specs.declared.state.Frame.{Frame};
 ghost use Rattle.connection.specs.Codes.{eventOf};
@@ -49,14 +51,17 @@ fn query_event(list: &[u8]) -> Event
 
 // A query that is whole.
 pub fn on_query(list: &[u8], f: Frame) -> Decision
+    requires { ⌜ length (now list) ≤ 65535 ⌝ }
     ensures { λ r. ⌜ ((t : Table) (fr : Frame) (g s : List ℕ) → applied r t g s
         ≡ queried (openState t fr g) s (now (list .entry)) f) ⌝ }
 {
-    if well_formed(list) {
+    let ending = list_ending(list);
+    let Ending::Malformed(place) = ending else {
         let e = query_event(list);
         return only_frame(f, e);
-    }
-    closing(Close::QueryMalformed)
+    };
+    let at = place as u16;
+    closing(Close::QueryMalformed { at: at })
 }
 
 // Rules 2 and 3: a header with id 0.

@@ -1,6 +1,7 @@
 -- What each case of the code's enums is in the rules' numbers and values.
 use Prim.Native.Nat.{ℕ}
 use Rattle.record.specs.Names.{RESPONDER, AUTHORIZER, FILTER, STDIN, STDOUT, STDERR, DATA, OVERLOADED, UNKNOWN-ROLE}
+use Rattle.machine.specs.Cause.{Cause, Plain, At, causeNumber}
 use Rattle.connection.specs.declared.request.Role.{Role}
 use Rattle.connection.specs.declared.event.Stream.{Stream}
 use Rattle.connection.specs.declared.event.Status.{Status}
@@ -32,19 +33,25 @@ statusNumber Status.Overloaded = OVERLOADED
 statusNumber Status.UnknownRole = UNKNOWN-ROLE
 
 -- faults and closes
+abbrev pub faultCause : Fault → Cause
+faultCause Fault.BeginAgain = Plain 21
+faultCause Fault.OutOfTurn = Plain 22
+faultCause Fault.WrongType = Plain 23
+faultCause Fault.TooLong = Plain 24
+faultCause (Fault.Malformed place) = At 25 place
+faultCause Fault.Repeated = Plain 26
+
 abbrev pub faultNumber : Fault → ℕ
-faultNumber Fault.BeginAgain = 21
-faultNumber Fault.OutOfTurn = 22
-faultNumber Fault.WrongType = 23
-faultNumber Fault.TooLong = 24
-faultNumber Fault.Malformed = 25
-faultNumber Fault.Repeated = 26
+faultNumber fault = causeNumber (faultCause fault)
+
+abbrev pub closeCause : Close → Cause
+closeCause Close.Version = Plain 11
+closeCause Close.BeginLength = Plain 12
+closeCause Close.QueryLength = Plain 13
+closeCause (Close.QueryMalformed place) = At 14 place
 
 abbrev pub closeNumber : Close → ℕ
-closeNumber Close.Version = 11
-closeNumber Close.BeginLength = 12
-closeNumber Close.QueryLength = 13
-closeNumber Close.QueryMalformed = 14
+closeNumber close = causeNumber (closeCause close)
 
 -- an event of the code
 abbrev pub eventOf : CodeEvent → Event
@@ -55,10 +62,10 @@ eventOf (CodeEvent.Data id stream n) = Event.Data id (streamType stream) n
 eventOf (CodeEvent.End id stream) = Event.End id (streamType stream)
 eventOf (CodeEvent.Abort id) = Event.Abort id
 eventOf (CodeEvent.Refuse id status) = Event.Refuse id (statusNumber status)
-eventOf (CodeEvent.Fault id fault) = Event.Fault id (faultNumber fault)
+eventOf (CodeEvent.Fault id fault) = Event.Fault id (faultCause fault)
 eventOf (CodeEvent.Query conns reqs mpxs) = Event.Query conns reqs mpxs
 eventOf (CodeEvent.Unknown kind) = Event.Unknown kind
-eventOf (CodeEvent.Closed close) = Event.Closed (closeNumber close)
+eventOf (CodeEvent.Closed close) = Event.Closed (closeCause close)
 
 -- refusals by their number in the table
 abbrev pub refusalNumber : Refusal → ℕ

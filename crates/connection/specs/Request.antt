@@ -3,12 +3,14 @@
 use Prim.Native.Nat.{ℕ, _+_}
 use mathlib.Core.Bool.{Bool, true, false, not}
 use mathlib.Core.List.{List}
+use mathlib.Core.Option.{Option, none, some}
 use lib.ListN.{length, take}
 use Rattle.wire.specs.Test.{if_then_else_, _<?_, _≤?_, _=?_}
 use Rattle.wire.specs.Buffer.{copied, zeros}
 use Rattle.record.specs.Names.{BEGIN-REQUEST, ABORT-REQUEST, PARAMS, STDIN, DATA}
-use Rattle.pair_list.specs.List.{wellFormed}
+use Rattle.pair_list.specs.List.{wellFormed, brokenAt}
 use Rattle.pair_repeats.specs.Repeats.{repeats}
+use Rattle.machine.specs.Cause.{Cause, Plain, At}
 use Rattle.connection.specs.declared.request.Role.{Role}
 use Rattle.connection.specs.declared.request.Turn.{Turn}
 use Rattle.connection.specs.declared.request.Life.{Life}
@@ -77,14 +79,14 @@ abbrev pub skipped : Held → Ruled
 skipped h = ruled h Due.Skip Event.None
 
 -- A fault zeroes the request's area, sets its length to 0 and spends it; the rest of the record is skipped.
-unfoldable pub faulted : Held → ℕ → Ruled
-faulted h n =
+unfoldable pub faulted : Held → Cause → Ruled
+faulted h cause =
     ruled
     (record {
       request = record { id = h .request .id; length = 0; state = withLife (h .request .state) Life.Faulted };
       area = zeros (length (h .area));
     })
-    Due.Skip (Event.Fault (h .request .id) n)
+    Due.Skip (Event.Fault (h .request .id) cause)
 
 -- An abort spends the request; its area stays.
 unfoldable pub aborted : Held → Ruled
@@ -97,20 +99,25 @@ unfoldable pub turned : Held → Turn → Event → Ruled
 turned h t e =
     ruled (record { request = withState (h .request) (withTurn (h .request .state) t); area = h .area }) Due.Skip e
 
--- What the end of PARAMS comes to: the number of a fault, or 0. A malformed list is fault 25; else one with two pairs of
--- the same name is fault 26 (house rule).
-unfoldable pub paramsFault : List ℕ → ℕ
-paramsFault list = if not (wellFormed list) then 25 else if repeats list then 26 else 0
+-- What the end of PARAMS comes to: a fault, or none. A malformed list is fault 25, at its place; else one with two pairs
+-- of the same name is fault 26 (house rule).
+unfoldable pub paramsFault : List ℕ → Option Cause
+paramsFault list =
+    if not (wellFormed list) then some (At 25 (brokenAt list))
+    else if repeats list then some (Plain 26)
+    else none
+
+abbrev pub endsBy : Option Cause → Held → Ruled
+endsBy none h = turned h (afterParams (h .request .state .role)) (Event.Ready (h .request .id) (h .request .length))
+endsBy (some cause) h = faulted h cause
 
 unfoldable pub paramsEnded : Held → Ruled
-paramsEnded h =
-    if paramsFault (listOf h) =? 0 then turned h (afterParams (h .request .state .role)) (Event.Ready (h .request .id) (h .request .length))
-    else faulted h (paramsFault (listOf h))
+paramsEnded h = endsBy (paramsFault (listOf h)) h
 
 -- Rule 8. PARAMS with n content bytes.
 unfoldable pub onParams : ℕ → Held → Ruled
 onParams n h =
-    if AREA <? h .request .length + n then faulted h 24
+    if AREA <? h .request .length + n then faulted h (Plain 24)
     else if n =? 0 then paramsEnded h
     else ruled h Due.Params Event.None
 
@@ -128,7 +135,7 @@ abbrev pub inTurn : Turn → ℕ → Held → Ruled
 inTurn Turn.Params n h = onParams n h
 inTurn Turn.Stdin n h = onStdin n h
 inTurn Turn.Data n h = onData n h
-inTurn Turn.Done n h = faulted h 22
+inTurn Turn.Done n h = faulted h (Plain 22)
 
 abbrev pub isInput : ℕ → Bool
 isInput kind = if kind =? PARAMS then true else if kind =? STDIN then true else kind =? DATA
@@ -136,15 +143,15 @@ isInput kind = if kind =? PARAMS then true else if kind =? STDIN then true else 
 -- Rule 7. A record of an input stream that is out of turn is fault 22.
 unfoldable pub onInput : ℕ → ℕ → Held → Ruled
 onInput kind n h =
-    if kind =? turnType (h .request .state .turn) then inTurn (h .request .state .turn) n h else faulted h 22
+    if kind =? turnType (h .request .state .turn) then inTurn (h .request .state .turn) n h else faulted h (Plain 22)
 
 -- Rules 6 to 10: a header of that type with n content bytes, for a request that is not spent.
 unfoldable pub onLive : ℕ → ℕ → Held → Ruled
 onLive kind n h =
-    if kind =? BEGIN-REQUEST then faulted h 21
+    if kind =? BEGIN-REQUEST then faulted h (Plain 21)
     else if kind =? ABORT-REQUEST then aborted h
     else if isInput kind then onInput kind n h
-    else faulted h 23
+    else faulted h (Plain 23)
 
 -- Rule 5: the records of a spent request are skipped in silence.
 unfoldable pub onHeader : ℕ → ℕ → Held → Ruled

@@ -13,7 +13,8 @@ use Rattle.record_reader.specs.Position.{betweenRecords, afterHeader, advanced}
 use Rattle.record_reader.specs.declared.Position.{Position}
 use Rattle.record_reader.specs.declared.Phase.{Phase}
 use Rattle.record_reader.specs.declared.Advanced.{Advanced}
-use Rattle.pair_list.specs.List.{wellFormed, isNamed, firstNamed}
+use Rattle.pair_list.specs.List.{wellFormed, brokenAt, isNamed, firstNamed}
+use Rattle.machine.specs.Cause.{Cause, Plain, At}
 use Rattle.pair_list.specs.declared.Found.{Found}
 use Rattle.connection.specs.declared.request.Role.{Role}
 use Rattle.connection.specs.declared.request.Due.{Due}
@@ -81,9 +82,9 @@ abbrev pub reads : State → List ℕ → Frame → Event → Left
 reads st store f e = record { conn = openWith (st .conn .table) f; gathered = st .gathered; store = store; event = e }
 
 -- A close frees all requests and zeroes the store. (The closes 11 to 14 are house rules.)
-unfoldable pub closes : State → List ℕ → ℕ → Left
-closes st store n =
-    record { conn = closedConn; gathered = st .gathered; store = zeros (length store); event = Event.Closed n }
+unfoldable pub closes : State → List ℕ → Cause → Left
+closes st store cause =
+    record { conn = closedConn; gathered = st .gathered; store = zeros (length store); event = Event.Closed cause }
 
 -- the request of slot i is put back as the rules left it
 abbrev pub putsBack : State → List ℕ → ℕ → Held → Frame → Event → Left
@@ -112,16 +113,16 @@ names list name = isNamed (firstNamed list name)
 unfoldable pub queryOf : List ℕ → Event
 queryOf list = Event.Query (names list MAX-CONNS) (names list MAX-REQS) (names list MPXS-CONNS)
 
--- At its last byte: malformed pairs close the connection by 14 (house rule).
+-- At its last byte: malformed pairs close the connection by 14 (house rule), at their place.
 unfoldable pub queried : State → List ℕ → List ℕ → Frame → Left
-queried st store list f = if wellFormed list then reads st store f (queryOf list) else closes st store 14
+queried st store list f = if wellFormed list then reads st store f (queryOf list) else closes st store (At 14 (brokenAt list))
 
 -- ---- the eighth header byte
 -- Rules 2 and 3: id 0. A query that is too long closes the connection by 13 (house rule).
 unfoldable pub onManagement : State → List ℕ → Header → Left
 onManagement st store h =
     if h .kind =? GET-VALUES then
-    (if QUERY <? h .content then closes st store 13
+    (if QUERY <? h .content then closes st store (Plain 13)
     else if h .content =? 0 then queried st store [] (frameAfter h Target.Skip)
     else reads st store (frameAfter h Target.Query) Event.None)
     else reads st store (frameAfter h Target.Skip) (Event.Unknown (h .kind))
@@ -130,7 +131,7 @@ onManagement st store h =
 unfoldable pub onInactive : State → List ℕ → Header → Left
 onInactive st store h =
     if h .kind =? BEGIN-REQUEST then
-    (if h .content =? 8 then reads st store (frameAfter h (Target.Begin (h .id))) Event.None else closes st store 12)
+    (if h .content =? 8 then reads st store (frameAfter h (Target.Begin (h .id))) Event.None else closes st store (Plain 12))
     else reads st store (frameAfter h Target.Skip) Event.None
 
 -- where the content of the request in slot i goes
@@ -153,7 +154,7 @@ judged st store h =
     if h .version =? VERSION then
     (if h .id =? 0 then onManagement st store h
     else onSlot (find (st .conn .table) (h .id)) (onActive st store h) (onInactive st store h))
-    else closes st store 11
+    else closes st store (Plain 11)
 
 -- ---- content bytes; p is the position after them
 -- A BEGIN body's eighth byte: an unknown role is refused by 3, else no free slot by 2 (house rule); else the request is

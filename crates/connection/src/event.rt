@@ -20,7 +20,8 @@ pub enum Fault {
     OutOfTurn,
     WrongType,
     TooLong,
-    Malformed,
+    // `at` is where the pair starts that cannot be read, counted in the list.
+    Malformed { at: u16 },
     Repeated,
 }
 
@@ -30,7 +31,8 @@ pub enum Close {
     Version,
     BeginLength,
     QueryLength,
-    QueryMalformed,
+    // `at` is where the pair starts that cannot be read.
+    QueryMalformed { at: u16 },
 }
 
 // `id` is the request that an event is about; the last three are about none.

@@ -80,10 +80,20 @@ fn ask_pair(page: &mut [u8], c: Conn, lent: &[u8], id: u16, k: usize) -> usize {
     }
 }
 
-// Where a walk stops.
-fn put_stop(page: &mut [u8], at: usize, place: usize) -> usize {
-    let a = put(page, at, b" stop");
+// A word, and a place.
+fn put_place(page: &mut [u8], at: usize, word: &[u8], place: usize) -> usize {
+    let a = put(page, at, word);
     put_number(page, a, b" ", place as u64)
+}
+
+// How a walk stops at its place: at the end, or before a malformed pair.
+fn put_stop(page: &mut [u8], at: usize, read: ReadFrom, place: usize) -> usize {
+    match read {
+        ReadFrom::Pair(_, _) => put_place(page, at, b" end", place),
+        ReadFrom::End => put_place(page, at, b" end", place),
+        ReadFrom::Malformed(broken) => put_place(page, at, b" malformed at", broken),
+        ReadFrom::Refused(_) => put_place(page, at, b" end", place),
+    }
 }
 
 // The pairs that reading on gives, and the place where it gives none. A proved loop has to end: so it counts its turns
@@ -95,13 +105,13 @@ fn put_walk(page: &mut [u8], at: usize, c: Conn, lent: &[u8], id: u16) -> usize 
     while turns > 0 {
         let read = pair_from(c, lent, id, place);
         let ReadFrom::Pair(p, after) = read else {
-            return put_stop(page, next, place);
+            return put_stop(page, next, read, place);
         };
         next = put_pair(page, next, p, b",");
         place = after;
         turns -= 1;
     }
-    put_stop(page, next, place)
+    put_stop(page, next, ReadFrom::End, place)
 }
 
 // A refused walk holds no bytes: one that did would be told as a change.

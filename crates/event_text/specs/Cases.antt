@@ -5,6 +5,7 @@ use mathlib.Core.List.{[], _∷_, flatten}
 use lib.ListN.{length}
 use Rattle.connection.specs.Event.{Event}
 use Rattle.event_text.specs.Line.{LONGEST, decimalIn, decimal, hexDigit, eventLine, byteLine, eventLines}
+use Rattle.machine.specs.Cause.{Plain, At}
 
 -- open 65535 authorizer keep
 opened : eventLine (Event.Open 65535 2 true) ≡ 111 ∷ 112 ∷ 101 ∷ 110 ∷ 32 ∷ 54 ∷ 53 ∷ 53 ∷ 51 ∷ 53 ∷ 32 ∷ 97 ∷ 117 ∷ 116 ∷ 104 ∷ 111 ∷ 114 ∷ 105 ∷ 122 ∷ 101 ∷ 114 ∷ 32 ∷ 107 ∷ 101 ∷ 101 ∷ 112 ∷ 10 ∷ []
@@ -32,9 +33,14 @@ unfolding decimalIn decimal eventLine
 ended = refl
 
 -- fault 300 24
-faulted : eventLine (Event.Fault 300 24) ≡ 102 ∷ 97 ∷ 117 ∷ 108 ∷ 116 ∷ 32 ∷ 51 ∷ 48 ∷ 48 ∷ 32 ∷ 50 ∷ 52 ∷ 10 ∷ []
+faulted : eventLine (Event.Fault 300 (Plain 24)) ≡ 102 ∷ 97 ∷ 117 ∷ 108 ∷ 116 ∷ 32 ∷ 51 ∷ 48 ∷ 48 ∷ 32 ∷ 50 ∷ 52 ∷ 10 ∷ []
 unfolding decimalIn decimal eventLine
 faulted = refl
+
+-- fault 1 25 at 15
+broken : eventLine (Event.Fault 1 (At 25 15)) ≡ 102 ∷ 97 ∷ 117 ∷ 108 ∷ 116 ∷ 32 ∷ 49 ∷ 32 ∷ 50 ∷ 53 ∷ 32 ∷ 97 ∷ 116 ∷ 32 ∷ 49 ∷ 53 ∷ 10 ∷ []
+unfolding decimalIn decimal eventLine
+broken = refl
 
 -- query 101
 queried : eventLine (Event.Query true false true) ≡ 113 ∷ 117 ∷ 101 ∷ 114 ∷ 121 ∷ 32 ∷ 49 ∷ 48 ∷ 49 ∷ 10 ∷ []
@@ -47,9 +53,14 @@ unfolding decimalIn decimal eventLine
 unknown = refl
 
 -- closed 11
-closed : eventLine (Event.Closed 11) ≡ 99 ∷ 108 ∷ 111 ∷ 115 ∷ 101 ∷ 100 ∷ 32 ∷ 49 ∷ 49 ∷ 10 ∷ []
+closed : eventLine (Event.Closed (Plain 11)) ≡ 99 ∷ 108 ∷ 111 ∷ 115 ∷ 101 ∷ 100 ∷ 32 ∷ 49 ∷ 49 ∷ 10 ∷ []
 unfolding decimalIn decimal eventLine
 closed = refl
+
+-- closed 14 at 16
+broken-query : eventLine (Event.Closed (At 14 16)) ≡ 99 ∷ 108 ∷ 111 ∷ 115 ∷ 101 ∷ 100 ∷ 32 ∷ 49 ∷ 52 ∷ 32 ∷ 97 ∷ 116 ∷ 32 ∷ 49 ∷ 54 ∷ 10 ∷ []
+unfolding decimalIn decimal eventLine
+broken-query = refl
 
 -- byte 7 data 00, byte 7 data af
 bytes : eventLines (Event.Data 7 8 2) (0 ∷ 175 ∷ []) ≡ 98 ∷ 121 ∷ 116 ∷ 101 ∷ 32 ∷ 55 ∷ 32 ∷ 100 ∷ 97 ∷ 116 ∷ 97 ∷ 32 ∷ 48 ∷ 48 ∷ 10 ∷ 98 ∷ 121 ∷ 116 ∷ 101 ∷ 32 ∷ 55 ∷ 32 ∷ 100 ∷ 97 ∷ 116 ∷ 97 ∷ 32 ∷ 97 ∷ 102 ∷ 10 ∷ []

@@ -8,7 +8,8 @@ use Rattle.wire.specs.Buffer.{hasRoom}
 use Rattle.record_writer.specs.Written.{Placed, placed}
 use Rattle.record.specs.Names.{RESPONDER, AUTHORIZER, STDIN}
 use Rattle.connection.specs.Event.{Event}
-use Rattle.event_text.specs.Words.{openWord, readyWord, byteWord, endWord, abortWord, refuseWord, faultWord, queryWord, unknownWord, closedWord, responderWord, authorizerWord, filterWord, keepWord, dropWord, stdinWord, dataWord}
+use Rattle.event_text.specs.Words.{atWord, openWord, readyWord, byteWord, endWord, abortWord, refuseWord, faultWord, queryWord, unknownWord, closedWord, responderWord, authorizerWord, filterWord, keepWord, dropWord, stdinWord, dataWord}
+use Rattle.machine.specs.Cause.{Cause, Plain, At}
 
 -- The most bytes of a line, that of `open 65535 authorizer keep`. The code has the same name.
 abbrev pub LONGEST : ℕ
@@ -63,6 +64,11 @@ fieldsText (field ∷ fields) = 32 ∷ (field ++ fieldsText fields)
 abbrev pub line : List ℕ → List (List ℕ) → List ℕ
 line word fields = word ++ fieldsText fields
 
+-- A cause: its number and, where it has one, its place.
+abbrev pub causeText : Cause → List ℕ
+causeText (Plain n) = decimal n
+causeText (At n place) = decimal n ++ 32 ∷ (atWord ++ 32 ∷ decimal place)
+
 -- The line of an event. None has no line, and Data has one for each byte, below.
 unfoldable pub eventLine : Event → List ℕ
 eventLine Event.None = []
@@ -72,10 +78,10 @@ eventLine (Event.Data id stream n) = []
 eventLine (Event.End id stream) = line endWord (decimal id ∷ streamWord stream ∷ [])
 eventLine (Event.Abort id) = line abortWord (decimal id ∷ [])
 eventLine (Event.Refuse id n) = line refuseWord (decimal id ∷ decimal n ∷ [])
-eventLine (Event.Fault id n) = line faultWord (decimal id ∷ decimal n ∷ [])
+eventLine (Event.Fault id cause) = line faultWord (decimal id ∷ causeText cause ∷ [])
 eventLine (Event.Query conns reqs mpxs) = line queryWord ((flag conns ∷ flag reqs ∷ flag mpxs ∷ []) ∷ [])
 eventLine (Event.Unknown kind) = line unknownWord (decimal kind ∷ [])
-eventLine (Event.Closed n) = line closedWord (decimal n ∷ [])
+eventLine (Event.Closed cause) = line closedWord (causeText cause ∷ [])
 
 -- The line of a data byte: id, stream, byte.
 unfoldable pub byteLine : ℕ → ℕ → ℕ → List ℕ

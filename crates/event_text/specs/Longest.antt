@@ -12,10 +12,15 @@ use Rattle.record_writer.specs.Written.{Placed}
 use Rattle.record.specs.Names.{RESPONDER, AUTHORIZER, STDIN}
 use Rattle.connection.specs.Event.{Event}
 use Rattle.event_text.specs.Words.{openWord, readyWord, byteWord, endWord, abortWord, refuseWord, faultWord, queryWord, unknownWord, closedWord}
-use Rattle.event_text.specs.Line.{LONGEST, decimal, hex, flag, roleWord, streamWord, keptWord, line, eventLine, byteLine, linePlaced}
+use Rattle.event_text.specs.Line.{LONGEST, causeText, decimal, hex, flag, roleWord, streamWord, keptWord, line, eventLine, byteLine, linePlaced}
 use Rattle.event_text.specs.LineLaws.{decimal-short}
+use Rattle.machine.specs.Cause.{Cause, Plain, At}
 
 -- The numbers of an event that its line has in decimal fit in sixteen bits.
+abbrev pub CauseFits : Cause → Type 0
+CauseFits (Plain n) = n < 65536
+CauseFits (At n place) = (n < 65536) × (place < 65536)
+
 abbrev pub NumbersFit : Event → Type 0
 NumbersFit Event.None = Unit {0}
 NumbersFit (Event.Open id role keep) = id < 65536
@@ -24,10 +29,10 @@ NumbersFit (Event.Data id stream n) = Unit {0}
 NumbersFit (Event.End id stream) = id < 65536
 NumbersFit (Event.Abort id) = id < 65536
 NumbersFit (Event.Refuse id n) = (id < 65536) × (n < 65536)
-NumbersFit (Event.Fault id n) = (id < 65536) × (n < 65536)
+NumbersFit (Event.Fault id cause) = (id < 65536) × CauseFits cause
 NumbersFit (Event.Query conns reqs mpxs) = Unit {0}
 NumbersFit (Event.Unknown kind) = kind < 65536
-NumbersFit (Event.Closed n) = n < 65536
+NumbersFit (Event.Closed cause) = CauseFits cause
 
 -- lines of one, two and three fields
 one-field : (w x : List ℕ) → length w + length x ≤ 25 → length (line w (x ∷ [])) ≤ LONGEST
@@ -51,6 +56,10 @@ kept-short : (keep : Bool) → length (keptWord keep) ≤ 4
 kept-short true = omega arith
 kept-short false = omega arith
 
+cause-short : (cause : Cause) → CauseFits cause → length (causeText cause) ≤ 14
+cause-short (Plain n) h = omega (arith, decimal-short n h)
+cause-short (At n place) h = simp length-append (omega (arith, decimal-short n (h .0), decimal-short place (h .1)))
+
 -- the line of an event, and that of a byte
 pub event-line-short : (e : Event) → NumbersFit e → length (eventLine e) ≤ LONGEST
 unfolding eventLine
@@ -62,10 +71,10 @@ event-line-short (Event.Data id stream n) h = omega arith
 event-line-short (Event.End id stream) h = two-fields endWord (decimal id) (streamWord stream) (omega (arith, decimal-short id h, stream-short stream))
 event-line-short (Event.Abort id) h = one-field abortWord (decimal id) (omega (arith, decimal-short id h))
 event-line-short (Event.Refuse id n) h = two-fields refuseWord (decimal id) (decimal n) (omega (arith, decimal-short id (h .0), decimal-short n (h .1)))
-event-line-short (Event.Fault id n) h = two-fields faultWord (decimal id) (decimal n) (omega (arith, decimal-short id (h .0), decimal-short n (h .1)))
+event-line-short (Event.Fault id cause) h = two-fields faultWord (decimal id) (causeText cause) (omega (arith, decimal-short id (h .0), cause-short cause (h .1)))
 event-line-short (Event.Query conns reqs mpxs) h = one-field queryWord (flag conns ∷ flag reqs ∷ flag mpxs ∷ []) (omega arith)
 event-line-short (Event.Unknown kind) h = one-field unknownWord (decimal kind) (omega (arith, decimal-short kind h))
-event-line-short (Event.Closed n) h = one-field closedWord (decimal n) (omega (arith, decimal-short n h))
+event-line-short (Event.Closed cause) h = one-field closedWord (causeText cause) (omega (arith, cause-short cause h))
 
 pub byte-line-short : (id stream byte : ℕ) → id < 65536 → length (byteLine id stream byte) ≤ LONGEST
 unfolding byteLine

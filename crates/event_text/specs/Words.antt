@@ -65,6 +65,11 @@ keepWord = 107 ∷ 101 ∷ 101 ∷ 112 ∷ []
 abbrev pub dropWord : List ℕ
 dropWord = 100 ∷ 114 ∷ 111 ∷ 112 ∷ []
 
+-- ---- a place
+-- "at"
+abbrev pub atWord : List ℕ
+atWord = 97 ∷ 116 ∷ []
+
 -- ---- streams
 -- "stdin"
 abbrev pub stdinWord : List ℕ

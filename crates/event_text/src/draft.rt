@@ -1,4 +1,5 @@
 // A line in the making, and what is added to it.
+use codes::Place;
 use connection::event::Stream;
 use connection::request::Role;
 use wire::copy_into;
@@ -7,7 +8,8 @@ ghost use mathlib.Core.List.{[], _∷_};
 ghost use Prim.Native.Nat.{_+_, _≤_, _<_};
 ghost use lib.ListN.{length};
 ghost use Rattle.connection.specs.Codes.{roleNumber, streamType};
-ghost use Rattle.event_text.specs.Line.{LONGEST, decimal, hexDigit, hex, roleWord, streamWord, keptWord};
+ghost use Rattle.codes.specs.Place.{causeOf};
+ghost use Rattle.event_text.specs.Line.{LONGEST, decimal, causeText, hexDigit, hex, roleWord, streamWord, keptWord};
 ghost use Rattle.event_text.specs.Draft.{Says, Adds};
 
 // The most bytes of a line.
@@ -83,6 +85,18 @@ pub fn add_number(d: Draft, n: u16) -> Draft
     ensures { λ r. ⌜ Adds d r (32 ∷ decimal n) 6 ⌝ }
 {
     add_decimal(add(d, b" "), n)
+}
+
+// Adds a space and a cause: its number and, where it has one, its place.
+pub fn add_cause(d: Draft, n: u16, place: Place) -> Draft
+    requires { ⌜ d .n + 15 ≤ LONGEST ⌝ }
+    ensures { λ r. ⌜ Adds d r (32 ∷ causeText (causeOf n place)) 15 ⌝ }
+{
+    let numbered = add_number(d, n);
+    match place {
+        Place::Nowhere => numbered,
+        Place::At(at) => add_number(add(numbered, b" at"), at),
+    }
 }
 
 fn hex_digit(d: u8) -> u8

@@ -1,6 +1,7 @@
 // The lines of events, made in a draft.
 use crate::draft::Draft;
 use crate::draft::add;
+use crate::draft::add_cause;
 use crate::draft::add_hex;
 use crate::draft::add_kept;
 use crate::draft::add_number;
@@ -10,7 +11,9 @@ use crate::draft::begin;
 use crate::draft::blank;
 use crate::draft::finish;
 use codes::close_number;
+use codes::close_place;
 use codes::fault_number;
+use codes::fault_place;
 use codes::status_number;
 use connection::event::Close;
 use connection::event::Event;
@@ -22,8 +25,8 @@ ghost use mathlib.Core.Path.{_≡_};
 ghost use mathlib.Core.List.{[], _∷_};
 ghost use Prim.Native.Nat.{_≤_};
 ghost use lib.ListN.{length};
-ghost use Rattle.connection.specs.Codes.{roleNumber, streamType, statusNumber, faultNumber, closeNumber, eventOf};
-ghost use Rattle.event_text.specs.Line.{LONGEST, decimal, flag, roleWord, streamWord, keptWord, line};
+ghost use Rattle.connection.specs.Codes.{roleNumber, streamType, statusNumber, faultCause, closeCause, eventOf};
+ghost use Rattle.event_text.specs.Line.{LONGEST, decimal, causeText, flag, roleWord, streamWord, keptWord, line};
 ghost use Rattle.event_text.specs.Line.{eventLine, byteLine};
 ghost use Rattle.event_text.specs.Words.{openWord, readyWord, endWord, abortWord, refuseWord, faultWord};
 ghost use Rattle.event_text.specs.Words.{queryWord, unknownWord, closedWord};
@@ -77,9 +80,12 @@ fn refuse_line(id: u16, status: Status) -> Draft
 }
 
 fn fault_line(id: u16, fault: Fault) -> Draft
-    ensures { λ r. ⌜ Says r (line faultWord (decimal id ∷ decimal (faultNumber fault) ∷ [])) LONGEST ⌝ }
+    ensures { λ r. ⌜ Says r (line faultWord (decimal id ∷ causeText (faultCause fault) ∷ [])) LONGEST ⌝ }
 {
-    line_of_two(b"fault", id, fault_number(fault) as u16)
+    let begun = add_number(begin(b"fault"), id);
+    let n = fault_number(fault) as u16;
+    let place = fault_place(fault);
+    finish(add_cause(begun, n, place))
 }
 
 fn flag_digit(named: bool) -> u8
@@ -108,9 +114,12 @@ fn unknown_line(kind: u8) -> Draft
 }
 
 fn closed_line(close: Close) -> Draft
-    ensures { λ r. ⌜ Says r (line closedWord (decimal (closeNumber close) ∷ [])) LONGEST ⌝ }
+    ensures { λ r. ⌜ Says r (line closedWord (causeText (closeCause close) ∷ [])) LONGEST ⌝ }
 {
-    line_of_one(b"closed", close_number(close) as u16)
+    let begun = begin(b"closed");
+    let n = close_number(close) as u16;
+    let place = close_place(close);
+    finish(add_cause(begun, n, place))
 }
 
 pub(crate) fn event_line(e: Event) -> Draft

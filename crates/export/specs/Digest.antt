@@ -5,6 +5,7 @@ use mathlib.Core.List.{List}
 use lib.ListN.{length, take, drop}
 use Rattle.wire.specs.Test.{if_then_else_, _<?_, _≤?_, _=?_}
 use Rattle.wire.specs.Buffer.{zeros}
+use Rattle.machine.specs.Cause.{Cause, Plain, At, causeNumber}
 use Rattle.connection.specs.Event.{Event}
 use Rattle.connection.specs.Step.{State, stepped, started}
 use Rattle.connection.specs.Step.{stateOf}
@@ -17,6 +18,11 @@ packed kind id what n = kind + id * 256 + what * 16777216 + n * 4294967296
 abbrev pub flagNumber : Bool → ℕ
 flagNumber b = if b then 1 else 0
 
+-- the place that a cause has, or 0
+abbrev pub placeOf : Cause → ℕ
+placeOf (Plain n) = 0
+placeOf (At n place) = place
+
 abbrev pub weight : Event → ℕ
 weight Event.None = packed 0 0 0 0
 weight (Event.Open id role keep) = packed 1 id role (flagNumber keep)
@@ -25,10 +31,10 @@ weight (Event.Data id stream n) = packed 3 id stream (n % 65536)
 weight (Event.End id stream) = packed 4 id stream 0
 weight (Event.Abort id) = packed 5 id 0 0
 weight (Event.Refuse id n) = packed 6 id n 0
-weight (Event.Fault id n) = packed 7 id n 0
+weight (Event.Fault id cause) = packed 7 id (causeNumber cause) (placeOf cause)
 weight (Event.Query conns reqs mpxs) = packed 8 (flagNumber conns) (flagNumber reqs) (flagNumber mpxs)
 weight (Event.Unknown kind) = packed 9 0 kind 0
-weight (Event.Closed n) = packed 10 0 n 0
+weight (Event.Closed cause) = packed 10 0 (causeNumber cause) (placeOf cause)
 
 -- a refusal, or else the event
 abbrev pub toldWeight : ℕ → Event → ℕ

@@ -1,7 +1,12 @@
 // The receiver linked from another language: a whole input is fed to a fresh connection, piece by piece, and all that
 // its steps tell comes back as one number, by which two receivers can be compared and a step's cost be measured.
+use codes::Place;
+use codes::close_place;
+use codes::fault_place;
+use fastcgi::Close;
 use fastcgi::Conn;
 use fastcgi::Event;
+use fastcgi::Fault;
 use fastcgi::QUERY;
 use fastcgi::StepResult;
 use fastcgi::close_number;
@@ -13,11 +18,12 @@ use fastcgi::status_number;
 use fastcgi::step;
 use fastcgi::stream_type;
 ghost use mathlib.Core.Path.{_≡_};
-ghost use Prim.Native.Nat.{_≤_, _<_};
+ghost use Prim.Native.Nat.{ℕ, _≤_, _<_};
 ghost use Rattle.call_step.specs.Answer.{toldNumber, toldEvent};
 ghost use Rattle.connection.specs.Step.{stateOf};
-ghost use Rattle.connection.specs.Codes.{eventOf};
-ghost use Rattle.export.specs.Digest.{flagNumber, packed, weight, toldWeight, mixed, nextEnd, fedBy, fedAll};
+ghost use Rattle.connection.specs.Codes.{eventOf, faultNumber, faultCause, closeNumber, closeCause};
+ghost use Rattle.codes.specs.Place.{causeOf};
+ghost use Rattle.export.specs.Digest.{flagNumber, packed, placeOf, weight, toldWeight, mixed, nextEnd, fedBy, fedAll};
 ghost use Rattle.export.specs.Digest.{digestBy, digest};
 
 fn flag(b: bool) -> u8
@@ -31,6 +37,30 @@ fn pack(kind: u8, id: u16, what: u8, n: u16) -> u64
     ensures { λ r. ⌜ (r ≡ packed kind id what n) × (r < 281474976710656) ⌝ }
 {
     kind as u64 + id as u64 * 256 + what as u64 * 16777216 + n as u64 * 4294967296
+}
+
+// The place, or 0 for none.
+fn place_number(place: Place) -> u16
+    ensures { λ r. ⌜ ((n : ℕ) → r ≡ placeOf (causeOf n place)) ⌝ }
+{
+    match place {
+        Place::Nowhere => 0,
+        Place::At(at) => at,
+    }
+}
+
+fn fault_weight(id: u16, fault: Fault) -> u64
+    ensures { λ r. ⌜ (r ≡ packed 7 id (faultNumber fault) (placeOf (faultCause fault))) × (r < 281474976710656) ⌝ }
+{
+    let at = place_number(fault_place(fault));
+    pack(7, id, fault_number(fault), at)
+}
+
+fn closed_weight(cause: Close) -> u64
+    ensures { λ r. ⌜ (r ≡ packed 10 0 (closeNumber cause) (placeOf (closeCause cause))) × (r < 281474976710656) ⌝ }
+{
+    let at = place_number(close_place(cause));
+    pack(10, 0, close_number(cause), at)
 }
 
 // The number of an event.
@@ -50,7 +80,7 @@ fn event_weight(e: Event) -> u64
         Event::End { id, stream } => pack(4, id, stream_type(stream), 0),
         Event::Abort { id } => pack(5, id, 0, 0),
         Event::Refuse { id, status } => pack(6, id, status_number(status), 0),
-        Event::Fault { id, fault } => pack(7, id, fault_number(fault), 0),
+        Event::Fault { id, fault } => fault_weight(id, fault),
         Event::Query {
             max_conns,
             max_reqs,
@@ -62,7 +92,7 @@ fn event_weight(e: Event) -> u64
             flag(mpxs_conns) as u16,
         ),
         Event::Unknown { kind } => pack(9, 0, kind, 0),
-        Event::Closed { cause } => pack(10, 0, close_number(cause), 0),
+        Event::Closed { cause } => closed_weight(cause),
     }
 }
 

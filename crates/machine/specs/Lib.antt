@@ -1,6 +1,7 @@
 pub mod Slots
 pub mod Timeline
 pub mod TimelineLaws
+pub mod Cause
 pub mod Machine
 pub mod Purge
 pub mod RunLaws

@@ -6,6 +6,7 @@ use mathlib.Core.Bool.{Bool, true, false}
 use Prim.Native.Nat.{ℕ, zero, suc}
 use lib.ListN.{length, set, replicate}
 use Rattle.wire.specs.Test.{if_then_else_, _<?_, _=?_}
+use Rattle.machine.specs.Cause.{Cause}
 use Rattle.machine.specs.Timeline.{RequestCall, CountCall, Item, ByteItem, CallItem, headerVersion, headerType, headerId, headerContent, headerPadding}
 use Rattle.machine.specs.Slots.{SlotState, Vacant, HeldBy, Lookup, Absent, FoundAt, Vacancy, NoVacancy, VacancyAt, lookup, firstVacancy, slotAt}
 
@@ -35,6 +36,11 @@ pub data ManagementOutcome (Notice : Type 0) : Type 0 where
   Notices : Notice → ManagementOutcome Notice
   Gathers : ManagementOutcome Notice
 
+-- On a whole query: what is told of it, or the place where it is malformed.
+pub data QueryOutcome (Notice : Type 0) : Type 0 where
+  Asks : Notice → QueryOutcome Notice
+  Breaks : ℕ → QueryOutcome Notice
+
 -- A machine of one request. It sees that request and nothing else: no slot number and no other request.
 pub record Machine : Type 1 where
   -- what a free slot keeps, and what it keeps when it is clean
@@ -58,11 +64,10 @@ pub record Machine : Type 1 where
   -- a whole BEGIN body for an id, and the event where no slot is free for it
   pub onBegin : ℕ → List ℕ → BeginOutcome Leftover Request Event
   pub overloaded : Event
-  -- a header of an id that is not active, a header of id 0 (type and content length), a whole query (none: it is
-  -- malformed)
+  -- a header of an id that is not active, a header of id 0 (type and content length), a whole query
   pub onInactive : ℕ → ℕ → InactiveOutcome
   pub onManagement : ℕ → ℕ → ManagementOutcome Notice
-  pub onQuery : List ℕ → Option Notice
+  pub onQuery : List ℕ → QueryOutcome Notice
   -- a call that names the request; the answers where the id is not active and where the connection is closed
   pub onCall : Argument → Request → CallOutcome Request Answer
   pub whenInactive : Argument → Answer
@@ -99,12 +104,12 @@ module _ (M : Machine) where
   fresh n = Open (replicate n (Vacant clean)) (AtHeader [])
 
   -- ---- observations
-  -- What is observed: an event of a request, one of a management record, a close with its number, the slots that the
+  -- What is observed: an event of a request, one of a management record, a close with its cause, the slots that the
   -- active number is counted from (none: closed), and the answer of a call with the request before and after it.
   pub data Observation : Type 0 where
     RequestEvent : ℕ → Event → Observation
     NoticeEvent : Notice → Observation
-    CloseEvent : ℕ → Observation
+    CloseEvent : Cause → Observation
     CountAnswer : Option Slots → Observation
     CallAnswer : ℕ → Argument → Answer → Option Request → Option Request → Observation
 
@@ -125,10 +130,10 @@ module _ (M : Machine) where
   withLeft s (suc c) p = PastHeader s (suc c) p
 
   -- ---- a header
-  -- a query is whole: a malformed one closes the connection by 14
-  unfoldable pub queryWhole : Option Notice → Slots → Reading → Effect
-  queryWhole none T F = (Closed, some (CloseEvent 14))
-  queryWhole (some w) T F = (Open T F, some (NoticeEvent w))
+  -- a query is whole: a malformed one closes the connection by 14, with its place
+  unfoldable pub queryWhole : QueryOutcome Notice → Slots → Reading → Effect
+  queryWhole (Breaks place) T F = (Closed, some (CloseEvent (Cause.At 14 place)))
+  queryWhole (Asks w) T F = (Open T F, some (NoticeEvent w))
 
   -- the header of a query: without content it is whole at once
   unfoldable pub queryHeader : ℕ → Slots → ℕ → Effect
@@ -137,13 +142,13 @@ module _ (M : Machine) where
 
   -- a header of id 0: a query that is too long closes the connection by 13
   unfoldable pub managementHeader : ManagementOutcome Notice → Slots → List ℕ → Effect
-  managementHeader QueryTooLong T h = (Closed, some (CloseEvent 13))
+  managementHeader QueryTooLong T h = (Closed, some (CloseEvent (Cause.Plain 13)))
   managementHeader (Notices w) T h = (Open T (withLeft Skip (headerContent h) (headerPadding h)), some (NoticeEvent w))
   managementHeader Gathers T h = queryHeader (headerContent h) T (headerPadding h)
 
   -- a header of an id that is not active: a BEGIN record of a wrong length closes the connection by 12
   unfoldable pub inactiveHeader : InactiveOutcome → Slots → List ℕ → Effect
-  inactiveHeader WrongBegin T h = (Closed, some (CloseEvent 12))
+  inactiveHeader WrongBegin T h = (Closed, some (CloseEvent (Cause.Plain 12)))
   inactiveHeader PassedOver T h = (Open T (withLeft Skip (headerContent h) (headerPadding h)), none)
   inactiveHeader NewBegin T h = (Open T (withLeft (ToBegin (headerId h) []) (headerContent h) (headerPadding h)), none)
 
@@ -169,7 +174,7 @@ module _ (M : Machine) where
 
   -- is its version 1? Any other closes the connection by 11.
   unfoldable pub headerVersioned : Bool → Slots → List ℕ → Effect
-  headerVersioned false T h = (Closed, some (CloseEvent 11))
+  headerVersioned false T h = (Closed, some (CloseEvent (Cause.Plain 11)))
   headerVersioned true T h = headerRouted (headerId h =? 0) T h
 
   -- are its bytes fewer than eight still?

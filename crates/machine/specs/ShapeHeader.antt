@@ -11,7 +11,7 @@ use borrow.Author.Tests.{eqb-false, ltb-true}
 use Rattle.machine.specs.Slots.{HeldBy, Lookup, Absent, FoundAt, lookup, slotAt, LookupRight, lookup-right, slot-written}
 use Rattle.record.specs.Header.{headerOf}
 use Rattle.machine.specs.Timeline.{headerVersion, headerType, headerId, headerContent, headerPadding}
-use Rattle.machine.specs.Machine.{HeaderOutcome, Decided, InactiveOutcome, WrongBegin, NewBegin, PassedOver, ManagementOutcome, QueryTooLong, Notices, Gathers, Machine, Target, Skip, ToBegin, ToSlot, Reading, Slots, withLeft, queryWhole, queryHeader, managementHeader, inactiveHeader, targetAt, headerDecided, headerFound, headerRouted, headerVersioned, headerByte}
+use Rattle.machine.specs.Machine.{HeaderOutcome, Decided, InactiveOutcome, WrongBegin, NewBegin, PassedOver, ManagementOutcome, QueryTooLong, Notices, Gathers, QueryOutcome, Asks, Breaks, Machine, Target, Skip, ToBegin, ToSlot, Reading, Slots, withLeft, queryWhole, queryHeader, managementHeader, inactiveHeader, targetAt, headerDecided, headerFound, headerRouted, headerVersioned, headerByte}
 use Rattle.machine.specs.Laws.{HeaderOutcomeOk, InactiveOutcomeOk, ManagementOutcomeOk, Laws}
 use Rattle.machine.specs.Shape.{BytesOk, SlotOk, IsAbsent, SlotsOk, TargetOk, ReadingOk, EffectOk}
 use Rattle.machine.specs.ShapeSlots.{slots-kept, lookup-absent}
@@ -37,10 +37,10 @@ module _ (M : Machine) (L : Laws M) where
   reading-left T s (suc c) p x y z = record { some-left = omega arith; content-left = x; padding-left = y; target-ok = z }
 
   -- ---- the eighth byte
-  pub shape-query : (o : Option Notice) (T : Slots M) (F : Reading M) → SlotsOk M L T → ReadingOk M L T F → EffectOk M L (queryWhole M o T F)
+  pub shape-query : (o : QueryOutcome Notice) (T : Slots M) (F : Reading M) → SlotsOk M L T → ReadingOk M L T F → EffectOk M L (queryWhole M o T F)
   unfolding queryWhole
-  shape-query none T F t f = tt
-  shape-query (some w) T F t f = (t, f)
+  shape-query (Breaks place) T F t f = tt
+  shape-query (Asks w) T F t f = (t, f)
 
   shape-query-header : (c : ℕ) (T : Slots M) (p : ℕ) → SlotsOk M L T → c ≤ 65535 → c ≤ queryLimit → p ≤ 255 → EffectOk M L (queryHeader M c T p)
   unfolding queryHeader

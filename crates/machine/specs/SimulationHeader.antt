@@ -9,7 +9,7 @@ use lib.Dec.{eqb, ltb}
 use borrow.Author.Tests.{eqb-true, eqb-false, eq-eqb, ne-eqb, ltb-false}
 use Rattle.machine.specs.Slots.{SlotState, HeldBy, Lookup, Absent, FoundAt, lookup, slotAt, OfOthers, Contains, contains-absent, OwnSlot, own-slot, LookupRight, lookup-right, contains-set, others-set}
 use Rattle.machine.specs.Timeline.{headerVersion, headerType, headerId, headerContent, headerPadding, Scan, scanLeft, scanWhole}
-use Rattle.machine.specs.Machine.{HeaderOutcome, Decided, InactiveOutcome, WrongBegin, NewBegin, PassedOver, ManagementOutcome, QueryTooLong, Notices, Gathers, Machine, Skip, Reading, AtHeader, Slots, withLeft, queryWhole, queryHeader, managementHeader, inactiveHeader, targetAt, headerDecided, headerFound, headerRouted, headerVersioned, headerByte, asList, concerns, observed}
+use Rattle.machine.specs.Machine.{HeaderOutcome, Decided, InactiveOutcome, WrongBegin, NewBegin, PassedOver, ManagementOutcome, QueryTooLong, Notices, Gathers, QueryOutcome, Asks, Breaks, Machine, Skip, Reading, AtHeader, Slots, withLeft, queryWhole, queryHeader, managementHeader, inactiveHeader, targetAt, headerDecided, headerFound, headerRouted, headerVersioned, headerByte, asList, concerns, observed}
 use Rattle.machine.specs.Purge.{header-id-known}
 use Rattle.machine.specs.SimulationRelation.{aloneSlots, SameSkip, SameBegin, SameSlot, OthersSkip, OthersBegin, OthersQuery, OthersSlot, Readings, BothInHeader, InOthersRecord, OwnHeader, StepTogether, PurgedWaits, together, waits, own-left, others-left, others-event, LeftOpen, alone-found, alone-absent, found-of-others}
 
@@ -52,12 +52,12 @@ module _ (M : Machine) (R : ℕ) where
 
   -- ---- the eighth byte of a header of others
   -- a query that is whole (here without content)
-  pub others-query : {T : Slots M} {v : Option Request} (n : ℕ) (l : List ℕ) (o : Option Notice) (m : Scan) (F : Reading M) → Contains clean R T v
+  pub others-query : {T : Slots M} {v : Option Request} (n : ℕ) (l : List ℕ) (o : QueryOutcome Notice) (m : Scan) (F : Reading M) → Contains clean R T v
       → Readings M R T l v m F (AtHeader [])
       → LeftOpen M R (queryWhole M o T F) → PurgedWaits M R v n l m (queryWhole M o T F)
   unfolding queryWhole observed asList concerns
-  others-query n l none m F s f a = absurd (a refl)
-  others-query n l (some w) m F s f a = waits M R s f refl
+  others-query n l (Breaks place) m F s f a = absurd (a refl)
+  others-query n l (Asks w) m F s f a = waits M R s f refl
 
   others-query-header : {T : Slots M} {v : Option Request} (n : ℕ) (l : List ℕ) (c p : ℕ) → Contains clean R T v
       → LeftOpen M R (queryHeader M c T p) → PurgedWaits M R v n l (scanLeft false c p) (queryHeader M c T p)

@@ -7,7 +7,8 @@ use Rattle.wire.specs.Test.{if_then_else_, _<?_, _=?_}
 use Rattle.record.specs.Names.{VERSION, BEGIN-REQUEST, GET-VALUES, RESPONDER, AUTHORIZER, FILTER}
 use Rattle.record.specs.declared.header.Header.{Header}
 use Rattle.record.specs.declared.body.BeginBody.{BeginBody}
-use Rattle.pair_list.specs.List.{wellFormed}
+use Rattle.pair_list.specs.List.{wellFormed, brokenAt}
+use Rattle.machine.specs.Cause.{Cause, Plain, At}
 use Rattle.connection.specs.declared.request.Role.{Role}
 use Rattle.connection.specs.declared.request.Due.{Due}
 use Rattle.connection.specs.declared.state.Slot.{Slot}
@@ -40,7 +41,7 @@ module _ (st : State) (store : List ℕ) (h : Header) (n : ℕ) (P : Left → Le
   abbrev other : Header
   other = withPadding h n
 
-  close : (k : ℕ) → P (closes st store k) (closes st store k)
+  close : (k : Cause) → P (closes st store k) (closes st store k)
   unfolding closes
   close k = shut _ _ _
 
@@ -49,20 +50,20 @@ module _ (st : State) (store : List ℕ) (h : Header) (n : ℕ) (P : Left → Le
 
   by-queried : P (queried st store [] (frameAfter h Target.Skip)) (queried st store [] (frameAfter other Target.Skip))
   unfolding queried
-  by-queried = both P (wellFormed []) _ _ _ _ (read Target.Skip (queryOf [])) (close 14)
+  by-queried = both P (wellFormed []) _ _ _ _ (read Target.Skip (queryOf [])) (close (At 14 (brokenAt [])))
 
   by-management : P (onManagement st store h) (onManagement st store other)
   unfolding onManagement
   by-management =
       both P (h .kind =? GET-VALUES) _ _ _ _
-      (both P (QUERY <? h .content) _ _ _ _ (close 13) (both P (h .content =? 0) _ _ _ _ by-queried (read Target.Query Event.None)))
+      (both P (QUERY <? h .content) _ _ _ _ (close (Plain 13)) (both P (h .content =? 0) _ _ _ _ by-queried (read Target.Query Event.None)))
       (read Target.Skip (Event.Unknown (h .kind)))
 
   by-inactive : P (onInactive st store h) (onInactive st store other)
   unfolding onInactive
   by-inactive =
       both P (h .kind =? BEGIN-REQUEST) _ _ _ _
-      (both P (h .content =? 8) _ _ _ _ (read (Target.Begin (h .id)) Event.None) (close 12))
+      (both P (h .content =? 8) _ _ _ _ (read (Target.Begin (h .id)) Event.None) (close (Plain 12)))
       (read Target.Skip Event.None)
 
   by-active : (i : ℕ) → P (onActive st store h i) (onActive st store other i)
@@ -76,7 +77,7 @@ module _ (st : State) (store : List ℕ) (h : Header) (n : ℕ) (P : Left → Le
   pub by-judged : P (judged st store h) (judged st store other)
   unfolding judged
   by-judged =
-      both P (h .version =? VERSION) _ _ _ _ (both P (h .id =? 0) _ _ _ _ by-management (by-slot (find (st .conn .table) (h .id)))) (close 11)
+      both P (h .version =? VERSION) _ _ _ _ (both P (h .id =? 0) _ _ _ _ by-management (by-slot (find (st .conn .table) (h .id)))) (close (Plain 11))
 
 -- within content that nothing of is in yet, and after content, with so much padding to come
 abbrev pub startsFrame : ℕ → ℕ → Target → Frame

@@ -46,6 +46,15 @@ unfoldable pub wellFormed : List ℕ → Bool
 unfolding endingOf
 wellFormed s = isEnd (endingOf s)
 
+-- Where a list is malformed: at the first byte of the pair that cannot be read. (This is asked of malformed lists only.)
+abbrev pub placeOf : Ending → ℕ
+placeOf Ending.End = 0
+placeOf (Ending.Malformed place) = place
+
+unfoldable pub brokenAt : List ℕ → ℕ
+unfolding endingOf
+brokenAt s = placeOf (endingOf s)
+
 -- The first of some pairs with a name, and the one of number k, counted from 0.
 unfoldable pub firstIn : List ℕ → List ℕ → List Pair → Found
 firstIn s name [] = Found.Nothing

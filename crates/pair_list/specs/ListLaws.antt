@@ -5,12 +5,12 @@ use Prim.Native.Nat.{ℕ, zero, suc, _+_, _-_, _≤_, _<_}
 use native.Mathlib.Omega.{arith}
 use mathlib.Core.List.{List, [], _∷_, List·Memᴰ, List·Memᴰ·head, List·Memᴰ·tail, List·Memᴰ·not-nil, List·Memᴰ·cases-cons}
 use mathlib.Core.Logic.{⊎-elim}
-use mathlib.Core.Bool.{true}
+use mathlib.Core.Bool.{true, false}
 use lib.ListN.{length, take, drop}
 use Rattle.wire.specs.Test.{if_then_else_, _=?_, byTest}
 use Rattle.pairs.specs.Pair.{pairAt, nameOf}
 use Rattle.wire.specs.Compare.{sameBytes}
-use Rattle.pair_list.specs.List.{Pairs, onRead, andPairs, pairsIn, pairsFrom, endingOf, isEnd, wellFormed, firstIn, numberIn, firstNamed, pairNumber}
+use Rattle.pair_list.specs.List.{Pairs, onRead, andPairs, pairsIn, pairsFrom, endingOf, isEnd, wellFormed, placeOf, brokenAt, firstIn, numberIn, firstNamed, pairNumber}
 use Rattle.pairs.specs.PairLaws.{end-past, PairIn, pair-in, pair-end, malformed-place, no-pair}
 use Rattle.wire.specs.CompareLaws.{same-is}
 use Rattle.pairs.specs.declared.pair.Pair.{Pair}
@@ -112,6 +112,24 @@ unfolding endingOf
 ending-place s place e =
     subst (Stops s) e
     (pairs-induction s (λ (at : ℕ) (ps : Pairs). Stops s (ps .ending)) (λ at h. tt) (stops-there s) (λ at p next q h. h) 0)
+
+-- a list that ends with its bytes used up is well formed, and one that is malformed somewhere is not
+pub ended-formed : (s : List ℕ) → endingOf s ≡ Ending.End → wellFormed s ≡ true
+unfolding wellFormed
+ended-formed s e = simp e
+
+pub broken-formed : (s : List ℕ) (place : ℕ) → endingOf s ≡ Ending.Malformed place → (wellFormed s ≡ false) × (brokenAt s ≡ place)
+unfolding wellFormed brokenAt
+broken-formed s place e = (simp e, simp e)
+
+-- a list that is not well formed is malformed at its place, which is before its end
+pub broken-place : (s : List ℕ) → wellFormed s ≡ false → (endingOf s ≡ Ending.Malformed (brokenAt s)) × (brokenAt s < length s)
+unfolding wellFormed brokenAt
+broken-place s e = go (endingOf s) refl e
+  where
+    go : (r : Ending) → endingOf s ≡ r → isEnd r ≡ false → (r ≡ Ending.Malformed (placeOf r)) × (placeOf r < length s)
+    go Ending.End q h = let z : _≡_ {A = ℕ} 0 1 = cc in absurd (omega arith)
+    go (Ending.Malformed place) q h = (refl, ending-place s place q .0)
 
 -- a well-formed list ends with its bytes used up
 pub well-formed-end : (s : List ℕ) → wellFormed s ≡ true → endingOf s ≡ Ending.End

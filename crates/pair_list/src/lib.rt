@@ -1,10 +1,10 @@
-// A list of pairs: whether it is well formed, and a pair found by its name or its number.
+// A list of pairs: how it ends, and a pair found by its name or its number.
 use pairs::pair::Pair;
 use pairs::pair::Read;
 use pairs::pair::read_pair;
 use wire::same;
 ghost use mathlib.Core.Path.{_≡_};
-ghost use Rattle.pair_list.specs.List.{endingOf, wellFormed, firstFrom, firstNamed, pairNumber};
+ghost use Rattle.pair_list.specs.List.{endingOf, firstFrom, firstNamed, pairNumber};
 
 // How a list ends: with its bytes used up, or before a pair that cannot be read, which starts at a place.
 pub enum Ending {
@@ -29,16 +29,6 @@ pub fn list_ending(list: &[u8]) -> Ending
         at = next;
     }
     Ending::End
-}
-
-pub fn well_formed(list: &[u8]) -> bool
-    ensures { λ r. ⌜ r ≡ wellFormed (now (list .entry)) ⌝ }
-{
-    let e = list_ending(list);
-    match e {
-        Ending::End => true,
-        Ending::Malformed(_) => false,
-    }
 }
 
 // The first pair with that name, from a cursor on.

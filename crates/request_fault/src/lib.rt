@@ -10,7 +10,7 @@ use request_state::with_life;
 use request_state::with_turn;
 use wire::clear;
 ghost use mathlib.Core.Path.{_≡_};
-ghost use Rattle.connection.specs.Codes.{eventOf, faultNumber};
+ghost use Rattle.connection.specs.Codes.{eventOf, faultCause};
 ghost use Rattle.connection.specs.Request.{faulted, aborted, turned};
 ghost use Rattle.request_fault.specs.Answer.{held, ruledBy};
 
@@ -23,7 +23,7 @@ pub struct Ruling {
 
 // A fault zeroes the area and spends the request.
 pub fn fault(r: Request, area: &mut [u8], f: Fault) -> Ruling
-    ensures { λ x. ⌜ ruledBy x (now (area .exit)) ≡ faulted (held r (now (area .entry))) (faultNumber f) ⌝ }
+    ensures { λ x. ⌜ ruledBy x (now (area .exit)) ≡ faulted (held r (now (area .entry))) (faultCause f) ⌝ }
 {
     clear(area);
     let id = r.id;

@@ -1,8 +1,9 @@
--- What the end of PARAMS comes to, in the rules' numbers.
-use Prim.Native.Nat.{ℕ}
-use Rattle.connection.specs.Codes.{faultNumber}
+-- What the end of PARAMS comes to, in the rules' values.
+use mathlib.Core.Option.{Option, none, some}
+use Rattle.machine.specs.Cause.{Cause}
+use Rattle.connection.specs.Codes.{faultCause}
 use Rattle.request_input.specs.declared.ParamsEnd.{ParamsEnd}
 
-abbrev pub endNumber : ParamsEnd → ℕ
-endNumber ParamsEnd.Ready = 0
-endNumber (ParamsEnd.Fault f) = faultNumber f
+abbrev pub endCause : ParamsEnd → Option Cause
+endCause ParamsEnd.Ready = none
+endCause (ParamsEnd.Fault f) = some (faultCause f)

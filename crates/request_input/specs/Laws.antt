@@ -1,5 +1,5 @@
 -- What holds of a request's list and of the end of PARAMS.
-use mathlib.Core.Path.{_≡_, refl, sym, ap, _∙_}
+use mathlib.Core.Path.{_≡_, sym, ap, _∙_}
 use Prim.Native.Nat.{ℕ, _-_, _≤_, min}
 use native.Mathlib.Omega.{arith}
 use mathlib.Core.List.{List}
@@ -7,14 +7,12 @@ use lib.Dec.{ltb}
 use lib.ListN.{length, take}
 use lib.Seq.{take-all}
 use borrow.Author.Tests.{ltb-true, ltb-false}
-use mathlib.Core.Bool.{false}
-use Rattle.wire.specs.Test.{byTest, _=?_}
+use Rattle.wire.specs.Test.{byTest}
 use Rattle.connection.specs.declared.event.Fault.{Fault}
-use Rattle.connection.specs.Codes.{faultNumber}
+use mathlib.Core.Option.{none, some}
+use Rattle.connection.specs.Codes.{faultCause}
 use Rattle.connection.specs.Event.{Event}
 use Rattle.connection.specs.Request.{Held, listOf, afterParams, faulted, turned, paramsFault, paramsEnded}
-use Rattle.request_input.specs.declared.ParamsEnd.{ParamsEnd}
-use Rattle.request_input.specs.Answer.{endNumber}
 
 -- a list that is cut where its area ends is the same list
 pub list-part : (area : List ℕ) (n k : ℕ) → k ≡ min n (length area) → take (k - 0) area ≡ take n area
@@ -25,22 +23,13 @@ list-part area n k e =
     let h : length area ≤ n = ltb-false n (length area) t in
     take-all (k - 0) area (omega arith) ∙ sym (take-all n area h))
 
--- no fault is ready
-some-fault : (f : Fault) → (faultNumber f =? 0) ≡ false
-some-fault Fault.BeginAgain = refl
-some-fault Fault.OutOfTurn = refl
-some-fault Fault.WrongType = refl
-some-fault Fault.TooLong = refl
-some-fault Fault.Malformed = refl
-some-fault Fault.Repeated = refl
-
 -- what the end of PARAMS comes to: a fault
-pub ends-in-fault : (h : Held) (f : Fault) → faultNumber f ≡ paramsFault (listOf h) → paramsEnded h ≡ faulted h (faultNumber f)
+pub ends-in-fault : (h : Held) (f : Fault) → some (faultCause f) ≡ paramsFault (listOf h) → paramsEnded h ≡ faulted h (faultCause f)
 unfolding paramsEnded
-ends-in-fault h f e = simp (← e, some-fault f)
+ends-in-fault h f e = simp (← e)
 
 -- and the request ready
-pub ends-ready : (h : Held) → 0 ≡ paramsFault (listOf h)
+pub ends-ready : (h : Held) → none ≡ paramsFault (listOf h)
     → paramsEnded h ≡ turned h (afterParams (h .request .state .role)) (Event.Ready (h .request .id) (h .request .length))
 unfolding paramsEnded
 ends-ready h e = simp (← e)

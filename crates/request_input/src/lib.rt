@@ -7,7 +7,8 @@ use connection::request::Due;
 use connection::request::Request;
 use connection::request::Turn;
 use connection::sizes::AREA;
-use pair_list::well_formed;
+use pair_list::Ending;
+use pair_list::list_ending;
 use pair_repeats::list_repeats;
 use request_fault::Ruling;
 use request_fault::end_turn;
@@ -17,9 +18,11 @@ use request_state::after_stdin;
 use wire::copy_into;
 use wire::least;
 ghost use mathlib.Core.Path.{_≡_};
+ghost use Prim.Native.Nat.{_≤_};
+ghost use lib.ListN.{length};
 ghost use Rattle.connection.specs.Request.{listOf, paramsFault, paramsEnded, onParams, onStdin, onData, grown};
 ghost use Rattle.request_fault.specs.Answer.{held, ruledBy};
-ghost use Rattle.request_input.specs.Answer.{endNumber};
+ghost use Rattle.request_input.specs.Answer.{endCause};
 
 // What the end of PARAMS comes to.
 enum ParamsEnd {
@@ -29,20 +32,23 @@ enum ParamsEnd {
 
 // What it comes to for a list: a fault if the list is malformed, else a fault if it repeats a name, else ready.
 fn list_end(list: &[u8]) -> ParamsEnd
-    ensures { λ x. ⌜ endNumber x ≡ paramsFault (now (list .entry)) ⌝ }
+    requires { ⌜ length (now list) ≤ 65535 ⌝ }
+    ensures { λ x. ⌜ endCause x ≡ paramsFault (now (list .entry)) ⌝ }
 {
-    if !well_formed(list) {
-        return ParamsEnd::Fault(Fault::Malformed);
-    }
-    if list_repeats(list) {
-        return ParamsEnd::Fault(Fault::Repeated);
-    }
-    ParamsEnd::Ready
+    let ending = list_ending(list);
+    let Ending::Malformed(place) = ending else {
+        if list_repeats(list) {
+            return ParamsEnd::Fault(Fault::Repeated);
+        }
+        return ParamsEnd::Ready;
+    };
+    let at = place as u16;
+    ParamsEnd::Fault(Fault::Malformed { at: at })
 }
 
 // The same for the list of a request.
 fn own_list_end(r: Request, area: &[u8]) -> ParamsEnd
-    ensures { λ x. ⌜ endNumber x ≡ paramsFault (listOf (held r (now (area .entry)))) ⌝ }
+    ensures { λ x. ⌜ endCause x ≡ paramsFault (listOf (held r (now (area .entry)))) ⌝ }
 {
     let z: usize = 0;
     let n = least(r.length as usize, area.len());

@@ -1,4 +1,4 @@
--- Names are compared byte by byte; their lengths must agree.
+-- Two names are the same where they have the same length and the same bytes.
 use Prim.Native.Nat.{ℕ, suc}
 use mathlib.Core.Bool.{Bool, true, false}
 use mathlib.Core.List.{List, [], _∷_}
@@ -12,7 +12,7 @@ sameBytes [] (y ∷ ys) = false
 sameBytes (x ∷ xs) [] = false
 sameBytes (x ∷ xs) (y ∷ ys) = if x =? y then sameBytes xs ys else false
 
--- How many places are compared: all up to the first that differs, which counts.
+-- How many places of two names of one length are compared: all up to the first that differs, it included.
 unfoldable pub placesUpTo : List ℕ → List ℕ → ℕ
 placesUpTo [] ys = 0
 placesUpTo (x ∷ xs) [] = 0

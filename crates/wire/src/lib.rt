@@ -75,7 +75,7 @@ pub struct Compared {
     pub places: usize,
 }
 
-// Lengths first, then byte by byte up to the first that differs.
+// Lengths first, then byte by byte up to the first that differs, which counts as a place compared.
 pub fn compare(a: &[u8], b: &[u8]) -> Compared
     ensures { λ r. ⌜ r ≡ compared (now (a .entry)) (now (b .entry)) ⌝ }
 {
@@ -102,6 +102,7 @@ pub fn compare(a: &[u8], b: &[u8]) -> Compared
     }
 }
 
+// Whether two names are the same.
 pub fn same(a: &[u8], b: &[u8]) -> bool
     ensures { λ r. ⌜ r ≡ sameBytes (now (a .entry)) (now (b .entry)) ⌝ }
 {

@@ -40,7 +40,7 @@ of-query-requires : tie.Need-of-query-requires
 of-query-requires c κs =
     let a = c .before .before .before .before .before .args in
     let b = aimed-at (a .f .target) _ (a .t1) (a .f .gathered) (a .f .position .content) (c .before .before .before .before .before .pre .1) (c .before .enum-told2 .given .1) in
-    (omega (arith, b), c .before .before .before .before .before .pre .2)
+    (omega (arith, b), c .before .before .before .before .before .pre .2, search needs)
 
 enum-known-target-2 : tie.Need-enum-known-target-2
 enum-known-target-2 c = search needs

@@ -2,6 +2,7 @@
 use Prim.Native.Nat.{ℕ}
 use mathlib.Core.Path.{_≡_, refl, sym, ap, _∙_}
 use Rattle.wire.specs.Test.{if_then_else_, _=?_}
+use Rattle.machine.specs.Cause.{Cause, Plain, At}
 use Rattle.connection.specs.declared.request.Role.{Role}
 use Rattle.connection.specs.declared.event.Stream.{Stream}
 use Rattle.connection.specs.declared.event.Status.{Status}
@@ -11,7 +12,7 @@ use Rattle.connection.specs.declared.event.Event.{Event as CodeEvent}
 use Rattle.connection.specs.declared.answer.Refusal.{Refusal}
 use Rattle.connection.specs.declared.answer.Output.{Output}
 use Rattle.connection.specs.Event.{Event}
-use Rattle.connection.specs.Codes.{roleNumber, streamType, outputType, statusNumber, faultNumber, closeNumber, eventOf, refusalNumber}
+use Rattle.connection.specs.Codes.{roleNumber, streamType, outputType, statusNumber, faultCause, closeCause, eventOf, refusalNumber}
 
 -- what can be read back is told apart
 told-apart : {A B : Type 0} (f : A → B) (back : B → A) → ((a : A) → back (f a) ≡ a) → (a a′ : A) → f a ≡ f a′ → a ≡ a′
@@ -47,35 +48,35 @@ status-back : (s : Status) → statusBack (statusNumber s) ≡ s
 status-back Status.Overloaded = refl
 status-back Status.UnknownRole = refl
 
-abbrev faultBack : ℕ → Fault
-faultBack n =
+abbrev faultBack : Cause → Fault
+faultBack (At n place) = Fault.Malformed place
+faultBack (Plain n) =
     if n =? 21 then Fault.BeginAgain
     else if n =? 22 then Fault.OutOfTurn
     else if n =? 23 then Fault.WrongType
     else if n =? 24 then Fault.TooLong
-    else if n =? 25 then Fault.Malformed
     else Fault.Repeated
 
-fault-back : (f : Fault) → faultBack (faultNumber f) ≡ f
+fault-back : (f : Fault) → faultBack (faultCause f) ≡ f
 fault-back Fault.BeginAgain = refl
 fault-back Fault.OutOfTurn = refl
 fault-back Fault.WrongType = refl
 fault-back Fault.TooLong = refl
-fault-back Fault.Malformed = refl
+fault-back (Fault.Malformed place) = refl
 fault-back Fault.Repeated = refl
 
-abbrev closeBack : ℕ → Close
-closeBack n =
+abbrev closeBack : Cause → Close
+closeBack (At n place) = Close.QueryMalformed place
+closeBack (Plain n) =
     if n =? 11 then Close.Version
     else if n =? 12 then Close.BeginLength
-    else if n =? 13 then Close.QueryLength
-    else Close.QueryMalformed
+    else Close.QueryLength
 
-close-back : (c : Close) → closeBack (closeNumber c) ≡ c
+close-back : (c : Close) → closeBack (closeCause c) ≡ c
 close-back Close.Version = refl
 close-back Close.BeginLength = refl
 close-back Close.QueryLength = refl
-close-back Close.QueryMalformed = refl
+close-back (Close.QueryMalformed place) = refl
 
 abbrev refusalBack : ℕ → Refusal
 refusalBack n =

@@ -10,6 +10,8 @@ use Rattle.wire.specs.Test.{byTest}
 use Rattle.wire.specs.Buffer.{zeros}
 use Rattle.slot_word.specs.Word.{taken}
 use Rattle.record.specs.declared.header.Header.{Header}
+use Rattle.pair_list.specs.List.{wellFormed, brokenAt}
+use Rattle.connection.specs.declared.request.Turn.{Turn}
 use Rattle.connection.specs.declared.request.Life.{Life}
 use Rattle.connection.specs.declared.request.RequestState.{RequestState}
 use Rattle.connection.specs.declared.request.Due.{Due}
@@ -20,7 +22,7 @@ use Rattle.connection.specs.declared.state.Target.{Target}
 use Rattle.connection.specs.declared.state.Frame.{Frame}
 use Rattle.connection.specs.Sizes.{SLOTS, AREA, STORE}
 use Rattle.connection.specs.Event.{Event}
-use Rattle.connection.specs.Request.{Held, Ruled, withLife, faulted, aborted, turned, onHeader, onContent}
+use Rattle.connection.specs.Request.{Held, listOf, Ruled, withLife, faulted, aborted, turned, onHeader, onContent}
 use Rattle.connection.specs.Slots.{requestAt, areaAt, heldAt, find}
 use Rattle.connection.specs.Laws.SlotsLaws.{Sized, request-of-put, request-of-other, put-occupied, other-of-take, taken-of-take-other, area-length, area-of-put, area-of-other, find-at}
 use Rattle.connection.specs.Step.{State, Left, putsBack, closes, onActive, ofRequest, Stepped, leaves, stepped}
@@ -28,7 +30,8 @@ use Rattle.connection.specs.Laws.Progress.{Fits}
 use Rattle.connection.specs.Laws.StepSizes.{header-area, content-area}
 use Rattle.connection.specs.Laws.Ways.{nameless-not-final, isFinal, Way, concerned, by-way}
 use Rattle.connection.specs.Laws.Closing.{isClosing}
-use Rattle.connection.specs.Laws.Rules.{by-rule}
+use Rattle.connection.specs.Laws.Rules.{OnTurn, Rule, header-rule, isFault, by-rule}
+use Rattle.machine.specs.Cause.{Cause, At}
 
 -- ---- slots that a step is not about
 -- Slot j is as it was: its request, its area, and whether it is taken.
@@ -123,24 +126,48 @@ only-rules st store h i used sized full found r is skip fits q a same-request sa
       rest = rw skip (byTest (eqb (h .content) 0) (λ t. simp t) (λ t. simp t));
     })
 
-fault-rule : (kind m : ℕ) (h : Held) (id n : ℕ) → onHeader kind m h .event ≡ Event.Fault id n
-    → (21 ≤ n) × (n ≤ 26) × (h .request .id ≡ id) × (onHeader kind m h ≡ faulted h n)
+fault-rule : (kind m : ℕ) (h : Held) (id : ℕ) (cause : Cause) → onHeader kind m h .event ≡ Event.Fault id cause
+    → (isFault cause ≡ true) × (h .request .id ≡ id) × (onHeader kind m h ≡ faulted h cause)
 unfolding faulted aborted turned
-fault-rule kind m h id n =
-    by-rule (λ (r : Ruled). r .event ≡ Event.Fault id n → (21 ≤ n) × (n ≤ 26) × (h .request .id ≡ id) × (r ≡ faulted h n)) h
+fault-rule kind m h id cause =
+    by-rule (λ (r : Ruled). r .event ≡ Event.Fault id cause → (isFault cause ≡ true) × (h .request .id ≡ id) × (r ≡ faulted h cause)) h
     (λ d e. let z : _≡_ {A = ℕ} 0 1 = cc in absurd (omega arith))
-    (λ k low high e. let q : k ≡ n = cc in (omega arith, omega arith, cc, ap (faulted h) q))
+    (λ k fault e. let q : k ≡ cause = cc in (rw q at fault, cc, ap (faulted h) q))
     (λ e. let z : _≡_ {A = ℕ} 0 1 = cc in absurd (omega arith))
     (λ t e. let z : _≡_ {A = ℕ} 0 1 = cc in absurd (omega arith))
     (λ t s e. let z : _≡_ {A = ℕ} 0 1 = cc in absurd (omega arith))
     kind m
+
+-- A fault that tells a place: PARAMS ended with a malformed list, and the place is where it is malformed.
+pub record BrokenList (kind m : ℕ) (h : Held) (n place : ℕ) : Type 0 where
+  pub number : n ≡ 25
+  pub turn : OnTurn kind h Turn.Params
+  pub ended : m ≡ 0
+  pub malformed : wellFormed (listOf h) ≡ false
+  pub at : place ≡ brokenAt (listOf h)
+
+pub fault-place : (kind m : ℕ) (h : Held) (id n place : ℕ) → onHeader kind m h .event ≡ Event.Fault id (At n place) → BrokenList kind m h n place
+unfolding faulted aborted turned
+fault-place kind m h id n place = of (onHeader kind m h) (header-rule kind m h)
+  where
+    of : (r : Ruled) → Rule kind m h r → r .event ≡ Event.Fault id (At n place) → BrokenList kind m h n place
+    of r (Rule.Skips s) e = let z : _≡_ {A = ℕ} 0 1 = cc in absurd (omega arith)
+    of r (Rule.Faults k f) e = let z : _≡_ {A = ℕ} 0 1 = cc in absurd (omega arith)
+    of r (Rule.Breaks t z w) e = record { number = cc; turn = t; ended = z; malformed = w; at = cc }
+    of r (Rule.Aborts l) e = let z : _≡_ {A = ℕ} 0 1 = cc in absurd (omega arith)
+    of r (Rule.Params t room) e = let z : _≡_ {A = ℕ} 0 1 = cc in absurd (omega arith)
+    of r (Rule.Readies t n f) e = let z : _≡_ {A = ℕ} 0 1 = cc in absurd (omega arith)
+    of r (Rule.Stdin t) e = let z : _≡_ {A = ℕ} 0 1 = cc in absurd (omega arith)
+    of r (Rule.StdinEnds t n) e = let z : _≡_ {A = ℕ} 0 1 = cc in absurd (omega arith)
+    of r (Rule.Data t) e = let z : _≡_ {A = ℕ} 0 1 = cc in absurd (omega arith)
+    of r (Rule.DataEnds t n) e = let z : _≡_ {A = ℕ} 0 1 = cc in absurd (omega arith)
 
 abort-rule : (kind m : ℕ) (h : Held) (id : ℕ) → onHeader kind m h .event ≡ Event.Abort id → (h .request .id ≡ id) × (onHeader kind m h ≡ aborted h)
 unfolding faulted aborted turned
 abort-rule kind m h id =
     by-rule (λ (r : Ruled). r .event ≡ Event.Abort id → (h .request .id ≡ id) × (r ≡ aborted h)) h
     (λ d e. let z : _≡_ {A = ℕ} 0 1 = cc in absurd (omega arith))
-    (λ k low high e. let z : _≡_ {A = ℕ} 0 1 = cc in absurd (omega arith))
+    (λ k fault e. let z : _≡_ {A = ℕ} 0 1 = cc in absurd (omega arith))
     (λ e. (cc, refl))
     (λ t e. let z : _≡_ {A = ℕ} 0 1 = cc in absurd (omega arith))
     (λ t s e. let z : _≡_ {A = ℕ} 0 1 = cc in absurd (omega arith))
@@ -153,31 +180,30 @@ pub life-alone : (m : RequestState) (l : Life)
 unfolding withLife
 life-alone m l = (refl, refl, refl, refl, refl, refl, refl)
 
--- A fault of its own request alone: the number is one of 21 to 26, the request keeps its id and all marks but its
+-- A fault of its own request alone: the cause is that of a fault, the request keeps its id and all marks but its
 -- life, its length is 0 and its area zeros.
-abbrev pub FaultAlone : State → List ℕ → ℕ → ℕ → Stepped → Type 0
-FaultAlone st store id n s =
-    (i : ℕ) × (find (st .conn .table) id ≡ Slot.At i) × (21 ≤ n) × (n ≤ 26)
+abbrev pub FaultAlone : State → List ℕ → ℕ → Cause → Stepped → Type 0
+FaultAlone st store id cause s =
+    (i : ℕ) × (find (st .conn .table) id ≡ Slot.At i) × (isFault cause ≡ true)
     × Only st store i (record { id = id; length = 0; state = withLife (requestAt (st .conn .table) i .state) Life.Faulted }) (zeros AREA) s
 
 -- Where a step tells a fault, it is one of its own request alone.
-pub fault-own-request : (st : State) (store piece : List ℕ) (id n : ℕ) → Sized (st .conn .table) → stepped st store piece .event ≡ Event.Fault id n
-    → FaultAlone st store id n (stepped st store piece)
+pub fault-own-request : (st : State) (store piece : List ℕ) (id : ℕ) (cause : Cause) → Sized (st .conn .table) → stepped st store piece .event ≡ Event.Fault id cause
+    → FaultAlone st store id cause (stepped st store piece)
 unfolding onActive faulted
-fault-own-request st store piece id n sized e =
-    by-header (λ (s : Stepped). s .event ≡ Event.Fault id n → FaultAlone st store id n s) st store piece
+fault-own-request st store piece id cause sized e =
+    by-header (λ (s : Stepped). s .event ≡ Event.Fault id cause → FaultAlone st store id cause s) st store piece
     (λ used h i full found told.
     let t = st .conn .table in
     let held = heldAt t store i in
-    let r = fault-rule (h .kind) (h .content) held id n told in
-    let same : h .id ≡ id = sym (id-found t (h .id) i found) ∙ r .2 in
+    let r = fault-rule (h .kind) (h .content) held id cause told in
+    let same : h .id ≡ id = sym (id-found t (h .id) i found) ∙ r .1 in
     let size = area-length store i full (find-at t (h .id) i found .low) in (
       i,
       rw same at found,
       r .0,
-      r .1,
-      only-rules st store h i used sized full found (faulted held n) (r .3) refl (length-replicate (length (held .area)) 0 ∙ size) _ _
-          (ap (λ (k : ℕ). record { id = k; length = 0; state = withLife (requestAt t i .state) Life.Faulted }) (r .2)) (ap zeros size),
+      only-rules st store h i used sized full found (faulted held cause) (r .2) refl (length-replicate (length (held .area)) 0 ∙ size) _ _
+          (ap (λ (k : ℕ). record { id = k; length = 0; state = withLife (requestAt t i .state) Life.Faulted }) (r .1)) (ap zeros size),
     ))
     (rw e refl) (rw e refl) e
 

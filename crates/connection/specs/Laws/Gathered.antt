@@ -18,7 +18,7 @@ use Rattle.record.specs.declared.body.BeginBody.{BeginBody}
 use Rattle.record_reader.specs.Position.{heldAnd}
 use Rattle.record_reader.specs.declared.Position.{Position}
 use Rattle.record_reader.specs.declared.Advanced.{Advanced}
-use Rattle.pair_list.specs.List.{wellFormed}
+use Rattle.pair_list.specs.List.{wellFormed, brokenAt}
 use Rattle.connection.specs.declared.request.Role.{Role}
 use Rattle.connection.specs.declared.request.Due.{Due}
 use Rattle.connection.specs.declared.state.Slot.{Slot}
@@ -33,6 +33,7 @@ use Rattle.connection.specs.Laws.PieceLaws.{by-step}
 use Rattle.connection.specs.Laws.StepSizes.{copied-length}
 use Rattle.connection.specs.Step.{State, Left, targetIf, frameAfter, frameWithin, reads, closes, queried, onManagement, onInactive, onActive, judged, opens, begun, ofBegin, ofQuery, ofRequest, onTarget, Stepped, stays, leaves, advances, stepRefusal, stepped}
 use Rattle.connection.specs.Laws.Progress.{admitted-fits}
+use Rattle.machine.specs.Cause.{Cause, Plain, At}
 
 -- ---- the bytes that count
 -- How many of the gathered bytes count: of a query those that are in, of anything else none. (The frame counts a
@@ -102,13 +103,13 @@ module _ (c : Conn) (g g′ store : List ℕ) where
   reads-agree : (f : Frame) (e : Event) → Alike (countOf f) g g′ → Agree g g′ (reads one store f e) (reads two store f e)
   reads-agree f e a = record { conn = refl; store = refl; event = refl; alike = a; long = refl; long′ = refl }
 
-  closes-agree : (n : ℕ) → Agree g g′ (closes one store n) (closes two store n)
+  closes-agree : (cause : Cause) → Agree g g′ (closes one store cause) (closes two store cause)
   unfolding closes
   closes-agree n = record { conn = refl; store = refl; event = refl; alike = refl; long = refl; long′ = refl }
 
   queried-agree : (list : List ℕ) (f : Frame) → Alike (countOf f) g g′ → Agree g g′ (queried one store list f) (queried two store list f)
   unfolding queried
-  queried-agree list f a = both (wellFormed list) (reads-agree f _ a) (closes-agree 14)
+  queried-agree list f a = both (wellFormed list) (reads-agree f _ a) (closes-agree (At 14 (brokenAt list)))
 
   -- ---- a header
   behind-agree : (h : Header) (target : Target) (e : Event) → Agree g g′ (reads one store (frameAfter h target) e) (reads two store (frameAfter h target) e)
@@ -118,14 +119,14 @@ module _ (c : Conn) (g g′ store : List ℕ) where
   unfolding onManagement
   management-agree h =
       both (eqb (h .kind) GET-VALUES)
-      (both (ltb QUERY (h .content)) (closes-agree 13)
+      (both (ltb QUERY (h .content)) (closes-agree (Plain 13))
       (both (eqb (h .content) 0) (queried-agree [] _ (alike-none (targetIf (h .content) Target.Skip) g g′)) (behind-agree h Target.Query Event.None)))
       (behind-agree h Target.Skip (Event.Unknown (h .kind)))
 
   inactive-agree : (h : Header) → Agree g g′ (onInactive one store h) (onInactive two store h)
   unfolding onInactive
   inactive-agree h =
-      both (eqb (h .kind) BEGIN-REQUEST) (both (eqb (h .content) 8) (behind-agree h (Target.Begin (h .id)) Event.None) (closes-agree 12)) (behind-agree h Target.Skip Event.None)
+      both (eqb (h .kind) BEGIN-REQUEST) (both (eqb (h .content) 8) (behind-agree h (Target.Begin (h .id)) Event.None) (closes-agree (Plain 12))) (behind-agree h Target.Skip Event.None)
 
   placed-agree : (h : Header) (k : Slot) → Agree g g′ (onSlot k (onActive one store h) (onInactive one store h)) (onSlot k (onActive two store h) (onInactive two store h))
   unfolding onActive
@@ -136,7 +137,7 @@ module _ (c : Conn) (g g′ store : List ℕ) where
   judged-agree : (h : Header) → Agree g g′ (judged one store h) (judged two store h)
   unfolding judged
   judged-agree h =
-      both (eqb (h .version) VERSION) (both (eqb (h .id) 0) (management-agree h) (placed-agree h (find (c .table) (h .id)))) (closes-agree 11)
+      both (eqb (h .version) VERSION) (both (eqb (h .id) 0) (management-agree h) (placed-agree h (find (c .table) (h .id)))) (closes-agree (Plain 11))
 
   -- ---- content
   opens-agree : (id : ℕ) (b : BeginBody) (role : Role) (f : Frame) → Alike (countOf f) g g′ → Agree g g′ (opens one store id b role f) (opens two store id b role f)

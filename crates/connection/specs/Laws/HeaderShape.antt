@@ -23,6 +23,7 @@ use Rattle.connection.specs.Laws.RequestShape.{Room, keeps-header}
 use Rattle.connection.specs.Laws.PieceLaws.{zeros-bytes, HeaderFits}
 use Rattle.connection.specs.Laws.StateShape.{GoodFrame, Good, aimed-if, either, good-closes, good-reads, good-back, good-queried}
 use Rattle.connection.specs.Step.{State, frameAfter, onManagement, onInactive, dueTo, onActive, judged}
+use Rattle.machine.specs.Cause.{Plain}
 
 -- a frame after a header
 good-behind : (t : Table) (h : Header) (target : Target) → HeaderFits h → (0 < h .content → Aimed target t 0 (h .content)) → GoodFrame t (frameAfter h target)
@@ -42,7 +43,7 @@ module _ (st : State) (store : List ℕ) (before : Good (st .conn)) (h : Header)
   good-management =
       either (eqb (h .kind) GET-VALUES) _ _
       (λ a. either (ltb QUERY (h .content)) _ _
-      (λ b. good-closes st store 13)
+      (λ b. good-closes st store (Plain 13))
       (λ b. either (eqb (h .content) 0) _ _
       (λ c. good-queried (st .conn) before (st .gathered) store [] (frameAfter h Target.Skip) (good-behind _ h Target.Skip fits (λ _. tt)))
       (λ c. good-reads (st .conn) before (frameAfter h Target.Query) (good-behind _ h Target.Query fits (λ _. omega (arith, ltb-false QUERY (h .content) b))))))
@@ -55,7 +56,7 @@ module _ (st : State) (store : List ℕ) (before : Good (st .conn)) (h : Header)
       (λ a. either (eqb (h .content) 8) _ _
       (λ b. good-reads (st .conn) before (frameAfter h (Target.Begin (h .id)))
       (good-behind _ h (Target.Begin (h .id)) fits (λ _. record { eight = omega (arith, eqb-true (h .content) 8 b); some = some; inactive = inactive })))
-      (λ b. good-closes st store 12))
+      (λ b. good-closes st store (Plain 12)))
       (λ a. good-reads (st .conn) before (frameAfter h Target.Skip) (good-behind _ h Target.Skip fits (λ _. tt)))
 
   -- where the content of a request's record goes, it may
@@ -84,7 +85,7 @@ module _ (st : State) (store : List ℕ) (before : Good (st .conn)) (h : Header)
       (λ a. either (eqb (h .id) 0) _ _
       (λ b. good-management)
       (λ b. go (eqb-false (h .id) 0 b) (find (st .conn .table) (h .id)) refl))
-      (λ a. good-closes st store 11)
+      (λ a. good-closes st store (Plain 11))
     where
       go : (h .id ≡ 0 → ⊥) → (s : Slot) → find (st .conn .table) (h .id) ≡ s → Good (onSlot s (onActive st store h) (onInactive st store h) .conn)
       go some (Slot.At i) e = good-active i e

@@ -19,7 +19,7 @@ unfolding faulted aborted turned
 ready-rule kind m h id n =
     by-rule (λ (r : Ruled). r .event ≡ Event.Ready id n → (h .request .id ≡ id) × (h .request .length ≡ n)) h
     (λ d e. let z : _≡_ {A = ℕ} 0 1 = cc in absurd (omega arith))
-    (λ k low high e. let z : _≡_ {A = ℕ} 0 1 = cc in absurd (omega arith))
+    (λ cause fault e. let z : _≡_ {A = ℕ} 0 1 = cc in absurd (omega arith))
     (λ e. let z : _≡_ {A = ℕ} 0 1 = cc in absurd (omega arith))
     (λ t e. (cc, cc))
     (λ t s e. let z : _≡_ {A = ℕ} 0 1 = cc in absurd (omega arith))

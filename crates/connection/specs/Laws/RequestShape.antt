@@ -30,7 +30,8 @@ keeps-header n h fits kind = of (onHeader kind n h) (header-rule kind n h)
   where
     of : (r : Ruled) → Rule kind n h r → Kept n h r
     of r (Rule.Skips e) = record { id = refl; short = fits; room = tt }
-    of r (Rule.Faults k low high) = record { id = refl; short = omega arith; room = tt }
+    of r (Rule.Faults k f) = record { id = refl; short = omega arith; room = tt }
+    of r (Rule.Breaks t z w) = record { id = refl; short = omega arith; room = tt }
     of r (Rule.Aborts l) = record { id = refl; short = fits; room = tt }
     of r (Rule.Params t room) = record { id = refl; short = fits; room = room }
     of r (Rule.Readies t z f) = record { id = refl; short = fits; room = tt }

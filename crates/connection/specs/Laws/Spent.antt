@@ -29,7 +29,7 @@ nameless-inactive t (Event.Unknown kind) R r q d = absurd (omega arith)
 rule-names : (kind n : ℕ) (h : Held) (R : ℕ) → 0 < R → eventId (onHeader kind n h .event) ≡ R → h .request .id ≡ R
 unfolding faulted aborted turned
 rule-names kind n h R r =
-    by-rule (λ (x : Ruled). eventId (x .event) ≡ R → h .request .id ≡ R) h (λ d e. absurd (omega arith)) (λ k low high e. e) (λ e. e) (λ t e. e) (λ t s e. e) kind n
+    by-rule (λ (x : Ruled). eventId (x .event) ≡ R → h .request .id ≡ R) h (λ d e. absurd (omega arith)) (λ cause fault e. e) (λ e. e) (λ t e. e) (λ t s e. e) kind n
 
 -- and of a spent one it tells nothing
 spent-rule : (kind n : ℕ) (h : Held) → isSpent (h .request .state .life) ≡ true → onHeader kind n h .event ≡ Event.None

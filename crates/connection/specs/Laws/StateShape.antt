@@ -8,7 +8,7 @@ use lib.ListN.{length}
 use lib.Dec.{eqb}
 use borrow.Author.Tests.{eqb-false}
 use Rattle.wire.specs.Test.{if_then_else_, byTest}
-use Rattle.pair_list.specs.List.{wellFormed}
+use Rattle.pair_list.specs.List.{wellFormed, brokenAt}
 use Rattle.connection.specs.declared.request.Request.{Request}
 use Rattle.connection.specs.declared.state.Table.{Table}
 use Rattle.connection.specs.declared.state.Target.{Target}
@@ -22,6 +22,7 @@ use Rattle.connection.specs.Laws.ShapeLaws.{Tidy, Placed, Aimed, Shaped,
 use Rattle.connection.specs.Laws.TableShape.{tidy-put}
 use Rattle.connection.specs.Laws.PieceLaws.{AllBytes, zeros-bytes}
 use Rattle.connection.specs.Step.{State, Left, noFrame, targetIf, openWith, closedConn, closes, queried}
+use Rattle.machine.specs.Cause.{Cause, At}
 
 -- The arrays have their lengths, and the header bytes held are bytes.
 pub record Arrays (c : Conn) : Type 0 where
@@ -82,7 +83,7 @@ either true x y f g = f refl
 either false x y f g = g refl
 
 -- Closing.
-pub good-closes : (st : State) (store : List ℕ) (n : ℕ) → Good (closes st store n .conn)
+pub good-closes : (st : State) (store : List ℕ) (cause : Cause) → Good (closes st store cause .conn)
 unfolding closes
 good-closes st store n = good-closed
 
@@ -100,4 +101,4 @@ module _ (c : Conn) (before : Good c) where
   -- A query is answered, or closes the connection.
   pub good-queried : (gathered store list : List ℕ) (f : Frame) → GoodFrame (c .table) f → Good (queried (record { conn = c; gathered = gathered }) store list f .conn)
   unfolding queried
-  good-queried gathered store list f g = either (wellFormed list) _ _ (λ e. good-reads f g) (λ e. good-closes _ store 14)
+  good-queried gathered store list f g = either (wellFormed list) _ _ (λ e. good-reads f g) (λ e. good-closes _ store (At 14 (brokenAt list)))

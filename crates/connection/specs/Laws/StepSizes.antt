@@ -17,7 +17,7 @@ use Rattle.record_reader.specs.Position.{advanced}
 use Rattle.record_reader.specs.PositionLaws.{stays-proper}
 use Rattle.record_reader.specs.declared.Position.{Position}
 use Rattle.record_reader.specs.declared.Phase.{Phase}
-use Rattle.pair_list.specs.List.{wellFormed}
+use Rattle.pair_list.specs.List.{wellFormed, brokenAt}
 use Rattle.connection.specs.declared.request.Role.{Role}
 use Rattle.connection.specs.declared.request.Due.{Due}
 use Rattle.connection.specs.declared.state.Slot.{Slot}
@@ -32,6 +32,7 @@ use Rattle.connection.specs.Laws.ShapeLaws.{Aimed, shaped}
 use Rattle.connection.specs.Step.{State, Left, reads, closes, putsBack, queried, onManagement, onInactive, onActive, judged, opens, begun, ofBegin, ofQuery, ofRequest, onTarget, onPhase, advances, stepRefusal, stepped, started}
 use Rattle.connection.specs.Laws.Progress.{admitted-fits, step-advances, step-refused, step-nothing}
 use Rattle.connection.specs.Laws.Rules.{by-rule}
+use Rattle.machine.specs.Cause.{Cause, Plain, At}
 
 -- The lengths that the code's types give, and the store's.
 pub record Sizes (st : State) (store : List ℕ) : Type 0 where
@@ -55,7 +56,7 @@ copied-length l at x =
 pub header-area : (kind n : ℕ) (h : Held) → length (onHeader kind n h .held .area) ≡ length (h .area)
 unfolding faulted aborted turned
 header-area kind n h =
-    by-rule (λ (r : Ruled). length (r .held .area) ≡ length (h .area)) h (λ d. refl) (λ k low high. length-replicate (length (h .area)) 0) refl (λ t. refl) (λ t s. refl) kind n
+    by-rule (λ (r : Ruled). length (r .held .area) ≡ length (h .area)) h (λ d. refl) (λ cause fault. length-replicate (length (h .area)) 0) refl (λ t. refl) (λ t s. refl) kind n
 
 -- content: grown or as it was
 pub content-area : (due : Due) (x : List ℕ) (h : Held) → length (onContent due x h .held .area) ≡ length (h .area)
@@ -71,7 +72,7 @@ module _ (st : State) (store : List ℕ) (s : Sizes st store) where
   reads-keeps : (f : Frame) → length (f .position .header) ≡ 8 → length (f .body) ≡ 8 → Keeps (reads st store f Event.None)
   reads-keeps f h b = record { table = s .table; header = h; body = b; gathered = s .gathered; full = s .full }
 
-  closes-keeps : (n : ℕ) → Keeps (closes st store n)
+  closes-keeps : (cause : Cause) → Keeps (closes st store cause)
   unfolding closes
   closes-keeps n =
       record {
@@ -95,7 +96,7 @@ module _ (st : State) (store : List ℕ) (s : Sizes st store) where
 
   queried-keeps : (list : List ℕ) (f : Frame) → length (f .position .header) ≡ 8 → length (f .body) ≡ 8 → Keeps (queried st store list f)
   unfolding queried
-  queried-keeps list f h b = byTest (wellFormed list) (λ t. simp t (reads-keeps f h b)) (λ t. simp t (closes-keeps 14))
+  queried-keeps list f h b = byTest (wellFormed list) (λ t. simp t (reads-keeps f h b)) (λ t. simp t (closes-keeps (At 14 (brokenAt list))))
 
   -- a header
   management-keeps : (h : Header) → Keeps (onManagement st store h)
@@ -103,7 +104,7 @@ module _ (st : State) (store : List ℕ) (s : Sizes st store) where
   management-keeps h =
       byTest (eqb (h .kind) GET-VALUES)
       (λ t.
-      byTest (ltb QUERY (h .content)) (λ q. simp (t, q) (closes-keeps 13))
+      byTest (ltb QUERY (h .content)) (λ q. simp (t, q) (closes-keeps (Plain 13)))
       (λ q. byTest (eqb (h .content) 0) (λ z. simp (t, q, z) (queried-keeps [] _ refl refl)) (λ z. simp (t, q, z) (reads-keeps _ refl refl))))
       (λ t. simp t (reads-keeps _ refl refl))
 
@@ -111,7 +112,7 @@ module _ (st : State) (store : List ℕ) (s : Sizes st store) where
   unfolding onInactive
   inactive-keeps h =
       byTest (eqb (h .kind) BEGIN-REQUEST)
-      (λ t. byTest (eqb (h .content) 8) (λ q. simp (t, q) (reads-keeps _ refl refl)) (λ q. simp (t, q) (closes-keeps 12)))
+      (λ t. byTest (eqb (h .content) 8) (λ q. simp (t, q) (reads-keeps _ refl refl)) (λ q. simp (t, q) (closes-keeps (Plain 12))))
       (λ t. simp t (reads-keeps _ refl refl))
 
   active-keeps : (h : Header) (i : ℕ) → i < SLOTS → Keeps (onActive st store h i)
@@ -124,7 +125,7 @@ module _ (st : State) (store : List ℕ) (s : Sizes st store) where
   judged-keeps h =
       byTest (eqb (h .version) VERSION)
       (λ t. byTest (eqb (h .id) 0) (λ z. simp (t, z) (management-keeps h)) (λ z. simp (t, z) (go (find (st .conn .table) (h .id)) refl)))
-      (λ t. simp t (closes-keeps 11))
+      (λ t. simp t (closes-keeps (Plain 11)))
     where
       go : (k : Slot) → find (st .conn .table) (h .id) ≡ k → Keeps (onSlot k (onActive st store h) (onInactive st store h))
       go (Slot.At i) e = active-keeps h i (find-at (st .conn .table) (h .id) i e .low)

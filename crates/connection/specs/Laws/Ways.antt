@@ -14,7 +14,8 @@ use Rattle.record.specs.declared.body.BeginBody.{BeginBody}
 use Rattle.record_reader.specs.Position.{inHeader, advanced}
 use Rattle.record_reader.specs.declared.Position.{Position}
 use Rattle.record_reader.specs.declared.Phase.{Phase}
-use Rattle.pair_list.specs.List.{wellFormed}
+use Rattle.pair_list.specs.List.{wellFormed, brokenAt}
+use Rattle.machine.specs.Cause.{Cause, Plain, At}
 use Rattle.connection.specs.declared.request.Role.{Role}
 use Rattle.connection.specs.declared.request.Due.{Due}
 use Rattle.connection.specs.declared.state.Table.{Table}
@@ -67,9 +68,10 @@ nameless-not-final t (Event.Refuse id status) q = refl
 nameless-not-final t (Event.Query conns reqs mpxs) q = refl
 nameless-not-final t (Event.Unknown kind) q = refl
 
--- the numbers of the closes
-abbrev pub isCause : ℕ → Bool
-isCause n = if n =? 11 then true else if n =? 12 then true else if n =? 13 then true else n =? 14
+-- the causes of closes: close 14 has a place, the others have none
+abbrev pub isClose : Cause → Bool
+isClose (Plain n) = if n =? 11 then true else if n =? 12 then true else n =? 13
+isClose (At n place) = n =? 14
 
 -- a connection with other gathered bytes
 abbrev pub gathering : State → List ℕ → State
@@ -79,7 +81,7 @@ gathering st g = record { conn = st .conn; gathered = g }
 -- of slot k, feeds it, or takes slot k.
 pub data Way (st : State) (store : List ℕ) (k : Slot) : Left → Type 0 where
   Reads : (g : List ℕ) (f : Frame) (e : Event) → Nameless (st .conn .table) e → Way st store k (reads (gathering st g) store f e)
-  Closes : (g : List ℕ) (n : ℕ) → isCause n ≡ true → Way st store k (closes (gathering st g) store n)
+  Closes : (g : List ℕ) (cause : Cause) → isClose cause ≡ true → Way st store k (closes (gathering st g) store cause)
   Rules : (h : Header) (i : ℕ) → k ≡ Slot.At i → find (st .conn .table) (h .id) ≡ Slot.At i → Way st store k (onActive st store h i)
   Feeds : (due : Due) (i : ℕ) (bytes : List ℕ) (p : Position) → k ≡ Slot.At i → i < SLOTS → st .conn .frame .target ≡ dueTo due i → 0 < st .conn .frame .position .content
       → Way st store k (ofRequest st store due i bytes p)
@@ -102,7 +104,7 @@ fork false f g = g refl
 module _ (st : State) (store : List ℕ) where
   way-queried : (k : Slot) (g list : List ℕ) (f : Frame) → Way st store k (queried (gathering st g) store list f)
   unfolding queried queryOf
-  way-queried k g list f = fork (wellFormed list) (λ t. Way.Reads g f _ tt) (λ t. Way.Closes g 14 refl)
+  way-queried k g list f = fork (wellFormed list) (λ t. Way.Reads g f _ tt) (λ t. Way.Closes g (At 14 (brokenAt list)) refl)
 
   -- ---- a header
   way-management : (k : Slot) (h : Header) → Way st store k (onManagement st store h)
@@ -110,7 +112,7 @@ module _ (st : State) (store : List ℕ) where
   way-management k h =
       fork (eqb (h .kind) GET-VALUES)
       (λ t.
-      fork (ltb QUERY (h .content)) (λ q. Way.Closes (st .gathered) 13 refl)
+      fork (ltb QUERY (h .content)) (λ q. Way.Closes (st .gathered) (Plain 13) refl)
       (λ q. fork (eqb (h .content) 0) (λ z. way-queried k (st .gathered) [] _) (λ z. Way.Reads (st .gathered) _ Event.None tt)))
       (λ t. Way.Reads (st .gathered) _ (Event.Unknown (h .kind)) tt)
 
@@ -118,7 +120,7 @@ module _ (st : State) (store : List ℕ) where
   unfolding onInactive
   way-inactive k h =
       fork (eqb (h .kind) BEGIN-REQUEST)
-      (λ t. fork (eqb (h .content) 8) (λ q. Way.Reads (st .gathered) _ Event.None tt) (λ q. Way.Closes (st .gathered) 12 refl))
+      (λ t. fork (eqb (h .content) 8) (λ q. Way.Reads (st .gathered) _ Event.None tt) (λ q. Way.Closes (st .gathered) (Plain 12) refl))
       (λ t. Way.Reads (st .gathered) _ Event.None tt)
 
   way-judged : (h : Header) → Way st store (find (st .conn .table) (h .id)) (judged st store h)
@@ -126,7 +128,7 @@ module _ (st : State) (store : List ℕ) where
   way-judged h =
       fork (eqb (h .version) VERSION)
       (λ t. fork (eqb (h .id) 0) (λ z. way-management _ h) (λ z. go (find (st .conn .table) (h .id)) refl))
-      (λ t. Way.Closes (st .gathered) 11 refl)
+      (λ t. Way.Closes (st .gathered) (Plain 11) refl)
     where
       go : (k : Slot) → find (st .conn .table) (h .id) ≡ k → Way st store k (onSlot k (onActive st store h) (onInactive st store h))
       go (Slot.At i) e = Way.Rules h i refl e

@@ -36,7 +36,7 @@ KeepsList h r = listOf (r .held) ≡ (if opensOrFaults (r .event) then [] else l
 
 pub list-header : (n : ℕ) (h : Held) (kind : ℕ) → KeepsList h (onHeader kind n h)
 unfolding faulted aborted turned
-list-header n h kind = by-rule (KeepsList h) h (λ d. refl) (λ k low high. refl) refl (λ t. refl) (λ t s. refl) kind n
+list-header n h kind = by-rule (KeepsList h) h (λ d. refl) (λ cause fault. refl) refl (λ t. refl) (λ t s. refl) kind n
 
 -- PARAMS content is added to the list
 pub list-grown : (h : Held) (b : ℕ) → h .request .length + 1 ≤ AREA → length (h .area) ≡ AREA → listOf (grown h (b ∷ [])) ≡ listOf h ++ b ∷ []
@@ -142,7 +142,8 @@ takes-header kind n h = of (onHeader kind n h) (header-rule kind n h)
   where
     of : (r : Ruled) → Rule kind n h r → TakesBy h kind n r
     of r (Rule.Skips e) = record { told = refl; due = λ z. rw e (off (eqb kind PARAMS)) }
-    of r (Rule.Faults k low high) = record { told = refl; due = λ z. off (eqb kind PARAMS) }
+    of r (Rule.Faults k f) = record { told = refl; due = λ z. off (eqb kind PARAMS) }
+    of r (Rule.Breaks t n w) = record { told = refl; due = λ z. off (eqb kind PARAMS) }
     of r (Rule.Aborts l) = record { told = refl; due = λ z. off (eqb kind PARAMS) }
     of r (Rule.Params t room) = record { told = refl; due = λ z. rw (eq-eqb kind PARAMS (t .type), t .live, t .turn) }
     of r (Rule.Readies t z f) = record { told = rw (t .live, past-params (h .request .state .role)); due = λ k. absurd (omega arith) }

@@ -11,7 +11,7 @@ use Rattle.wire.specs.Test.{if_then_else_, byTest}
 use Rattle.record.specs.Names.{PARAMS, STDIN, DATA}
 use Rattle.machine.specs.Slots.{SlotState, Vacant, HeldBy, slotAt, Lookup, Absent, FoundAt, Vacancy, NoVacancy, VacancyAt, lookup, firstVacancy, OfOthers, LookupRight, lookup-right, lookup-set, slot-written, vacancyFurther}
 use Rattle.machine.specs.Timeline.{headerVersion, headerType, headerId, headerContent, headerPadding, Scan, ScanHeader, ScanRest, scanLeft}
-use Rattle.machine.specs.Machine.{BeginOutcome, Declined, Accepted, Target, Skip, ToBegin, ToQuery, ToSlot, Reading, AtHeader, PastHeader, Slots, Connection, Open, Closed, InactiveOutcome, WrongBegin, NewBegin, PassedOver, ManagementOutcome, QueryTooLong, Notices, Gathers, Effect, eventFrom, withLeft, queryWhole, queryHeader, managementHeader, inactiveHeader, headerDecided, headerFound, headerRouted, headerVersioned, headerByte, requestSeated, beginWhole, streamByte, contentByte, recordByte, requestFound, targetAt}
+use Rattle.machine.specs.Machine.{QueryOutcome, Asks, Breaks, BeginOutcome, Declined, Accepted, Target, Skip, ToBegin, ToQuery, ToSlot, Reading, AtHeader, PastHeader, Slots, Connection, Open, Closed, InactiveOutcome, WrongBegin, NewBegin, PassedOver, ManagementOutcome, QueryTooLong, Notices, Gathers, Effect, eventFrom, withLeft, queryWhole, queryHeader, managementHeader, inactiveHeader, headerDecided, headerFound, headerRouted, headerVersioned, headerByte, requestSeated, beginWhole, streamByte, contentByte, recordByte, requestFound, targetAt}
 use Rattle.connection.specs.declared.request.Due.{Due}
 use Rattle.connection.specs.Event.{Event}
 use Rattle.connection.specs.Request.{Held, onHeader, grown}
@@ -99,10 +99,10 @@ module _ (R : ℕ) where
   not-own T h f =
       byTest (eqb (headerId h) R) (λ e. rw (e, f (eqb-true (headerId h) R e)) (sym (off (eqb (headerType h) PARAMS)))) (λ e. rw e)
 
-  tracks-query : (o : Option Notice) (T : Slots receiver) (F : Reading receiver) (m : Scan) → Placed T F m → Tracks T m (queryWhole receiver o T F)
+  tracks-query : (o : QueryOutcome Notice) (T : Slots receiver) (F : Reading receiver) (m : Scan) → Placed T F m → Tracks T m (queryWhole receiver o T F)
   unfolding queryWhole
-  tracks-query none T F m d = refl
-  tracks-query (some w) T F m d = (refl, d)
+  tracks-query (Breaks place) T F m d = refl
+  tracks-query (Asks w) T F m d = (refl, d)
 
   tracks-query-header : (c : ℕ) (T : Slots receiver) (p : ℕ) (own : Bool) → (if own then takesAmong T else false) ≡ false → Tracks T (scanLeft own c p) (queryHeader receiver c T p)
   unfolding queryHeader scanLeft

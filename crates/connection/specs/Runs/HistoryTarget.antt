@@ -11,7 +11,7 @@ use lib.Dec.{eqb, ltb}
 use Rattle.wire.specs.Test.{if_then_else_, _=?_, byTest}
 use Rattle.machine.specs.Slots.{SlotState, Vacant, HeldBy, slotAt, Lookup, Absent, FoundAt, Vacancy, NoVacancy, VacancyAt, lookup, firstVacancy, OfOthers, LookupRight, lookup-right, lookup-set, slot-written}
 use Rattle.machine.specs.Timeline.{RequestCall, CountCall, Item, ByteItem, CallItem, headerVersion, headerType, headerId, headerContent, headerPadding}
-use Rattle.machine.specs.Machine.{BeginOutcome, Declined, Accepted, CallOutcome, Stays, Leaves, Closes, Target, Skip, ToBegin, ToQuery, ToSlot, Reading, AtHeader, PastHeader, Slots, Connection, Open, Closed, Observation, RequestEvent, NoticeEvent, CloseEvent, CountAnswer, CallAnswer, onItem, InactiveOutcome, WrongBegin, NewBegin, PassedOver, ManagementOutcome, QueryTooLong, Notices, Gathers, Effect, eventFrom, withLeft, queryWhole, queryHeader, managementHeader, inactiveHeader, headerDecided, headerFound, headerRouted, headerVersioned, headerByte, requestSeated, beginWhole, streamByte, contentByte, recordByte, readingWithout, callDecided, requestCalled, requestFound, requestIn}
+use Rattle.machine.specs.Machine.{QueryOutcome, Asks, Breaks, BeginOutcome, Declined, Accepted, CallOutcome, Stays, Leaves, Closes, Target, Skip, ToBegin, ToQuery, ToSlot, Reading, AtHeader, PastHeader, Slots, Connection, Open, Closed, Observation, RequestEvent, NoticeEvent, CloseEvent, CountAnswer, CallAnswer, onItem, InactiveOutcome, WrongBegin, NewBegin, PassedOver, ManagementOutcome, QueryTooLong, Notices, Gathers, Effect, eventFrom, withLeft, queryWhole, queryHeader, managementHeader, inactiveHeader, headerDecided, headerFound, headerRouted, headerVersioned, headerByte, requestSeated, beginWhole, streamByte, contentByte, recordByte, readingWithout, callDecided, requestCalled, requestFound, requestIn}
 use Rattle.connection.specs.declared.request.Due.{Due}
 use Rattle.connection.specs.Event.{Event}
 use Rattle.connection.specs.Request.{Held, listOf, onHeader, grown}
@@ -26,6 +26,7 @@ use Rattle.connection.specs.Runs.ReceiverLaws.{StreamOk, receiver-laws}
 use Rattle.connection.specs.History.{listFound}
 use Rattle.connection.specs.Runs.HistoryOnMachine.{opensOrFaults, tellsAnew, emptiesAny, parametersThen}
 use Rattle.connection.specs.Runs.HistoryRequest.{list-header, list-grown, BeginsAnew, begins, CallKeeps, call-keeps, refused-keeps}
+use Rattle.machine.specs.Cause.{Plain, At}
 
 -- ---- content, by the connection's target
 -- a stream of a slot is PARAMS of R
@@ -108,10 +109,10 @@ module _ (R : ℕ) where
       list-held (set T i (HeldBy R q)) i q u (slot-written cleanArea T i R h (HeldBy R q) e) ∙ l ∙ ap (λ x. parametersThen R o content x) (sym (list-held T i h t e))
 
   -- ---- a header
-  follows-query : (o : Option Notice) (T : Slots receiver) (F : Reading receiver) → Follows T [] (queryWhole receiver o T F)
+  follows-query : (o : QueryOutcome Notice) (T : Slots receiver) (F : Reading receiver) → Follows T [] (queryWhole receiver o T F)
   unfolding queryWhole
-  follows-query none T F = follows-closed T [] (some (CloseEvent 14)) refl
-  follows-query (some w) T F = follows-same T T F (some (NoticeEvent w)) refl refl
+  follows-query (Breaks place) T F = follows-closed T [] (some (CloseEvent (At 14 place))) refl
+  follows-query (Asks w) T F = follows-same T T F (some (NoticeEvent w)) refl refl
 
   follows-query-header : (c : ℕ) (T : Slots receiver) (p : ℕ) → Follows T [] (queryHeader receiver c T p)
   unfolding queryHeader
@@ -120,13 +121,13 @@ module _ (R : ℕ) where
 
   follows-management : (o : ManagementOutcome Notice) (T : Slots receiver) (h : List ℕ) → Follows T [] (managementHeader receiver o T h)
   unfolding managementHeader
-  follows-management QueryTooLong T h = follows-closed T [] (some (CloseEvent 13)) refl
+  follows-management QueryTooLong T h = follows-closed T [] (some (CloseEvent (Plain 13))) refl
   follows-management (Notices w) T h = follows-same T T (withLeft receiver Skip (headerContent h) (headerPadding h)) (some (NoticeEvent w)) refl refl
   follows-management Gathers T h = follows-query-header (headerContent h) T (headerPadding h)
 
   follows-inactive : (o : InactiveOutcome) (T : Slots receiver) (h : List ℕ) → Follows T [] (inactiveHeader receiver o T h)
   unfolding inactiveHeader
-  follows-inactive WrongBegin T h = follows-closed T [] (some (CloseEvent 12)) refl
+  follows-inactive WrongBegin T h = follows-closed T [] (some (CloseEvent (Plain 12))) refl
   follows-inactive PassedOver T h = follows-same T T (withLeft receiver Skip (headerContent h) (headerPadding h)) none refl refl
   follows-inactive NewBegin T h = follows-same T T (withLeft receiver (ToBegin (headerId h) []) (headerContent h) (headerPadding h)) none refl refl
 
@@ -196,7 +197,7 @@ module _ (R : ℕ) where
   follows-versioned : (o : Bool) (T : Slots receiver) (h : List ℕ) → SlotsOk receiver receiver-laws T → EffectOk receiver receiver-laws (headerVersioned receiver o T h)
       → Follows T [] (headerVersioned receiver o T h)
   unfolding headerVersioned
-  follows-versioned false T h t w = follows-closed T [] (some (CloseEvent 11)) refl
+  follows-versioned false T h t w = follows-closed T [] (some (CloseEvent (Plain 11))) refl
   follows-versioned true T h t w = follows-routed (eqb (headerId h) 0) T h t w
 
   follows-header-byte : (o : Bool) (T : Slots receiver) (h : List ℕ) → SlotsOk receiver receiver-laws T → EffectOk receiver receiver-laws (headerByte receiver o T h)

@@ -16,10 +16,10 @@ use Rattle.record.specs.Header.{headerOf}
 use Rattle.record.specs.declared.header.Header.{Header}
 use Rattle.record_reader.specs.Position.{noHeader}
 use Rattle.record_reader.specs.declared.Position.{Position}
-use Rattle.pair_list.specs.List.{wellFormed}
+use Rattle.pair_list.specs.List.{wellFormed, brokenAt}
 use Rattle.machine.specs.Slots.{HeldBy}
 use Rattle.machine.specs.Timeline.{headerVersion, headerType, headerId, headerContent, headerPadding}
-use Rattle.machine.specs.Machine.{WrongBegin, NewBegin, PassedOver, QueryTooLong, Notices, Gathers, Skip, Reading, Open, Closed, Observation, NoticeEvent, CloseEvent, Effect, withLeft, queryWhole, queryHeader, managementHeader, inactiveHeader, targetAt, headerDecided, headerFound, headerRouted, headerVersioned, asList}
+use Rattle.machine.specs.Machine.{Asks, Breaks, WrongBegin, NewBegin, PassedOver, QueryTooLong, Notices, Gathers, Skip, Reading, Open, Closed, Observation, NoticeEvent, CloseEvent, Effect, withLeft, queryWhole, queryHeader, managementHeader, inactiveHeader, targetAt, headerDecided, headerFound, headerRouted, headerVersioned, asList}
 use Rattle.connection.specs.declared.request.Due.{Due}
 use Rattle.connection.specs.declared.state.Table.{Table}
 use Rattle.connection.specs.declared.state.Slot.{Slot}
@@ -41,6 +41,7 @@ use Rattle.connection.specs.Runs.Loading.{loadedSlots, loadedTarget, rea
 use Rattle.connection.specs.Runs.LoadingLaws.{loaded-put, foundAs, lookup-loaded}
 use Rattle.connection.specs.Run.{Heard}
 use Rattle.connection.specs.Runs.Telling.{Names, names-header, toldAll, header-told}
+use Rattle.machine.specs.Cause.{Cause, Plain, At}
 
 -- ---- what is linked
 -- while content or padding is left, no header bytes are held
@@ -89,7 +90,7 @@ module _ (t : Table) (f : Frame) (gathered store : List ℕ) (b : ℕ) where
   links-reads f′ e F o a h u = record { state = ap (λ w. Open (loadedSlots t store) w) a; tells = h; header = u }
 
   -- a close
-  pub links-closes : (n : ℕ) → Links (closes openAt store n) b (Closed, some (CloseEvent n))
+  pub links-closes : (cause : Cause) → Links (closes openAt store cause) b (Closed, some (CloseEvent cause))
   unfolding closes loadedWhen toldAll asList
   links-closes n = record { state = refl; tells = refl; header = λ h. refl }
 
@@ -103,10 +104,10 @@ module _ (t : Table) (f : Frame) (gathered store : List ℕ) (b : ℕ) where
       asked = query-told list b
 
       go : (w : Bool)
-          → Links (if w then reads openAt store f′ (queryOf list) else closes openAt store 14) b
-          (queryWhole receiver (if w then some (QueryWith list) else none) (loadedSlots t store) F)
+          → Links (if w then reads openAt store f′ (queryOf list) else closes openAt store (At 14 (brokenAt list))) b
+          (queryWhole receiver (if w then Asks (QueryWith list) else Breaks (brokenAt list)) (loadedSlots t store) F)
       go true = links-reads f′ (queryOf list) F (some (NoticeEvent (QueryWith list))) a asked u
-      go false = links-closes 14
+      go false = links-closes (At 14 (brokenAt list))
 
   -- ---- a whole header
   -- a header of these fields
@@ -161,12 +162,12 @@ module _ (t : Table) (f : Frame) (gathered store : List ℕ) (b : ℕ) where
         go : (a c : Bool)
             → Links
             (if a then
-            (if c then closes openAt store 13
+            (if c then closes openAt store (Plain 13)
             else if n =? 0 then queried openAt store [] (frameAfter (headerAs v kind id n p) Aim.Skip)
             else reads openAt store (frameAfter (headerAs v kind id n p) Aim.Query) Event.None)
             else reads openAt store (frameAfter (headerAs v kind id n p) Aim.Skip) (Event.Unknown kind)) b
             (managementHeader receiver (if a then (if c then QueryTooLong else Gathers) else Notices (UnknownType kind)) (loadedSlots t store) h)
-        go true true = links-closes 13
+        go true true = links-closes (Plain 13)
         go true false = links-gathering v kind id n p
         go false c = links-behind v kind id n p Aim.Skip (Event.Unknown kind) (some (NoticeEvent (UnknownType kind))) refl
 
@@ -176,11 +177,11 @@ module _ (t : Table) (f : Frame) (gathered store : List ℕ) (b : ℕ) where
       where
         go : (a c : Bool)
             → Links
-            (if a then (if c then reads openAt store (frameAfter (headerAs v kind id n p) (Aim.Begin id)) Event.None else closes openAt store 12)
+            (if a then (if c then reads openAt store (frameAfter (headerAs v kind id n p) (Aim.Begin id)) Event.None else closes openAt store (Plain 12))
             else reads openAt store (frameAfter (headerAs v kind id n p) Aim.Skip) Event.None) b
             (inactiveHeader receiver (if a then (if c then NewBegin else WrongBegin) else PassedOver) (loadedSlots t store) h)
         go true true = links-behind v kind id n p (Aim.Begin id) Event.None none refl
-        go true false = links-closes 12
+        go true false = links-closes (Plain 12)
         go false c = links-behind v kind id n p Aim.Skip Event.None none refl
 
     module _ (sized : Sized t) (full : length store ≡ STORE) (tidy : Tidy t) where
@@ -231,7 +232,7 @@ module _ (t : Table) (f : Frame) (gathered store : List ℕ) (b : ℕ) where
               (if a then
               (if id =? 0 then onManagement openAt store (headerOf h)
               else onSlot (find t id) (onActive openAt store (headerOf h)) (onInactive openAt store (headerOf h)))
-              else closes openAt store 11) b
+              else closes openAt store (Plain 11)) b
               (headerVersioned receiver a (loadedSlots t store) h)
           go true = routed (eqb id 0)
-          go false = links-closes 11
+          go false = links-closes (Plain 11)

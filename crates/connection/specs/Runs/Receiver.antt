@@ -8,8 +8,8 @@ use Rattle.wire.specs.Buffer.{zeros}
 use Rattle.record.specs.Names.{BEGIN-REQUEST, GET-VALUES, OVERLOADED, UNKNOWN-ROLE}
 use Rattle.record.specs.Body.{beginBodyOf}
 use Rattle.record.specs.declared.body.BeginBody.{BeginBody}
-use Rattle.pair_list.specs.List.{wellFormed}
-use Rattle.machine.specs.Machine.{HeaderOutcome, Decided, BeginOutcome, Declined, Accepted, CallOutcome, Stays, Leaves, Closes, InactiveOutcome, WrongBegin, NewBegin, PassedOver, ManagementOutcome, QueryTooLong, Notices, Gathers, Machine}
+use Rattle.pair_list.specs.List.{wellFormed, brokenAt}
+use Rattle.machine.specs.Machine.{QueryOutcome, Asks, Breaks, HeaderOutcome, Decided, BeginOutcome, Declined, Accepted, CallOutcome, Stays, Leaves, Closes, InactiveOutcome, WrongBegin, NewBegin, PassedOver, ManagementOutcome, QueryTooLong, Notices, Gathers, Machine}
 use Rattle.connection.specs.declared.request.Due.{Due}
 use Rattle.connection.specs.declared.request.Role.{Role}
 use Rattle.connection.specs.Sizes.{AREA, QUERY}
@@ -81,8 +81,8 @@ receiveBegin id body =
     onRole (beginBodyOf body .role) (beginAs id (beginBodyOf body)) (Declined (Note.Told (Event.Refuse id UNKNOWN-ROLE)))
 
 -- a query
-unfoldable pub receiveQuery : List ℕ → Option Notice
-receiveQuery list = if wellFormed list then some (QueryWith list) else none
+unfoldable pub receiveQuery : List ℕ → QueryOutcome Notice
+receiveQuery list = if wellFormed list then Asks (QueryWith list) else Breaks (brokenAt list)
 
 -- a header of id 0
 unfoldable pub receiveManagement : ℕ → ℕ → ManagementOutcome Notice

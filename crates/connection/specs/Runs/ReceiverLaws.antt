@@ -41,7 +41,7 @@ KeepsOrZeroes h q =
 pub area-header : (n : ℕ) (h : Held) (kind : ℕ) → KeepsOrZeroes h (onHeader kind n h .held)
 unfolding faulted aborted turned
 area-header n h kind =
-    by-rule (λ (r : Ruled). KeepsOrZeroes h (r .held)) h (λ d. inl (refl, refl)) (λ k low high. inr (refl, refl)) (inl (refl, refl)) (λ t. inl (refl, refl)) (λ t s. inl (refl, refl)) kind n
+    by-rule (λ (r : Ruled). KeepsOrZeroes h (r .held)) h (λ d. inl (refl, refl)) (λ cause fault. inr (refl, refl)) (inl (refl, refl)) (λ t. inl (refl, refl)) (λ t s. inl (refl, refl)) kind n
 
 -- An area keeps its length.
 pub same-length : (h q : Held) → KeepsOrZeroes h q → length (q .area) ≡ length (h .area)

@@ -17,7 +17,7 @@ use Rattle.record_reader.specs.PositionLaws.{Bytewise, step-bytes, after-append
 use Rattle.record_reader.specs.PositionSplit.{position-split, unfinished, finished-split}
 use Rattle.record_reader.specs.declared.Position.{Position}
 use Rattle.record_reader.specs.declared.Advanced.{Advanced}
-use Rattle.pair_list.specs.List.{wellFormed}
+use Rattle.pair_list.specs.List.{wellFormed, brokenAt}
 use Rattle.machine.specs.Timeline.{itemBytes}
 use Rattle.machine.specs.TimelineLaws.{bytes-of-items}
 use Rattle.connection.specs.declared.request.Role.{Role}
@@ -40,6 +40,7 @@ use Rattle.connection.specs.Runs.LinkingCalls.{lent-absent, call-absent,
 use Rattle.connection.specs.Runs.LinkingRuns.{start-steady, BetweenRecords}
 use Rattle.connection.specs.Isolation.{EndsBetweenRecords}
 use Rattle.connection.specs.Runs.Closed.{closed-final}
+use Rattle.machine.specs.Cause.{Cause, Plain, At}
 
 -- ---- the position that a step leaves
 -- open, with this position; or closed
@@ -55,13 +56,13 @@ stands-if p true x y f g = f
 stands-if p false x y f g = g
 
 module _ (st : State) (store : List ℕ) where
-  stands-closes : (p : Position) (n : ℕ) → StandsAt p (closes st store n .conn)
+  stands-closes : (p : Position) (cause : Cause) → StandsAt p (closes st store cause .conn)
   unfolding closes
   stands-closes p n e = false-true e
 
   stands-queried : (p : Position) (list : List ℕ) (f : Frame) → f .position ≡ p → StandsAt p (queried st store list f .conn)
   unfolding queried
-  stands-queried p list f e = stands-if p (wellFormed list) _ _ (λ o. e) (stands-closes p 14)
+  stands-queried p list f e = stands-if p (wellFormed list) _ _ (λ o. e) (stands-closes p (At 14 (brokenAt list)))
 
   stands-judged : (h : Header) → StandsAt (afterHeader h) (judged st store h .conn)
   unfolding judged onManagement onInactive onActive
@@ -70,16 +71,16 @@ module _ (st : State) (store : List ℕ) where
       stands-if p (eqb (h .version) VERSION) _ _
       (stands-if p (eqb (h .id) 0) _ _
       (stands-if p (eqb (h .kind) GET-VALUES) _ _
-      (stands-if p (ltb QUERY (h .content)) _ _ (stands-closes p 13) (stands-if p (eqb (h .content) 0) _ _ (stands-queried p [] _ refl) (λ o. refl)))
+      (stands-if p (ltb QUERY (h .content)) _ _ (stands-closes p (Plain 13)) (stands-if p (eqb (h .content) 0) _ _ (stands-queried p [] _ refl) (λ o. refl)))
       (λ o. refl))
       (go (find (st .conn .table) (h .id))))
-      (stands-closes p 11)
+      (stands-closes p (Plain 11))
     where
       go : (s : Slot) → StandsAt (afterHeader h) (onSlot s (onActive st store h) (onInactive st store h) .conn)
       go (Slot.At i) = λ o. refl
       go Slot.Nowhere =
           stands-if (afterHeader h) (eqb (h .kind) BEGIN-REQUEST) _ _
-          (stands-if (afterHeader h) (eqb (h .content) 8) _ _ (λ o. refl) (stands-closes (afterHeader h) 12)) (λ o. refl)
+          (stands-if (afterHeader h) (eqb (h .content) 8) _ _ (λ o. refl) (stands-closes (afterHeader h) (Plain 12))) (λ o. refl)
 
   stands-opens : (id : ℕ) (b : BeginBody) (role : Role) (f : Frame) → StandsAt (f .position) (opens st store id b role f .conn)
   unfolding opens

@@ -75,7 +75,7 @@ Names id (Event.Closed n) = ⊥
 pub names-header : (n : ℕ) (h : Held) (kind : ℕ) → Names (h .request .id) (onHeader kind n h .event)
 unfolding faulted aborted turned
 names-header n h kind =
-    by-rule (λ (r : Ruled). Names (h .request .id) (r .event)) h (λ d. tt) (λ k low high. refl) refl (λ t. refl) (λ t s. refl) kind n
+    by-rule (λ (r : Ruled). Names (h .request .id) (r .event)) h (λ d. tt) (λ cause fault. refl) refl (λ t. refl) (λ t s. refl) kind n
 
 -- what the machine tells of it is what the step tells
 pub header-told : (id : ℕ) (e : Event) (x : List ℕ) → Names id e → map Heard (notes e x) ≡ toldAll (asList receiver (eventFrom receiver id (noteOf e 0)))

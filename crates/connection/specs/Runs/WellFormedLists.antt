@@ -1,7 +1,7 @@
 -- In a run the list of a request whose PARAMS have ended, and that is not faulted, is well formed and repeats no name.
 use mathlib.Core.Path.{_≡_, refl, ap, sym, _∙_, subst}
 use mathlib.Core.List.{List, [], _∷_}
-use mathlib.Core.Option.{Option}
+use mathlib.Core.Option.{Option, none, some}
 use mathlib.Core.Bool.{Bool, true, false}
 use Prim.Native.Nat.{ℕ, suc, _+_, _≤_, _<_}
 use native.Mathlib.Omega.{arith}
@@ -70,15 +70,15 @@ not-faulted Life.Live e = refl
 not-faulted Life.Faulted e = true-false e
 not-faulted Life.Aborted e = refl
 
-good : (list : List ℕ) → paramsFault list ≡ 0 → Good list
+good : (list : List ℕ) → paramsFault list ≡ none → Good list
 unfolding paramsFault
 good list e =
     byTest (wellFormed list)
     (λ w.
     byTest (repeats list)
-    (λ r. let z : _≡_ {A = ℕ} 26 0 = simp (w, r) at e in absurd (omega arith))
+    (λ r. let z : _≡_ {A = ℕ} 0 1 = cc (simp (w, r) at e) in absurd (omega arith))
     (λ r. record { formed = w; once = r }))
-    (λ w. let z : _≡_ {A = ℕ} 25 0 = simp w at e in absurd (omega arith))
+    (λ w. let z : _≡_ {A = ℕ} 0 1 = cc (simp w at e) in absurd (omega arith))
 
 by-header : (n : ℕ) (h : Held) (kind : ℕ) → ListOk h → Decides n (onHeader kind n h)
 unfolding faulted aborted turned withLife withTurn
@@ -89,7 +89,8 @@ by-header n h kind ok = of (onHeader kind n h) (header-rule kind n h)
 
     of : (r : Ruled) → Rule kind n h r → Decides n r
     of r (Rule.Skips e) = record { list = ok; due = tt }
-    of r (Rule.Faults k low high) = record { list = λ t f. true-false f; due = tt }
+    of r (Rule.Faults k f) = record { list = λ t f. true-false f; due = tt }
+    of r (Rule.Breaks t n w) = record { list = λ t f. true-false f; due = tt }
     of r (Rule.Aborts l) = record { list = λ t f. ok t (not-faulted (h .request .state .life) l); due = tt }
     of r (Rule.Params t room) = record { list = ok; due = (ap inParams (t .turn), t .live) }
     of r (Rule.Readies t z f) = record { list = λ a b. good (listOf h) f; due = tt }

@@ -69,11 +69,8 @@ pack-requires-7 c κs = search needs
 enum-known-e-7 : tie.Need-enum-known-e-7
 enum-known-e-7 c = search needs
 
-fault-number-requires : tie.Need-fault-number-requires
-fault-number-requires c κs = search needs
-
-pack-requires-8 : tie.Need-pack-requires-8
-pack-requires-8 c κs = search needs
+fault-weight-requires : tie.Need-fault-weight-requires
+fault-weight-requires c κs = search needs
 
 enum-known-e-8 : tie.Need-enum-known-e-8
 enum-known-e-8 c = search needs
@@ -93,23 +90,20 @@ flag-requires-4 c κs = search needs
 cast-pack-4 : tie.Need-cast-pack-4
 cast-pack-4 c = search needs
 
-pack-requires-9 : tie.Need-pack-requires-9
-pack-requires-9 c κs = search needs
+pack-requires-8 : tie.Need-pack-requires-8
+pack-requires-8 c κs = search needs
 
 enum-known-e-9 : tie.Need-enum-known-e-9
 enum-known-e-9 c = search needs
 
-pack-requires-10 : tie.Need-pack-requires-10
-pack-requires-10 c κs = search needs
+pack-requires-9 : tie.Need-pack-requires-9
+pack-requires-9 c κs = search needs
 
 enum-known-e-10 : tie.Need-enum-known-e-10
 enum-known-e-10 c = search needs
 
-close-number-requires : tie.Need-close-number-requires
-close-number-requires c κs = search needs
-
-pack-requires-11 : tie.Need-pack-requires-11
-pack-requires-11 c κs = search needs
+closed-weight-requires : tie.Need-closed-weight-requires
+closed-weight-requires c κs = search needs
 
 returns : tie.Need-returns
 returns c = search needs
@@ -133,16 +127,16 @@ returns-7 : tie.Need-returns-7
 returns-7 c = (c .pack7 .ensures .0 ∙ simp (c .before .status-number .ensures, c .before .before .before .e6 .given .1), c .pack7 .ensures .1)
 
 returns-8 : tie.Need-returns-8
-returns-8 c = (c .pack8 .ensures .0 ∙ simp (c .before .fault-number .ensures, c .before .before .before .e7 .given .1), c .pack8 .ensures .1)
+returns-8 c = (c .fault-weight .ensures .0 ∙ simp (c .before .before .e7 .given .1), c .fault-weight .ensures .1)
 
 returns-9 : tie.Need-returns-9
-returns-9 c = (c .pack9 .ensures .0 ∙ simp (c .before .before .before .flag2 .ensures, c .before .before .flag3 .ensures, c .before .flag4 .ensures, c .before .before .before .before .before .e8 .given .1), c .pack9 .ensures .1)
+returns-9 c = (c .pack8 .ensures .0 ∙ simp (c .before .before .before .flag2 .ensures, c .before .before .flag3 .ensures, c .before .flag4 .ensures, c .before .before .before .before .before .e8 .given .1), c .pack8 .ensures .1)
 
 returns-10 : tie.Need-returns-10
-returns-10 c = (c .pack10 .ensures .0 ∙ simp (c .before .before .e9 .given .1), c .pack10 .ensures .1)
+returns-10 c = (c .pack9 .ensures .0 ∙ simp (c .before .before .e9 .given .1), c .pack9 .ensures .1)
 
 returns-11 : tie.Need-returns-11
-returns-11 c = (c .pack11 .ensures .0 ∙ simp (c .before .close-number .ensures, c .before .before .before .e10 .given .1), c .pack11 .ensures .1)
+returns-11 c = (c .closed-weight .ensures .0 ∙ simp (c .before .before .e10 .given .1), c .closed-weight .ensures .1)
 
 pub event-weight-spec : {M : Type 1} → statement M
 event-weight-spec =
@@ -170,20 +164,18 @@ event-weight-spec =
     status-number-requires
     pack-requires-7
     enum-known-e-7
-    fault-number-requires
-    pack-requires-8
+    fault-weight-requires
     enum-known-e-8
     flag-requires-2
     cast-pack-3
     flag-requires-3
     flag-requires-4
     cast-pack-4
-    pack-requires-9
+    pack-requires-8
     enum-known-e-9
-    pack-requires-10
+    pack-requires-9
     enum-known-e-10
-    close-number-requires
-    pack-requires-11
+    closed-weight-requires
     returns
     returns-2
     returns-3

@@ -1,6 +1,6 @@
 use mathlib.Core.Path.{_≡_, _∙_, sym, ap}
 use Rattle.request_fault.specs.Answer.{held}
-use Rattle.request_input.specs.Answer.{endNumber}
+use Rattle.request_input.specs.Answer.{endCause}
 use Rattle.request_input.specs.Laws.{ends-ready, ends-in-fault}
 use borrow.Author.Needs.{needs}
 use Rattle.request_input.proofs.end_params.Statement.{statement}
@@ -30,7 +30,7 @@ returns c =
     let o = t .before .before in
     let w = o .before .before in
     let a = w .before .before .before .args in
-    let e = ap endNumber (o .enum-told .given .1) in
+    let e = ap endCause (o .enum-told .given .1) in
     let r = ends-ready (held (a .r) (a .area .now)) (sym e ∙ w .own-list-end .ensures) in
     simp (c .before .before .end-turn .ensures, t .after-params .ensures, r)
 
@@ -45,7 +45,7 @@ returns-2 c =
     let k = c .before .before .before .before .before in
     let w = k .before .before in
     let a = w .before .before .before .args in
-    c .before .before .fault .ensures ∙ sym (ends-in-fault (held (a .r) (a .area .now)) (k .end .given .0 .0) (sym (ap endNumber (k .end .given .1)) ∙ w .own-list-end .ensures))
+    c .before .before .fault .ensures ∙ sym (ends-in-fault (held (a .r) (a .area .now)) (k .end .given .0 .0) (sym (ap endCause (k .end .given .1)) ∙ w .own-list-end .ensures))
 
 pub end-params-spec : {M : Type 1} → statement M
 end-params-spec =
