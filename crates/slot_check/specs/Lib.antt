@@ -1,3 +1,4 @@
 pub mod Quick
 pub mod QuickLaws
 pub mod QuickRow
+pub mod TakenLaws

@@ -1,21 +1,19 @@
-use mathlib.Core.Path.{_≡_, refl, sym, _∙_}
-use mathlib.Core.Bool.{_||_}
 use Prim.Native.Nat.{_-_}
 use borrow.Author.Needs.{needs}
 use Rattle.connection.specs.Sizes.{SLOTS}
-use Rattle.slot_check.specs.Quick.{anyOf, isLong}
-use Rattle.slot_check.specs.QuickLaws.{any-next, any-done}
+use Rattle.slot_check.specs.Quick.{Gathers, isLong}
+use Rattle.slot_check.specs.QuickLaws.{any-start, any-next, any-done}
 use Rattle.slot_check.proofs.any_long.Statement.{statement}
 use Rattle.slot_check.proofs.any_long.Tie as tie
 
 abbrev Inv-loop : tie.InvT-loop
-Inv-loop lengths any₀ i₀ any i = (any || anyOf (SLOTS - i) (isLong lengths) i) ≡ anyOf SLOTS (isLong lengths) 0
+Inv-loop lengths any₀ i₀ any i = Gathers SLOTS (isLong lengths) any i
 
 abbrev μ-loop : tie.MeasureT-loop
 μ-loop lengths any₀ i₀ any i = SLOTS - i
 
 loop-holds : tie.Need-loop-holds Inv-loop μ-loop
-loop-holds c = refl
+loop-holds c = any-start
 
 mul-widen : tie.Need-mul-widen Inv-loop μ-loop
 mul-widen c = search needs
@@ -34,12 +32,11 @@ loop-less c = search needs
 
 loop-again : tie.Need-loop-again Inv-loop μ-loop
 loop-again c =
-    let y = c .before .before .before in
-    rw (c .widen .ensures) (sym (any-next (y .loop .any) (isLong (y .before .args .lengths .now)) (y .loop .i) (c .before .before .loop-test .taken)) ∙ y .loop .inv)
+    let y = c .before .before in
+    rw (c .widen .ensures) (any-next (y .before .loop .inv) (y .loop-test .taken))
 
 returns : tie.Need-returns Inv-loop μ-loop
-returns c =
-    sym (any-done (c .before .loop .any) (isLong (c .before .before .args .lengths .now)) (c .before .loop .i) (c .loop-test .left)) ∙ c .before .loop .inv
+returns c = any-done (c .before .loop .inv) (c .loop-test .left)
 
 pub any-long-spec : {M : Type 1} → statement M
 any-long-spec =

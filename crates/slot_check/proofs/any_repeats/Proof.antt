@@ -1,21 +1,18 @@
-use mathlib.Core.Path.{_≡_, refl, sym, _∙_}
-use mathlib.Core.Bool.{_||_}
 use Prim.Native.Nat.{_-_}
 use borrow.Author.Needs.{needs}
-use Rattle.connection.specs.Sizes.{SLOTS}
-use Rattle.slot_check.specs.Quick.{anyOf, repeats}
-use Rattle.slot_check.specs.QuickLaws.{any-next, any-done}
+use Rattle.slot_check.specs.Quick.{Gathers, repeats}
+use Rattle.slot_check.specs.QuickLaws.{any-start, any-next, any-done}
 use Rattle.slot_check.proofs.any_repeats.Statement.{statement}
 use Rattle.slot_check.proofs.any_repeats.Tie as tie
 
 abbrev Inv-loop : tie.InvT-loop
-Inv-loop keys any₀ i₀ any i = (any || anyOf (SLOTS - i) (repeats keys) i) ≡ anyOf SLOTS (repeats keys) 0
+Inv-loop keys n any₀ i₀ any i = Gathers n (repeats keys) any i
 
 abbrev μ-loop : tie.MeasureT-loop
-μ-loop keys any₀ i₀ any i = SLOTS - i
+μ-loop keys n any₀ i₀ any i = n - i
 
 loop-holds : tie.Need-loop-holds Inv-loop μ-loop
-loop-holds c = refl
+loop-holds c = any-start
 
 key-repeats-requires : tie.Need-key-repeats-requires Inv-loop μ-loop
 key-repeats-requires c κs = search needs
@@ -27,12 +24,10 @@ loop-less : tie.Need-loop-less Inv-loop μ-loop
 loop-less c = search needs
 
 loop-again : tie.Need-loop-again Inv-loop μ-loop
-loop-again c =
-    rw (c .key-repeats .ensures) (sym (any-next (c .before .before .loop .any) (repeats (c .before .before .before .args .keys .now)) (c .before .before .loop .i) (c .before .loop-test .taken)) ∙ c .before .before .loop .inv)
+loop-again c = rw (c .key-repeats .ensures) (any-next (c .before .before .loop .inv) (c .before .loop-test .taken))
 
 returns : tie.Need-returns Inv-loop μ-loop
-returns c =
-    sym (any-done (c .before .loop .any) (repeats (c .before .before .args .keys .now)) (c .before .loop .i) (c .loop-test .left)) ∙ c .before .loop .inv
+returns c = any-done (c .before .loop .inv) (c .loop-test .left)
 
 pub any-repeats-spec : {M : Type 1} → statement M
 any-repeats-spec =

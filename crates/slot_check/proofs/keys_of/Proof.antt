@@ -1,24 +1,33 @@
-use mathlib.Core.Path.{_≡_, refl, _∙_}
-use Prim.Native.Nat.{_+_, _-_}
-use lib.ListN.{length, set, length-set}
+use mathlib.Core.Path.{_≡_}
+use Prim.Native.Nat.{_-_, _≤_}
+use native.Mathlib.Omega.{arith}
 use borrow.Author.Needs.{needs}
-use Rattle.connection.specs.Sizes.{SLOTS}
-use Rattle.slot_check.specs.Quick.{KeysOf}
-use Rattle.slot_check.specs.QuickLaws.{keys-none, keys-next, keys-all}
+use Rattle.slot_check.specs.Quick.{Gathers, KeysOf, isNameless}
+use Rattle.slot_check.specs.QuickLaws.{any-start, any-next, any-done, keys-none, keys-next}
 use Rattle.slot_check.proofs.keys_of.Statement.{statement}
 use Rattle.slot_check.proofs.keys_of.Tie as tie
 
 abbrev Inv-loop : tie.InvT-loop
-Inv-loop ids occupied keys₀ i₀ keys i = (length keys ≡ 32) × KeysOf ids occupied i keys
+Inv-loop ids occupied n bits keys₀ nameless₀ i₀ keys nameless i =
+    (i ≤ n) × (KeysOf ids occupied i keys × Gathers n (isNameless ids occupied) nameless i)
 
 abbrev μ-loop : tie.MeasureT-loop
-μ-loop ids occupied keys₀ i₀ keys i = SLOTS - i
+μ-loop ids occupied n bits keys₀ nameless₀ i₀ keys nameless i = n - i
 
 loop-holds : tie.Need-loop-holds Inv-loop μ-loop
-loop-holds c = (refl, keys-none _ _ _)
+loop-holds c = (omega arith, (keys-none, any-start))
 
-key-of-requires : tie.Need-key-of-requires Inv-loop μ-loop
-key-of-requires c κs = search needs
+mul-id : tie.Need-mul-id Inv-loop μ-loop
+mul-id c = search needs
+
+element-copy-out-id : tie.Need-element-copy-out-id Inv-loop μ-loop
+element-copy-out-id c = search needs
+
+has-bit-requires : tie.Need-has-bit-requires Inv-loop μ-loop
+has-bit-requires c κs = search needs
+
+key-if-requires : tie.Need-key-if-requires Inv-loop μ-loop
+key-if-requires c κs = search needs
 
 mul-keys : tie.Need-mul-keys Inv-loop μ-loop
 mul-keys c = search needs
@@ -43,13 +52,16 @@ loop-less c = search needs
 
 loop-again : tie.Need-loop-again Inv-loop μ-loop
 loop-again c =
-    let y = c .before .before in
-    let n : length (y .loop .keys) ≡ 32 = y .loop .inv .0 in
-    let key = c .key-of .result in
-    (length-set (set (y .loop .keys) (y .loop .i) key) (y .loop .i + 16) key ∙ length-set (y .loop .keys) (y .loop .i) key ∙ n, rw (c .key-of .ensures) (keys-next (y .before .args .ids .now) (y .before .args .occupied) (y .loop .i) (y .loop .keys) n (c .before .loop-test .taken) (y .loop .inv .1)))
+    let y = c .before .before .before .before in
+    let inv = y .before .loop .inv in
+    rw (c .key-if .ensures, c .before .has-bit .ensures)
+    (omega arith, (keys-next (inv .1 .0) (omega arith), any-next (inv .1 .1) (y .loop-test .taken)))
 
 returns : tie.Need-returns Inv-loop μ-loop
-returns c = keys-all _ _ _ _ (c .loop-test .left) (c .before .loop .inv .1)
+returns c =
+    let inv = c .before .loop .inv in
+    let e : c .before .loop .i ≡ c .before .before .args .n = omega arith in
+    (rw e at (inv .1 .0), any-done (inv .1 .1) (c .loop-test .left))
 
 pub keys-of-spec : {M : Type 1} → statement M
 keys-of-spec =
@@ -58,7 +70,10 @@ keys-of-spec =
     Inv-loop
     μ-loop
     loop-holds
-    key-of-requires
+    mul-id
+    element-copy-out-id
+    has-bit-requires
+    key-if-requires
     mul-keys
     array-write-keys
     add-keys
