@@ -1,9 +1,9 @@
 -- Steps over a piece, one after another, until something is told, a step is refused, or the piece is used up. These are
 -- the steps of the rules; nothing is new but that each is lent what the one before left of the piece.
-use Prim.Native.Nat.{ℕ, zero, suc, _+_}
+use Prim.Native.Nat.{ℕ, zero, suc, _+_, _-_}
 use mathlib.Core.Bool.{Bool, true, false}
 use mathlib.Core.List.{List, [], _∷_}
-use lib.ListN.{length, drop}
+use lib.ListN.{length, take, drop}
 use Rattle.wire.specs.Test.{if_then_else_, _<?_, _=?_}
 use Rattle.connection.specs.Event.{Event}
 use Rattle.connection.specs.Step.{State, Stepped, stepped}
@@ -36,6 +36,23 @@ goesOn s n = goesOnFrom (s .refusal) (s .event) (s .used) n
 -- a step with so many bytes used before it
 abbrev pub after : ℕ → Stepped → Stepped
 after n s = record { refusal = s .refusal; used = n + s .used; event = s .event; state = s .state; store = s .store }
+
+-- the bytes that an event shows: of a data event the last of those used
+abbrev pub countOf : Event → ℕ
+countOf Event.None = 0
+countOf (Event.Open id role keep) = 0
+countOf (Event.Ready id n) = 0
+countOf (Event.Data id stream n) = n
+countOf (Event.End id stream) = 0
+countOf (Event.Abort id) = 0
+countOf (Event.Refuse id n) = 0
+countOf (Event.Fault id cause) = 0
+countOf (Event.Query conns reqs mpxs) = 0
+countOf (Event.Unknown kind) = 0
+countOf (Event.Closed cause) = 0
+
+abbrev pub shownBy : Stepped → List ℕ → List ℕ
+shownBy s piece = take (countOf (s .event)) (drop (s .used - countOf (s .event)) piece)
 
 -- (The first argument bounds the number of further steps.)
 unfoldable pub nextIn : ℕ → State → List ℕ → List ℕ → Stepped

@@ -4,7 +4,7 @@ use mathlib.Core.Path.{_≡_, refl, sym, ap, _∙_, subst}
 use Prim.Native.Nat.{ℕ, zero, suc, _+_, _-_, _≤_, _<_}
 use native.Mathlib.Omega.{arith}
 use mathlib.Core.Bool.{Bool, true, false}
-use mathlib.Core.List.{List}
+use mathlib.Core.List.{List, _++_, map, append-nil}
 use lib.ListN.{length, take, drop, length-drop}
 use lib.Seq.{drop-drop, take-all}
 use lib.Dec.{eqb, ltb}
@@ -13,8 +13,10 @@ use Rattle.wire.specs.Test.{if_then_else_, byTest}
 use Rattle.connection.specs.Event.{Event}
 use Rattle.connection.specs.Step.{State, Stepped, stepped, stepRefusal}
 use Rattle.connection.specs.Laws.Progress.{admitted-fits, step-refused, step-uses-some, step-uses-no-more}
-use Rattle.connection.specs.Run.{Memory, memoryOf, memoryAfter, finalMemory}
-use Rattle.call_next.specs.Next.{isNone, isSilent, goesOnFrom, goesOn, after, reached, nextIn, nextEvent, stepsIn, nextSteps}
+use Rattle.connection.specs.Run.{Memory, Observed, Heard, memoryOf, memoryAfter, seenIn, finalMemory, allSeen}
+use Rattle.call_next.specs.Next.{isNone, isSilent, goesOnFrom, goesOn, after, countOf, shownBy, reached, nextIn, nextEvent, stepsIn, nextSteps}
+use Rattle.connection.specs.Bytewise.{notes, showing}
+use Rattle.call_next.specs.DataLaws.{data-used}
 
 -- ---- a step after which another follows
 -- it is not refused, tells nothing, and leaves bytes
@@ -110,6 +112,79 @@ steps-leave (suc k) m piece =
 pub next-leaves : (m : Memory) (piece : List ℕ) → finalMemory m (nextSteps (m .state) (m .store) piece) ≡ memoryOf (nextEvent (m .state) (m .store) piece)
 unfolding nextSteps nextEvent
 next-leaves m piece = steps-leave (length piece) m piece
+
+-- A step shows no more than it used.
+count-used : (st : State) (store piece : List ℕ) → countOf (stepped st store piece .event) ≤ stepped st store piece .used
+count-used st store piece = of (stepped st store piece .event) refl
+  where
+    of : (e : Event) → stepped st store piece .event ≡ e → countOf e ≤ stepped st store piece .used
+    of Event.None q = omega arith
+    of (Event.Open id role keep) q = omega arith
+    of (Event.Ready id n) q = omega arith
+    of (Event.Data id stream n) q = omega (arith, data-used st store piece id stream n q)
+    of (Event.End id stream) q = omega arith
+    of (Event.Abort id) q = omega arith
+    of (Event.Refuse id n) q = omega arith
+    of (Event.Fault id cause) q = omega arith
+    of (Event.Query conns reqs mpxs) q = omega arith
+    of (Event.Unknown kind) q = omega arith
+    of (Event.Closed cause) q = omega arith
+
+next-count : (k : ℕ) (st : State) (store piece : List ℕ) → countOf (nextIn k st store piece .event) ≤ nextIn k st store piece .used
+unfolding nextIn
+next-count zero st store piece = count-used st store piece
+next-count (suc k) st store piece =
+    let s = stepped st store piece in
+    byTest (goesOn s (length piece))
+    (λ t. simp t (omega (arith, next-count k (s .state) (s .store) (drop (s .used) piece))))
+    (λ t. simp t (count-used st store piece))
+
+-- What one step tells over the bytes that it used, it tells over those that it shows.
+shows : (st : State) (store piece : List ℕ) → notes (stepped st store piece .event) (take (stepped st store piece .used) piece) ≡ notes (stepped st store piece .event) (shownBy (stepped st store piece) piece)
+shows st store piece = of (stepped st store piece .event) refl
+  where
+    of : (e : Event) → stepped st store piece .event ≡ e
+        → notes e (take (stepped st store piece .used) piece) ≡ notes e (take (countOf e) (drop (stepped st store piece .used - countOf e) piece))
+    of Event.None q = refl
+    of (Event.Open id role keep) q = refl
+    of (Event.Ready id n) q = refl
+    of (Event.Data id stream n) q =
+        let u = data-used st store piece id stream n q in
+        let z : stepped st store piece .used - n ≡ 0 = omega (arith, u) in
+        ap (λ (k : ℕ). showing id stream (take n (take k piece))) u ∙ sym (ap (λ (k : ℕ). showing id stream (take n (take n (drop k piece)))) z)
+    of (Event.End id stream) q = refl
+    of (Event.Abort id) q = refl
+    of (Event.Refuse id n) q = refl
+    of (Event.Fault id cause) q = refl
+    of (Event.Query conns reqs mpxs) q = refl
+    of (Event.Unknown kind) q = refl
+    of (Event.Closed cause) q = refl
+
+-- Of all that is observed on the way, what the call tells is all.
+steps-seen : (k : ℕ) (m : Memory) (piece : List ℕ)
+    → allSeen m (stepsIn k (m .state) (m .store) piece) ≡ map Heard (notes (nextIn k (m .state) (m .store) piece .event) (shownBy (nextIn k (m .state) (m .store) piece) piece))
+unfolding nextIn stepsIn allSeen seenIn memoryAfter
+steps-seen zero m piece = append-nil _ ∙ ap (map Heard) (shows (m .state) (m .store) piece)
+steps-seen (suc k) m piece =
+    let s = stepped (m .state) (m .store) piece in
+    byTest (goesOn s (length piece))
+    (λ t.
+    let g = goes-on s (length piece) t in
+    let rest = drop (s .used) piece in
+    let r = nextIn k (s .state) (s .store) rest in
+    let c = countOf (r .event) in
+    let n : s .used + (r .used - c) ≡ s .used + r .used - c = omega (arith, next-count k (s .state) (s .store) rest) in
+    let same = ap (take c) (drop-drop (r .used - c) (s .used) piece ∙ ap (λ (i : ℕ). drop i piece) n) in
+    let quiet = ap (λ (e : Event). map Heard (notes e (take (s .used) piece))) (g .silent) in
+    simp t
+    (ap (λ (l : List Observed). l ++ allSeen (memoryOf s) (stepsIn k (s .state) (s .store) rest)) quiet
+    ∙ steps-seen k (memoryOf s) rest ∙ ap (λ (x : List ℕ). map Heard (notes (r .event) x)) same))
+    (λ t. simp t (append-nil _ ∙ ap (map Heard) (shows (m .state) (m .store) piece)))
+
+pub next-seen : (m : Memory) (piece : List ℕ)
+    → allSeen m (nextSteps (m .state) (m .store) piece) ≡ map Heard (notes (nextEvent (m .state) (m .store) piece .event) (shownBy (nextEvent (m .state) (m .store) piece) piece))
+unfolding nextSteps nextEvent
+next-seen m piece = steps-seen (length piece) m piece
 
 -- ---- step by step
 -- the first step

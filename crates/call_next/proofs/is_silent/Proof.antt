@@ -1,4 +1,4 @@
-use mathlib.Core.Path.{_≡_, _∙_, sym}
+use mathlib.Core.Path.{_∙_}
 use Rattle.codes.specs.Laws.{refusal-some}
 use borrow.Author.Needs.{needs}
 use Rattle.call_next.proofs.is_silent.Statement.{statement}

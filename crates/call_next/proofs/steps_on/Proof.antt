@@ -1,11 +1,11 @@
-use mathlib.Core.Path.{_≡_, refl, sym, ap, _∙_}
+use mathlib.Core.Path.{_≡_, refl, sym, _∙_}
 use Prim.Native.Nat.{_≤_}
 use native.Mathlib.Omega.{arith}
 use lib.ListN.{length}
 use borrow.Author.Needs.{needs}
 use Rattle.connection.specs.Step.{stateOf}
 use Rattle.call_step.specs.Answer.{toldNumber, toldEvent, steppedBy}
-use Rattle.call_next.specs.Next.{goesOnFrom, reached}
+use Rattle.call_next.specs.Next.{reached}
 use Rattle.call_next.specs.NextLaws.{ahead, Round, round}
 use Rattle.call_next.proofs.steps_on.Statement.{statement}
 use Rattle.call_next.proofs.steps_on.Tie as tie
