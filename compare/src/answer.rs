@@ -125,7 +125,7 @@ pub struct Named {
     pub mpxs_conns: bool,
 }
 
-/// What a step tells. The bytes of `Data` are the first `count` of the piece that the step was lent.
+/// What a step or a `next_event` tells. The bytes of `Data` are the last `count` of those that the call used.
 #[derive(Clone, Copy, Debug, PartialEq, Eq)]
 pub enum Event {
     Open {
@@ -164,7 +164,7 @@ pub enum Event {
     Closed(Close),
 }
 
-/// A step that was not refused: the bytes it used, and what it tells.
+/// A step or a `next_event` that was not refused: the bytes it used, and what it tells.
 #[derive(Clone, Copy, Debug, PartialEq, Eq)]
 pub struct Step {
     pub used: usize,

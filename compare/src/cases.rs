@@ -191,8 +191,8 @@ fn ends_feed(answer: &str) -> bool {
 }
 
 /// What the console's commands begin with.
-const COMMANDS: [&str; 16] = [
-    "start", "lend", "step", "feed", "value", "pair", "walk", "say", "end", "owed", "put",
+const COMMANDS: [&str; 17] = [
+    "start", "lend", "step", "next", "feed", "value", "pair", "walk", "say", "end", "owed", "put",
     "finish", "active", "area", "store", "poke",
 ];
 const EVENTS: [&str; 10] = [
@@ -279,7 +279,7 @@ fn command_text(words: &[&str]) -> Result<String, String> {
         return Err(format!("`{name}` is no command and no record"));
     }
     match name {
-        "step" => with_bytes(words, 1),
+        "step" | "next" => with_bytes(words, 1),
         "feed" => with_bytes(words, 2),
         _ => plain(words),
     }

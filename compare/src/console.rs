@@ -5,7 +5,7 @@ pub mod poke;
 pub mod text;
 pub mod words;
 
-use crate::answer::{Event, Output, Refusal, Source};
+use crate::answer::{Event, Output, Refusal, Source, Step};
 use crate::pairs::{write_pair, Pair, Reading};
 use crate::reply::reply;
 use crate::state::{area, Connection, AREA, STORE};
@@ -63,7 +63,8 @@ impl Console {
                 self.lent = number(n, WHOLE_STORE as u64)? as usize;
                 "ok".into()
             }
-            ["step", piece] => self.step(&bytes(piece)?),
+            ["step", piece] => self.told(&bytes(piece)?, Connection::step),
+            ["next", piece] => self.told(&bytes(piece)?, Connection::next_event),
             ["feed", n, all] => self.feed(piece_size(n)?, &bytes(all)?),
             ["value", r, name, fallback] => self.value(id(r)?, &bytes(name)?, &bytes(fallback)?),
             ["pair", r, k] => self.pair(id(r)?, number(k, u64::MAX)?),
@@ -131,14 +132,21 @@ impl Console {
         })
     }
 
-    fn step(&mut self, piece: &[u8]) -> String {
-        match self.held(|connection, store| connection.step(store, piece)) {
+    /// A step or a `next_event`, and what it tells.
+    fn told(
+        &mut self,
+        piece: &[u8],
+        call: impl FnOnce(&mut Connection, &mut [u8], &[u8]) -> Result<Step, Refusal>,
+    ) -> String {
+        match self.held(|connection, store| call(connection, store, piece)) {
             Err(text) => text,
-            Ok(step) => {
-                self.event = step.event;
-                match &step.event {
-                    None => format!("used {}", step.used),
-                    Some(event) => format!("used {} {}", step.used, text::event_text(event, piece)),
+            Ok(Step { used, event }) => {
+                self.event = event;
+                match &event {
+                    None => format!("used {used}"),
+                    Some(event) => {
+                        format!("used {used} {}", text::event_text(event, &piece[..used]))
+                    }
                 }
             }
         }

@@ -1,8 +1,15 @@
-//! A whole input fed to a fresh connection in pieces of one size, and all that its steps tell mixed into one number, by
-//! which two receivers can be compared and a step's cost be measured.
+//! A whole input fed to a fresh connection in pieces of one size, and all that its calls tell mixed into one number, by
+//! which two receivers can be compared and the cost of a call be measured.
 
 use crate::answer::{Event, Refusal, Step};
 use crate::state::Connection;
+use std::io::Read;
+
+/// What a piece is gone through by: `step_with` or `next_with`, row 9 tested or left out. The loops are compiled anew
+/// for each of them.
+pub trait Call: Fn(&mut Connection, &mut [u8], &[u8]) -> Result<Step, Refusal> {}
+
+impl<T: Fn(&mut Connection, &mut [u8], &[u8]) -> Result<Step, Refusal>> Call for T {}
 
 /// The digest has 56 bits.
 const MODULUS: u64 = 1 << 56;
@@ -44,15 +51,18 @@ pub fn mixed(sum: u64, told: &Result<Step, Refusal>) -> u64 {
     (sum * 33 + weight(told)) % MODULUS
 }
 
-/// Feeds a piece step by step, to its end or to a step that uses nothing; answers the digest and whether to go on.
-pub fn feed<const SHAPE: bool>(
+/// Feeds a piece call by call, to its end or to a call that uses nothing; answers the digest and whether to go on.
+/// Compiled into its callers, so that for pieces of one byte it adds nothing to what is measured.
+#[inline(always)]
+fn feed(
+    call: &impl Call,
     connection: &mut Connection,
     store: &mut [u8],
     mut piece: &[u8],
     mut sum: u64,
 ) -> (u64, bool) {
     while !piece.is_empty() {
-        let told = connection.step_with::<SHAPE>(store, piece);
+        let told = call(connection, store, piece);
         let used = told.as_ref().map_or(0, |step| step.used);
         if used == 0 {
             return (sum, false);
@@ -63,19 +73,42 @@ pub fn feed<const SHAPE: bool>(
     (sum, true)
 }
 
-/// The digest of an input that a fresh connection is fed in pieces of `piece` bytes, row 9 tested or left out.
-pub fn digest<const SHAPE: bool>(store: &mut [u8], input: &[u8], piece: usize) -> u64 {
+/// The digest of an input that a fresh connection is fed in pieces of `piece` bytes.
+pub fn digest(call: impl Call, store: &mut [u8], input: &[u8], piece: usize) -> u64 {
     let mut connection = Connection::closed();
     if connection.start(store).is_err() || piece == 0 {
         return 0;
     }
     let mut sum = 0;
     for part in input.chunks(piece) {
-        let (next, onward) = feed::<SHAPE>(&mut connection, store, part, sum);
+        let (next, onward) = feed(&call, &mut connection, store, part, sum);
         sum = next;
         if !onward {
             break;
         }
+    }
+    sum
+}
+
+/// The same of an input that is read to its end; each piece is what one read puts into the buffer. A read that fails
+/// counts as the end.
+pub fn reading_digest(
+    call: impl Call,
+    store: &mut [u8],
+    buffer: &mut [u8],
+    mut input: impl Read,
+) -> u64 {
+    let mut connection = Connection::closed();
+    if connection.start(store).is_err() {
+        return 0;
+    }
+    let (mut sum, mut onward) = (0, true);
+    while onward {
+        let n = input.read(buffer).unwrap_or(0);
+        if n == 0 {
+            break;
+        }
+        (sum, onward) = feed(&call, &mut connection, store, &buffer[..n], sum);
     }
     sum
 }

@@ -1,4 +1,4 @@
-//! Start and step: the bytes of a connection, read one phase at a time.
+//! Start, step and next_event: the bytes of a connection, read one phase at a time or from event to event.
 
 use crate::answer::{Close, Event, Fault, Named, Refusal, Role, Status, Step, Stream};
 use crate::pairs::{malformed_at, repeats_a_name, Pairs};
@@ -51,6 +51,50 @@ impl Connection {
         } else {
             self.take_header(store, piece)
         })
+    }
+
+    /// Steps one after another, to one that tells an event or to the end of the piece; a single one where it is empty.
+    pub fn next_event(&mut self, store: &mut [u8], piece: &[u8]) -> Result<Step, Refusal> {
+        self.next_with::<true>(store, piece)
+    }
+
+    /// The same by steps that leave row 9 out where `SHAPE` is false. Only the first step can be refused: a step that
+    /// tells nothing keeps the connection open and in shape. So no bytes were used where it ends in a refusal.
+    pub fn next_with<const SHAPE: bool>(
+        &mut self,
+        store: &mut [u8],
+        piece: &[u8],
+    ) -> Result<Step, Refusal> {
+        let mut used = 0;
+        loop {
+            // The answer is handed on as it is: `?` would copy it, which takes half the time of a step without row 9.
+            match self.step_with::<SHAPE>(store, &piece[used..]) {
+                Ok(step) if step.event.is_none() && used + step.used < piece.len() => {
+                    used += step.used;
+                }
+                Ok(mut step) => {
+                    step.used += used;
+                    return Ok(step);
+                }
+                refused => return refused,
+            }
+        }
+    }
+
+    /// As `next_event`, with row 9 tested at the first step alone: no later one can be refused. For measuring, since an
+    /// ordinary receiver that is to be quick would do so.
+    pub fn next_once(&mut self, store: &mut [u8], piece: &[u8]) -> Result<Step, Refusal> {
+        match self.step_with::<true>(store, piece) {
+            Ok(step) if step.event.is_none() && step.used < piece.len() => {
+                let used = step.used;
+                let mut next = self.next_with::<false>(store, &piece[used..]);
+                if let Ok(step) = &mut next {
+                    step.used += used;
+                }
+                next
+            }
+            told => told,
+        }
     }
 
     fn take_padding(&mut self, piece: &[u8]) -> Step {

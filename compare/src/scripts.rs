@@ -44,15 +44,15 @@ struct Draft {
     console: Console,
     script: Script,
     cut: Cut,
-    /// Of how many pieces one goes by `feed` and not by `step`; 0 where none does.
+    /// Of how many pieces one goes by `feed` and not by `step` or `next`; 0 where none does.
     feeding: u64,
-    /// Of how many steps one is followed by a call.
+    /// Of how many pieces one is followed by a call.
     chatter: u64,
     /// Many ids are opened, past the number of slots.
     crowd: bool,
     /// What is still to be sent of the parameters of a request.
     lists: BTreeMap<u16, Vec<u8>>,
-    /// No calls but steps; and the bytes that were fed.
+    /// No calls but those that feed; and the bytes that were fed.
     silent: bool,
     sent: Vec<u8>,
 }
@@ -173,8 +173,8 @@ impl Draft {
         id
     }
 
-    /// Feeds bytes in pieces, what a step did not use first in the next; calls in between. Answers whether the
-    /// connection took them all.
+    /// Feeds bytes in pieces, what a call did not use first in the next piece; other calls in between. Answers whether
+    /// the connection took them all.
     fn feed(&mut self, mut bytes: &[u8]) -> bool {
         self.sent.extend(bytes);
         while !bytes.is_empty() {
@@ -182,8 +182,7 @@ impl Draft {
             let used = if self.feeding > 0 && self.random.one_in(self.feeding) {
                 self.feed_line(&bytes[..n])
             } else {
-                self.line(format!("step {}", hex(&bytes[..n])));
-                used_by_step(self.last())
+                self.piece_line(&bytes[..n])
             };
             match used {
                 Some(used) if self.open() => bytes = &bytes[used..],
@@ -194,6 +193,14 @@ impl Draft {
             }
         }
         true
+    }
+
+    /// A `step` or a `next`, one as often as the other. Answers how many bytes it used, none where it was refused.
+    fn piece_line(&mut self, piece: &[u8]) -> Option<usize> {
+        let call = self.random.pick(&["step", "next"]);
+        let answer = self.line(format!("{call} {}", hex(piece)));
+        let rest = answer.strip_prefix("used ")?;
+        rest.split(' ').next()?.parse().ok()
     }
 
     /// A `feed` in pieces of any size. Answers how many bytes it used, none where it was refused.
@@ -253,10 +260,4 @@ impl Draft {
             self.feeding = self.random.pick(&[0, 1, 2, 8]);
         }
     }
-}
-
-/// None for a step that was refused.
-fn used_by_step(answer: &str) -> Option<usize> {
-    let rest = answer.strip_prefix("used ")?;
-    rest.split(' ').next()?.parse().ok()
 }

@@ -20,7 +20,7 @@ impl Tally {
         for (call, numbers) in REFUSALS {
             wanted.extend(numbers.iter().map(|n| format!("{call}: refused {n}")));
         }
-        for call in ["step", "feed"] {
+        for call in ["step", "next", "feed"] {
             wanted.extend([11, 12, 13].map(|n| format!("{call}: closed {n}")));
             wanted.extend([21, 22, 23, 24, 26].map(|n| format!("{call}: fault {n}")));
             wanted.extend(PLACES.map(|place| format!("{call}: closed 14 {place}")));
@@ -66,9 +66,10 @@ fn place_kind(place: &str) -> &'static str {
 }
 
 /// The numbers that each call can give.
-const REFUSALS: [(&str, &[u8]); 12] = [
+const REFUSALS: [(&str, &[u8]); 13] = [
     ("start", &[2]),
     ("step", &[2, 9, 1]),
+    ("next", &[2, 9, 1]),
     ("feed", &[2, 9, 1]),
     ("value", &[2, 9, 1, 3, 4]),
     ("pair", &[2, 9, 1, 3, 4, 7]),
@@ -86,7 +87,7 @@ fn kind(line: &[u8], answer: &str) -> String {
     let words: Vec<&str> = answer.split(' ').collect();
     let what = match words[..] {
         ["what" | "long"] => return answer.into(),
-        // What a step tells stands behind the bytes that it used.
+        // What a step or a next tells stands behind the bytes that it used.
         ["used", _, ref event @ ..] if !event.is_empty() => event_kind(event),
         ["walk", .., "malformed", "at", place] => format!("malformed {}", place_kind(place)),
         ["walk", .., "end", _] => "end".into(),

@@ -146,6 +146,7 @@ fn commands() {
         ("put \"\\{3}n\" \"\\{2}\\0a\" 9", "put 6e6e6e 0a0a 9"),
         ("step -", "step -"),
         ("step 01 02 \"ab\"", "step 01026162"),
+        ("next 01 \"ab\" 02", "next 01616202"),
         ("feed 3 01 02 \"ab\"", "feed 3 01026162"),
         ("pair  1   0", "pair 1 0"),
         ("poke body 00\"a\"", "poke body 0061"),
@@ -261,6 +262,7 @@ fn what_is_wrong_and_where() {
             "one.txt:3: an answer is missing behind >",
         ),
         ("case a\nstep\n", "one.txt:2: bytes are missing at the end"),
+        ("case a\nnext\n", "one.txt:2: bytes are missing at the end"),
         (
             "case a\nbytes \"\\{70000}x\"\n",
             "one.txt:2: the console's line for this would be too long",

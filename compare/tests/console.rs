@@ -83,6 +83,42 @@ fn the_event_that_is_owed() {
     ]);
 }
 
+/// The lines of `next` go on to an event; those of `step` in between take the same bytes one phase at a time.
+#[test]
+fn going_on_to_the_next_event() {
+    check(&[
+        ("next 01", "refused 1"),
+        ("start", "open"),
+        (
+            "next 01010001000800000001010000000000010400010000000001",
+            "used 16 open 1 responder keep",
+        ),
+        ("next 0104000100", "used 5"),
+        ("step 000000", "used 3 ready 1 0"),
+        ("step 010500010003020061", "used 8"),
+        // Only the content is shown, whatever was used before it.
+        ("next 616263ffff", "used 3 data 1 stdin 616263"),
+        (
+            "next ffff010500010003000064656601",
+            "used 13 data 1 stdin 646566",
+        ),
+        ("next -", "used 0"),
+        ("next 012a00000001000000", "used 8 unknown 42"),
+        ("owed 16", "wrote 16 010b0000000800002a00000000000000"),
+        (&lend(STORE - 1), "ok"),
+        ("next 00", "refused 2"),
+        ("owed 16", "wrote 16 010b0000000800002a00000000000000"),
+        (&lend(STORE), "ok"),
+        // What tells nothing leaves no event.
+        ("next 00", "used 1"),
+        ("owed 16", "wrote 0 -"),
+        ("next 010900000000000000ff", "used 8 query 000"),
+        ("owed 8", "wrote 8 010a000000000000"),
+        ("next 00050001000000000109", "used 8 closed 11"),
+        ("next -", "refused 1"),
+    ]);
+}
+
 #[test]
 fn what_is_no_command() {
     for line in [
@@ -94,6 +130,9 @@ fn what_is_no_command() {
         "step 0",
         "step 0A",
         "step - -",
+        "next",
+        "next 0",
+        "next 1 00",
         &lend(STORE + 2),
         "feed",
         "feed 1",

@@ -37,6 +37,7 @@ fn refused(change: impl Fn(&mut Connection)) -> bool {
         connection.pair_at(&store, 1, 0).err(),
         connection.walk(&store, 1).err(),
         connection.step(&mut store, &[]).err(),
+        connection.next_event(&mut store, &[]).err(),
         connection.say(1, Output::Stdout, &[], buffer).err(),
         connection.end(1, Output::Stderr, buffer).err(),
         connection.step(&mut store, b"x").err(),

@@ -1,5 +1,6 @@
 //! The connection that both receivers read.
 
+use compare::state::{Connection, STORE};
 use compare::wire::{kind, Header};
 
 /// Content bytes of a STDIN record.
@@ -49,4 +50,21 @@ pub fn steps(bytes: &[u8], piece: usize) -> usize {
         }
     }
     steps
+}
+
+/// How many calls of `next_event` the pieces take, as the plain receiver makes them.
+pub fn events(bytes: &[u8], piece: usize) -> usize {
+    let (mut connection, mut store) = (Connection::closed(), vec![0; STORE]);
+    connection
+        .start(&mut store)
+        .expect("the store has its size");
+    let mut events = 0;
+    for mut rest in bytes.chunks(piece) {
+        while !rest.is_empty() {
+            let next = connection.next_event(&mut store, rest);
+            rest = &rest[next.expect("it stays open").used..];
+            events += 1;
+        }
+    }
+    events
 }

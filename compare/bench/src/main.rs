@@ -1,18 +1,22 @@
 //! Both receivers on the same bytes.
 //!
 //!     bench time ROUNDS FILE             times; FILE is written, and read again in pieces
-//!     bench count SYMBOL PIECE TOTAL     one receiver once, for callgrind; prints the number of steps
+//!     bench read SYMBOL PIECE            one receiver that reads standard input, a file: nanoseconds and what it told
+//!     bench count SYMBOL PIECE TOTAL     one receiver once, for callgrind; prints the numbers of steps and of events
 //!     bench params SYMBOL LIST 0|1       one request's parameters once, 1: with the record that ends them
 //!     bench agree STREAMS                random connections: what is told, and the store that is left
 
 mod input;
 mod lists;
+mod reading;
 mod receivers;
+mod tables;
 mod timing;
 
 use compare::scripts::stream;
 use compare::state::STORE;
-use receivers::RECEIVERS;
+use receivers::{of_symbol, BY_EVENT, BY_STEP};
+use std::io;
 use std::path::Path;
 use std::process::ExitCode;
 
@@ -21,7 +25,11 @@ fn main() -> ExitCode {
     let words: Vec<&str> = words.iter().map(String::as_str).collect();
     let done = match words[..] {
         ["time", rounds, file] => match rounds.parse() {
-            Ok(rounds) => timing::table(rounds, Path::new(file)).is_ok(),
+            Ok(rounds) => worked(timing::table(rounds, Path::new(file))),
+            Err(_) => false,
+        },
+        ["read", symbol, piece] => match piece.parse() {
+            Ok(piece) => worked(reading::child(symbol, piece)),
             Err(_) => false,
         },
         ["count", symbol, piece, total] => match (piece.parse(), total.parse()) {
@@ -35,24 +43,35 @@ fn main() -> ExitCode {
     if done {
         ExitCode::SUCCESS
     } else {
-        eprintln!("bench time ROUNDS FILE | bench count SYMBOL PIECE TOTAL | bench params SYMBOL LIST 0|1 | bench agree STREAMS");
+        eprintln!(
+            "bench time ROUNDS FILE | bench read SYMBOL PIECE | bench count SYMBOL PIECE TOTAL \
+             | bench params SYMBOL LIST 0|1 | bench agree STREAMS"
+        );
         ExitCode::FAILURE
     }
 }
 
+/// Says what went wrong, if something did.
+fn worked(done: io::Result<()>) -> bool {
+    if let Err(error) = &done {
+        eprintln!("bench: {error}");
+    }
+    done.is_ok()
+}
+
 fn count(symbol: &str, piece: usize, total: usize) -> bool {
-    let Some(receiver) = RECEIVERS.iter().find(|r| r.symbol == symbol) else {
+    let Some(receiver) = of_symbol(symbol) else {
         return false;
     };
     let bytes = input::input(total);
     let sum = (receiver.digest)(&mut vec![0; STORE], &bytes, piece);
-    println!("{} {sum}", input::steps(&bytes, piece));
+    let (steps, events) = (input::steps(&bytes, piece), input::events(&bytes, piece));
+    println!("{steps} {events} {sum}");
     true
 }
 
 fn params(symbol: &str, list: &str, ended: bool) -> bool {
-    let receiver = RECEIVERS.iter().find(|r| r.symbol == symbol);
-    let (Some(receiver), Some(bytes)) = (receiver, lists::request(list, ended)) else {
+    let (Some(receiver), Some(bytes)) = (of_symbol(symbol), lists::request(list, ended)) else {
         return false;
     };
     let sum = (receiver.digest)(&mut vec![0; STORE], &bytes, bytes.len());
@@ -66,18 +85,27 @@ fn agree(streams: u64) -> bool {
     for seed in 0..streams {
         let bytes = stream(seed);
         for piece in [1, 7, 8, 9, 100, 65_536] {
-            let [proved, plain, unchecked] = RECEIVERS.map(|receiver| {
-                let mut store = vec![0xcc; STORE];
-                let sum = (receiver.digest)(&mut store, &bytes, piece);
-                (sum, store)
+            let told = [BY_STEP, BY_EVENT].map(|receivers| {
+                receivers.map(|receiver| {
+                    let mut store = vec![0xcc; STORE];
+                    let sum = (receiver.digest)(&mut store, &bytes, piece);
+                    (sum, store)
+                })
             });
-            if proved != plain || plain != unchecked {
+            let alike = told.iter().all(|[proved, plain, unchecked]| {
+                // By step and by event the digests differ, but the store is the same.
+                proved == plain && plain == unchecked && plain.1 == told[0][1].1
+            });
+            if !alike {
                 println!("stream {seed} in pieces of {piece}: the receivers differ");
                 return false;
             }
             fed += bytes.len();
         }
     }
-    println!("{streams} connections in pieces of six sizes, {fed} bytes: all told the same and left the same store");
+    println!(
+        "{streams} connections in pieces of six sizes, {fed} bytes, by step and by event: \
+         all told the same and left the same store"
+    );
     true
 }

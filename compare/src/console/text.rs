@@ -3,7 +3,8 @@
 use super::words::hex;
 use crate::answer::{Event, Role, Stream};
 
-pub fn event_text(event: &Event, piece: &[u8]) -> String {
+/// The bytes are those that the call used.
+pub fn event_text(event: &Event, used: &[u8]) -> String {
     match *event {
         Event::Open { id, role, keep } => {
             let role = match role {
@@ -15,7 +16,8 @@ pub fn event_text(event: &Event, piece: &[u8]) -> String {
         }
         Event::Ready { id, length } => format!("ready {id} {length}"),
         Event::Data { id, stream, count } => {
-            format!("data {id} {} {}", stream_text(stream), hex(&piece[..count]))
+            let bytes = hex(content_of(used, count));
+            format!("data {id} {} {bytes}", stream_text(stream))
         }
         Event::End { id, stream } => format!("end {id} {}", stream_text(stream)),
         Event::Abort { id } => format!("abort {id}"),
@@ -32,6 +34,11 @@ pub fn event_text(event: &Event, piece: &[u8]) -> String {
         Event::Unknown { kind } => format!("unknown {kind}"),
         Event::Closed(cause) => format!("closed {}{}", cause.number(), place_text(cause.place())),
     }
+}
+
+/// Of the bytes that a call used, those that its data event shows: headers and padding come before them, nothing after.
+pub fn content_of(used: &[u8], count: usize) -> &[u8] {
+    &used[used.len() - count..]
 }
 
 /// Where a list is malformed; nothing for the faults and closes that have no place.

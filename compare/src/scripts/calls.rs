@@ -51,7 +51,7 @@ impl Draft {
                 self.line(format!("area {id}"));
             }
             96 => {
-                let line = self.random.pick(&["step -", "feed 8 -"]);
+                let line = self.random.pick(&["step -", "next -", "feed 8 -"]);
                 self.line(line);
             }
             _ => {
@@ -65,6 +65,7 @@ impl Draft {
         let id = self.some_id();
         self.line("active");
         self.line("step -");
+        self.line("next -");
         self.value(id);
         self.pair(id);
         self.line(format!("walk {id}"));
@@ -83,7 +84,7 @@ impl Draft {
             self.feed_line(&piece);
             self.owed();
         } else {
-            self.line(format!("step {}", hex(&piece)));
+            self.piece_line(&piece);
         }
     }
 

@@ -5,7 +5,7 @@ use crate::console::{LONGEST_LINE, WHOLE_STORE};
 use crate::state::STORE;
 
 /// Whole lines: what is almost a command, and commands at the limits of their numbers.
-const LINES: [&str; 85] = [
+const LINES: [&str; 92] = [
     "",
     " ",
     "-",
@@ -27,6 +27,13 @@ const LINES: [&str; 85] = [
     "step - -",
     "step  -",
     "step 0x01",
+    "next",
+    "next ",
+    "next 0",
+    "next 0A",
+    "next - -",
+    "next 8 00",
+    "nextstep 00",
     "lend",
     "feed",
     "feed 1",
@@ -217,7 +224,9 @@ impl Draft {
         let (before, after) = match self.random.below(4) {
             0 => ("value 1 ", " -"),
             1 => ("put - ", " 70000"),
-            2 => self.random.pick(&[("step ", ""), ("feed 4096 ", "")]),
+            2 => self
+                .random
+                .pick(&[("step ", ""), ("next ", ""), ("feed 4096 ", "")]),
             _ => ("say 10 stdout ", " 70000"),
         };
         let middle = length - before.len() - after.len();

@@ -76,8 +76,8 @@ impl Draft {
         }
     }
 
-    /// The connection is closed, or the step was refused: some calls meet that state, then all begins anew. Answers
-    /// whether it did.
+    /// The connection is closed, or a call was refused that feeds: some calls meet that state, then all begins anew.
+    /// Answers whether it did.
     fn restart(&mut self) -> bool {
         for _ in 0..self.random.below(4) {
             self.any_call();

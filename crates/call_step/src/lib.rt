@@ -1,67 +1,23 @@
-// One step.
+// The calls that read: one step, and steps up to the next event. Both are one loop, which tests row 9 once.
 use conn_check::in_shape;
-use conn_content::feed;
-use conn_frame::closed;
-use conn_frame::frame_at;
-use conn_frame::only_frame;
-use conn_header::judge;
+use conn_quick::is_shown;
+use conn_quick::pass_header;
+use conn_quick::show_content;
+use conn_step::take_step;
 use connection::answer::Refusal;
 use connection::answer::StepResult;
 use connection::answer::Stepped;
-use connection::decision::Change;
-use connection::decision::Decision;
 use connection::event::Event;
 use connection::sizes::QUERY;
 use connection::sizes::STORE;
 use connection::state::Conn;
-use connection::state::Frame;
-use connection::state::Table;
-use record_reader::Phase;
-use record_reader::Position;
-use record_reader::advance;
-use slot_table::put_request;
-use slot_table::take_request;
-use wire::clear;
 ghost use mathlib.Core.Path.{_≡_};
-ghost use mathlib.Core.List.{List};
-ghost use Prim.Native.Nat.{ℕ, _≤_, _<_};
-ghost use lib.ListN.{length, take};
-ghost use mathlib.Core.Bool.{Bool, true};
-ghost use Rattle.connection.specs.declared.decision.Change.{Change};
-ghost use Rattle.connection.specs.Shape.{inShape};
-ghost use Rattle.connection.specs.declared.answer.StepResult.{StepResult};
-ghost use Rattle.connection.specs.Sizes.{STORE};
-ghost use Rattle.connection.specs.Laws.ShapeLaws.{Aimed, Placed};
-ghost use Rattle.connection.specs.Step.{frameAt, onPhase, openWith, advances, stepped};
-ghost use Rattle.record_reader.specs.Position.{advanced};
-ghost use Rattle.connection.specs.Decision.{openState, applied, connAfter, storeAfter};
-ghost use Rattle.call_step.specs.Answer.{steppedBy};
-ghost use Rattle.connection.specs.Step.{stateOf};
-ghost use Rattle.call_step.specs.declared.StepCheck.{StepCheck};
-ghost use Rattle.call_step.specs.Outcome.{checkedStep, connOf, outcomeOf};
-
-// What the bytes used come to, by the phase that they are of.
-fn decide(
-    t: Table,
-    f: Frame,
-    store: &mut [u8],
-    gathered: &mut [u8; QUERY],
-    bytes: &[u8],
-    phase: Phase,
-    p: Position,
-) -> Decision
-    requires { ⌜ (length (now store) ≡ STORE) × (Aimed (f .target) t (f .gathered) (f .position .content))
-        × (length (now bytes) ≤ 65535) ⌝ }
-    ensures { λ r. ⌜ applied r t (now (gathered .exit)) (now (store .exit))
-        ≡ onPhase phase (openState t f (now (gathered .entry))) (now (store .entry)) (now (bytes .entry)) p ⌝ }
-{
-    match phase {
-        Phase::Content => feed(t, f, store, gathered, bytes, p),
-        Phase::Padding => only_frame(frame_at(f, p), Event::Nothing),
-        Phase::Part => only_frame(frame_at(f, p), Event::Nothing),
-        Phase::Whole(h) => judge(t, store, h),
-    }
-}
+ghost use mathlib.Core.Bool.{true, false};
+ghost use Rattle.connection.specs.Codes.{eventOf};
+ghost use Rattle.connection.specs.Step.{stateOf, stepped};
+ghost use Rattle.conn_step.specs.Answer.{toldNumber, toldEvent, steppedBy};
+ghost use Rattle.call_step.specs.Check.{checkedStep};
+ghost use Rattle.call_step.specs.Next.{isNone, isSilent, nextEvent, stepsBy, isDue};
 
 // Whether a step goes on: yes; there is nothing to read; or it is refused.
 enum StepCheck {
@@ -89,113 +45,145 @@ fn check_step(size: usize, fits: bool, open: bool, bytes: usize) -> StepCheck
     StepCheck::Read
 }
 
-// All that a step comes to, in small values: the table stands in the one place where it is changed.
-struct Outcome {
-    used: usize,
-    result: StepResult,
-    change: Change,
-    frame: Frame,
-}
-
-// Nothing is used, nothing changes.
-fn stay(f: Frame, result: StepResult) -> Outcome
-    ensures { λ r. ⌜ r ≡ record { used = 0; result = result; change = Change.Keep; frame = f } ⌝ }
+fn is_nothing(e: Event) -> bool
+    ensures { λ r. ⌜ r ≡ isNone (eventOf e) ⌝ }
 {
-    Outcome {
-        used: 0,
-        result: result,
-        change: Change::Keep,
-        frame: f,
+    match e {
+        Event::Nothing => true,
+        Event::Open {
+            id: _,
+            role: _,
+            keep: _,
+        } => false,
+        Event::Ready { id: _, length: _ } => false,
+        Event::Data {
+            id: _,
+            stream: _,
+            count: _,
+        } => false,
+        Event::End { id: _, stream: _ } => false,
+        Event::Abort { id: _ } => false,
+        Event::Refuse { id: _, status: _ } => false,
+        Event::Fault { id: _, fault: _ } => false,
+        Event::Query {
+            max_conns: _,
+            max_reqs: _,
+            mpxs_conns: _,
+        } => false,
+        Event::Unknown { kind: _ } => false,
+        Event::Closed { cause: _ } => false,
     }
 }
 
-// A step that is not refused, over a piece that is not empty.
-fn go_on(t: Table, f: Frame, store: &mut [u8], gathered: &mut [u8; QUERY], piece: &[u8]) -> Outcome
-    requires { ⌜ (length (now store) ≡ STORE) × (Aimed (f .target) t (f .gathered) (f .position .content))
-        × (Placed (f .position)) ⌝ }
-    ensures { λ r. ⌜ outcomeOf r t true (now (gathered .exit)) (now (store .exit))
-        ≡ advances (openState t f (now (gathered .entry))) (now (store .entry)) (now (piece .entry))
-        (advanced (f .position) (now (piece .entry))) ⌝ }
+// A step that was not refused and told nothing.
+fn is_silent(result: StepResult) -> bool
+    ensures { λ r. ⌜ r ≡ isSilent (toldNumber result) (toldEvent result) ⌝ }
 {
-    let position = f.position;
-    let a = advance(position, piece);
-    let used = a.used;
-    let phase = a.phase;
-    let p = a.position;
-    let z: usize = 0;
-    let m = decide(t, f, store, gathered, &piece[z..used], phase, p);
-    let change = m.change;
-    let frame = m.frame;
-    let event = m.event;
-    Outcome {
-        used: used,
-        result: StepResult::Event(event),
-        change: change,
-        frame: frame,
+    match result {
+        StepResult::Event(e) => is_nothing(e),
+        StepResult::Refused(_) => false,
     }
 }
 
-// What a step comes to.
-fn settle(
-    check: StepCheck,
-    t: Table,
-    f: Frame,
-    store: &mut [u8],
-    gathered: &mut [u8; QUERY],
-    piece: &[u8],
-) -> Outcome
-    requires { ⌜ (check ≡ StepCheck.Read → (length (now store) ≡ STORE)
-        × (Aimed (f .target) t (f .gathered) (f .position .content)) × (Placed (f .position))) ⌝ }
-    ensures { λ r. ⌜ ((o : Bool) → check
-        ≡ checkedStep (length (now (store .entry))) (inShape (connOf t f o)) o (length (now (piece .entry)))
-        → outcomeOf r t o (now (gathered .exit)) (now (store .exit))
-        ≡ stepped (stateOf (connOf t f o) (now (gathered .entry))) (now (store .entry)) (now (piece .entry))) ⌝ }
+// Another step follows where the call goes on, the last one was silent, and bytes are left.
+fn is_due(on: bool, result: StepResult, used: usize, bytes: usize) -> bool
+    ensures { λ r. ⌜ r ≡ isDue on (toldNumber result) (toldEvent result) used bytes ⌝ }
 {
+    if !on {
+        return false;
+    }
+    if is_silent(result) {
+        return used < bytes;
+    }
+    false
+}
+
+// One step, or steps up to the next event where the call goes `on`. A step keeps the state's shape, so row 9 is tested
+// before the first alone. Most steps over a long body take one of two quick ways, which leave the table where it is. (That
+// content is shown stands twice: a call that begins with it never comes to the loop, and the table is copied less.)
+fn steps(c: Conn, store: &mut [u8], gathered: &mut [u8; QUERY], piece: &[u8], on: bool) -> Stepped
+    ensures { λ r. ⌜ steppedBy r (now (gathered .exit)) (now (store .exit))
+        ≡ stepsBy on (stateOf c (now (gathered .entry))) (now (store .entry)) (now (piece .entry)) ⌝ }
+{
+    let mut t = c.table;
+    let mut f = c.frame;
+    let mut open = c.open;
+    let mut result = StepResult::Event(Event::Nothing);
+    let mut used: usize = 0;
+    let n = piece.len();
+    let fits = in_shape(&t.ids, &t.lengths, t.occupied, f);
+    let check = check_step(store.len(), fits, open, n);
     match check {
-        StepCheck::Refused(why) => stay(f, StepResult::Refused(why)),
-        StepCheck::Idle => stay(f, StepResult::Event(Event::Nothing)),
-        StepCheck::Read => go_on(t, f, store, gathered, piece),
+        StepCheck::Refused(why) => {
+            result = StepResult::Refused(why);
+        }
+        StepCheck::Idle => {}
+        StepCheck::Read => {
+            if is_shown(f) {
+                let s = show_content(&t.ids, f, piece);
+                let event = s.event;
+                used = s.used;
+                f = s.frame;
+                result = StepResult::Event(event);
+            } else {
+                let mut due = true;
+                while due && !is_shown(f) {
+                    let q = pass_header(t, f, &piece[used..n]);
+                    if 0 < q.used {
+                        let event = q.event;
+                        used = used + q.used;
+                        f = q.frame;
+                        result = StepResult::Event(event);
+                    } else {
+                        let conn = Conn {
+                            table: t,
+                            frame: f,
+                            open: open,
+                        };
+                        let s = take_step(conn, store, gathered, &piece[used..n]);
+                        let after = s.conn;
+                        used = used + s.used;
+                        t = after.table;
+                        f = after.frame;
+                        open = after.open;
+                        result = s.result;
+                    }
+                    due = is_due(on, result, used, n);
+                }
+                if due {
+                    let s = show_content(&t.ids, f, &piece[used..n]);
+                    let event = s.event;
+                    used = used + s.used;
+                    f = s.frame;
+                    result = StepResult::Event(event);
+                }
+            }
+        }
+    }
+    Stepped {
+        used: used,
+        result: result,
+        conn: Conn {
+            table: t,
+            frame: f,
+            open: open,
+        },
     }
 }
 
-// One step over a piece: it stays in one phase and uses as many bytes as that phase still needs or the piece has.
-// The table is changed in place and has one way out: each way out that carried it would copy it once more.
+// One step over a piece.
 pub fn step(c: Conn, store: &mut [u8], gathered: &mut [u8; QUERY], piece: &[u8]) -> Stepped
     ensures { λ r. ⌜ steppedBy r (now (gathered .exit)) (now (store .exit))
         ≡ stepped (stateOf c (now (gathered .entry))) (now (store .entry)) (now (piece .entry)) ⌝ }
 {
-    let mut t = c.table;
-    let f = c.frame;
-    let mut open = c.open;
-    let fits = in_shape(&t.ids, &t.lengths, t.occupied, f);
-    let check = check_step(store.len(), fits, open, piece.len());
-    let o = settle(check, t, f, store, gathered, piece);
-    let change = o.change;
-    let mut frame = o.frame;
-    let result = o.result;
-    match change {
-        Change::Keep => {}
-        Change::Put(i, r) => {
-            t = put_request(t, i, r);
-        }
-        Change::Take(i, r) => {
-            t = take_request(t, i, r);
-        }
-        Change::Close => {
-            clear(store);
-            let none = closed();
-            t = none.table;
-            frame = none.frame;
-            open = none.open;
-        }
-    }
-    Stepped {
-        used: o.used,
-        result: result,
-        conn: Conn {
-            table: t,
-            frame: frame,
-            open: open,
-        },
-    }
+    steps(c, store, gathered, piece, false)
+}
+
+// Steps until something is told, a refusal, or the end of the piece. Of a data event the bytes are the last of those
+// used.
+pub fn next_event(c: Conn, store: &mut [u8], gathered: &mut [u8; QUERY], piece: &[u8]) -> Stepped
+    ensures { λ r. ⌜ steppedBy r (now (gathered .exit)) (now (store .exit))
+        ≡ nextEvent (stateOf c (now (gathered .entry))) (now (store .entry)) (now (piece .entry)) ⌝ }
+{
+    steps(c, store, gathered, piece, true)
 }

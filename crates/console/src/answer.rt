@@ -2,9 +2,11 @@
 use crate::ask::ask;
 use crate::command::FEED;
 use crate::command::LEND;
+use crate::command::NEXT;
 use crate::command::START;
 use crate::command::STEP;
 use crate::command::end_of;
+use crate::command::is_onward;
 use crate::command::is_question;
 use crate::command::room_of;
 use crate::command::size_of;
@@ -105,9 +107,10 @@ fn perform(
     match kind {
         START => start_anew(s, lent, gathered, page),
         LEND => lend(s, n, page),
-        STEP | FEED => feed(
+        STEP | NEXT | FEED => feed(
             s,
             size_of(f),
+            is_onward(f),
             part(bytes, 0, end_of(f)),
             lent,
             gathered,

@@ -29,18 +29,20 @@ pub const LEND: u64 = 7;
 
 pub const STEP: u64 = 8;
 
-pub const FEED: u64 = 9;
+pub const NEXT: u64 = 9;
+
+pub const FEED: u64 = 10;
 
 // Commands that write into a lent room.
-pub const OWED: u64 = 10;
+pub const OWED: u64 = 11;
 
-pub const END: u64 = 11;
+pub const END: u64 = 12;
 
-pub const PUT: u64 = 12;
+pub const PUT: u64 = 13;
 
-pub const FINISH: u64 = 13;
+pub const FINISH: u64 = 14;
 
-pub const SAY: u64 = 14;
+pub const SAY: u64 = 15;
 
 // A line that is too long.
 pub const LONG: u64 = 98;
@@ -53,7 +55,7 @@ pub fn is_question(kind: u64) -> bool {
     LONG <= kind
 }
 
-// The size of the pieces that bytes are fed in; 0 for a single step.
+// The size of the pieces that bytes are fed in; 0 for a single call.
 pub fn size_of(f: Form) -> usize {
     let values = f.values;
     if f.kind == FEED {
@@ -62,7 +64,12 @@ pub fn size_of(f: Form) -> usize {
     0
 }
 
-// Where the bytes of a step or a feed end.
+// Whether a call goes on to the next event.
+pub fn is_onward(f: Form) -> bool {
+    f.kind != STEP
+}
+
+// Where the bytes of a call or a feed end.
 pub fn end_of(f: Form) -> usize {
     let values = f.values;
     if f.kind == FEED {
@@ -86,8 +93,8 @@ pub fn room_of(f: Form) -> usize {
 fn read_command(line: &[u8], bytes: &mut [u8]) -> Form {
     read_form(
         line,
-        b"active store walk area pair value start lend step feed owed end put finish say",
-        b"- - i i ik ihh - l h nh m iom hhm ium iohm",
+        b"active store walk area pair value start lend step next feed owed end put finish say",
+        b"- - i i ik ihh - l h h nh m iom hhm ium iohm",
         bytes,
     )
 }

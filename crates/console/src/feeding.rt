@@ -1,4 +1,4 @@
-// Bytes fed in pieces, and all that the steps tell on one line. A step by itself is fed in the same way.
+// Bytes fed in pieces, and all that the calls tell on one line. A call by itself is fed in the same way.
 use crate::kept::is_changed;
 use crate::kept::keep;
 use crate::page::end_line;
@@ -8,6 +8,7 @@ use crate::told::put_event;
 use crate::told::put_mark;
 use crate::told::put_step;
 use crate::told::put_used;
+use crate::words::last_part;
 use crate::words::part;
 use crate::write::put_refusal;
 use fastcgi::Conn;
@@ -16,14 +17,15 @@ use fastcgi::QUERY;
 use fastcgi::StepResult;
 use fastcgi::Stepped;
 use fastcgi::Stream;
+use fastcgi::next_event;
 use fastcgi::refusal_number;
 use fastcgi::step;
 use fastcgi::stream_type;
 use wire::least;
 ghost use Prim.Native.Nat.{_<_};
 
-// What the steps told so far: where the line goes on, the last event on it, the bytes used by all steps together, and
-// the number of the refusal that ended them, or 0. A step that is `alone` puts its event after the bytes used.
+// What the calls told so far: where the line goes on, the last event on it, the bytes used by all calls together, and
+// the number of the refusal that ended them, or 0. A call that is `alone` puts its event after the bytes used.
 struct Tale {
     at: usize,
     event: Event,
@@ -32,7 +34,7 @@ struct Tale {
     alone: bool,
 }
 
-// The connection after the steps, and what they told.
+// The connection after the calls, and what they told.
 struct Fed {
     conn: Conn,
     tale: Tale,
@@ -87,20 +89,20 @@ fn is_put(alone: bool, e: Event) -> bool {
 }
 
 // An event after the last one.
-fn put_next(page: &mut [u8], at: usize, last: Event, e: Event, piece: &[u8]) -> usize {
+fn put_next(page: &mut [u8], at: usize, last: Event, e: Event, used: &[u8]) -> usize {
     let more = more_data(last, e);
     if 0 < more {
-        return put_pairs(page, at, part(piece, 0, more));
+        return put_pairs(page, at, last_part(used, more));
     }
     let place = put_mark(page, at, b"; ", last);
-    put_event(page, place, e, piece)
+    put_event(page, place, e, used)
 }
 
-// What a step adds to the line.
-fn put_more(page: &mut [u8], t: Tale, e: Event, piece: &[u8]) -> usize {
+// What a call adds to the line.
+fn put_more(page: &mut [u8], t: Tale, e: Event, used: &[u8]) -> usize {
     let last = t.event;
     if is_put(t.alone, e) {
-        return put_next(page, t.at, last, e, piece);
+        return put_next(page, t.at, last, e, used);
     }
     t.at
 }
@@ -113,7 +115,7 @@ fn latest(last: Event, e: Event) -> Event {
     e
 }
 
-// The event of a step; a refused one tells nothing.
+// The event of a call; a refused one tells nothing.
 fn event_of(told: StepResult) -> Event {
     match told {
         StepResult::Event(e) => e,
@@ -121,7 +123,7 @@ fn event_of(told: StepResult) -> Event {
     }
 }
 
-// The number of a step's refusal, or 0.
+// The number of a call's refusal, or 0.
 fn refusal_of(told: StepResult) -> u8 {
     match told {
         StepResult::Event(_) => 0,
@@ -129,13 +131,13 @@ fn refusal_of(told: StepResult) -> u8 {
     }
 }
 
-// What a step adds to what was told.
+// What a call adds to what was told.
 fn tell_step(page: &mut [u8], t: Tale, stepped: Stepped, piece: &[u8]) -> Tale {
     let last = t.event;
     let told = stepped.result;
     let e = event_of(told);
     Tale {
-        at: put_more(page, t, e, piece),
+        at: put_more(page, t, e, part(piece, 0, stepped.used)),
         event: latest(last, e),
         used: plus(t.used, stepped.used),
         refusal: refusal_of(told),
@@ -143,28 +145,33 @@ fn tell_step(page: &mut [u8], t: Tale, stepped: Stepped, piece: &[u8]) -> Tale {
     }
 }
 
-// A step; what it finds is kept.
+// A step, or a call that goes on to the next event; what it finds is kept.
 fn kept_step(
     c: Conn,
+    on: bool,
     lent: &mut [u8],
     gathered: &mut [u8; QUERY],
     kept: &mut [u8],
     piece: &[u8],
 ) -> Stepped {
     keep(kept, c, lent, gathered);
+    if on {
+        return next_event(c, lent, gathered, piece);
+    }
     step(c, lent, gathered, piece)
 }
 
-// A step over what is left of a piece.
+// A call over what is left of a piece.
 fn take_step(
     f: Fed,
+    on: bool,
     piece: &[u8],
     lent: &mut [u8],
     gathered: &mut [u8; QUERY],
     kept: &mut [u8],
     page: &mut [u8],
 ) -> Fed {
-    let stepped = kept_step(f.conn, lent, gathered, kept, piece);
+    let stepped = kept_step(f.conn, on, lent, gathered, kept, piece);
     let tale = tell_step(page, f.tale, stepped, piece);
     let conn = stepped.conn;
     Fed {
@@ -173,7 +180,7 @@ fn take_step(
     }
 }
 
-// Where the piece ends that a place lies in. Pieces of size 0 stand for one step over all bytes.
+// Where the piece ends that a place lies in. Pieces of size 0 stand for one call over all bytes.
 fn piece_end(from: usize, size: usize, end: usize) -> usize {
     if size == 0 {
         return end;
@@ -189,7 +196,7 @@ fn is_close(e: Event) -> bool {
     false
 }
 
-// Where the next step begins: at the end of the bytes where the last one closed the connection, was refused or used
+// Where the next call begins: at the end of the bytes where the last one closed the connection, was refused or used
 // none.
 fn next_place(from: usize, end: usize, t: Tale) -> usize
     requires { ⌜ from < end ⌝ }
@@ -208,7 +215,7 @@ fn next_place(from: usize, end: usize, t: Tale) -> usize
     t.used
 }
 
-// Where the steps end: a single step is taken whatever it is given.
+// Where the calls end: a single one is made whatever it is given.
 fn steps_end(size: usize, end: usize) -> usize {
     if size == 0 {
         return 1;
@@ -216,7 +223,7 @@ fn steps_end(size: usize, end: usize) -> usize {
     end
 }
 
-// Before the first step over pieces of that size.
+// Before the first call over pieces of that size.
 fn unfed(c: Conn, size: usize) -> Fed {
     Fed {
         conn: c,
@@ -230,10 +237,11 @@ fn unfed(c: Conn, size: usize) -> Fed {
     }
 }
 
-// Steps through the bytes, in pieces of that size.
+// Goes through the bytes, in pieces of that size.
 fn feed_all(
     c: Conn,
     size: usize,
+    on: bool,
     input: &[u8],
     lent: &mut [u8],
     gathered: &mut [u8; QUERY],
@@ -245,7 +253,7 @@ fn feed_all(
     let mut from: usize = 0;
     while from < end {
         let e = piece_end(from, size, input.len());
-        fed = take_step(fed, part(input, from, e), lent, gathered, kept, page);
+        fed = take_step(fed, on, part(input, from, e), lent, gathered, kept, page);
         from = next_place(from, end, fed.tale);
     }
     fed
@@ -261,7 +269,7 @@ fn put_end(page: &mut [u8], t: Tale, changed: bool) -> usize {
     put_used(page, at, t.used)
 }
 
-// Whether there is a single step to tell of.
+// Whether there is a single call to tell of.
 fn is_single(t: Tale) -> bool {
     if t.refusal == 0 {
         return t.alone;
@@ -269,16 +277,16 @@ fn is_single(t: Tale) -> bool {
     false
 }
 
-// What is left to tell after the steps.
+// What is left to tell after the calls.
 fn put_last(page: &mut [u8], t: Tale, changed: bool, input: &[u8]) -> usize {
     let last = t.event;
     if is_single(t) {
-        return put_step(page, t.used, last, input);
+        return put_step(page, last, part(input, 0, t.used));
     }
     put_end(page, t, changed)
 }
 
-// The rest of the line. Only the last step can be a refused one, and it is compared with what is kept from before it.
+// The rest of the line. Only the last call can be a refused one, and it is compared with what is kept from before it.
 fn put_rest(
     page: &mut [u8],
     f: Fed,
@@ -292,7 +300,7 @@ fn put_rest(
     end_line(page, at);
 }
 
-// The event that is the last one now: as it was where the first step was refused.
+// The event that is the last one now: as it was where the first call was refused.
 fn last_told(before: Event, t: Tale) -> Event {
     if t.used == 0 {
         if 0 < t.refusal {
@@ -302,7 +310,7 @@ fn last_told(before: Event, t: Tale) -> Event {
     t.event
 }
 
-// The state after the steps.
+// The state after the calls.
 fn behind_feed(s: State, f: Fed) -> State {
     let before = s.event;
     let conn = f.conn;
@@ -313,17 +321,19 @@ fn behind_feed(s: State, f: Fed) -> State {
     }
 }
 
-// Feeds bytes in pieces of that size; of size 0, takes a single step over all of them.
+// Feeds bytes in pieces of that size; of size 0, makes a single call over all of them. A call goes `on` to the next event
+// or takes one step.
 pub fn feed(
     s: State,
     size: usize,
+    on: bool,
     input: &[u8],
     lent: &mut [u8],
     gathered: &mut [u8; QUERY],
     kept: &mut [u8],
     page: &mut [u8],
 ) -> State {
-    let fed = feed_all(s.conn, size, input, lent, gathered, kept, page);
+    let fed = feed_all(s.conn, size, on, input, lent, gathered, kept, page);
     put_rest(page, fed, kept, lent, gathered, input);
     behind_feed(s, fed)
 }

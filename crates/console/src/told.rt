@@ -2,6 +2,7 @@
 use crate::page::put;
 use crate::page::put_hex;
 use crate::page::put_number;
+use crate::words::last_part;
 use crate::words::part;
 use event_text::LONGEST;
 use event_text::write_line;
@@ -34,10 +35,10 @@ fn put_line(page: &mut [u8], at: usize, e: Event) -> usize {
     put(page, at, part(&text, 0, n - 1))
 }
 
-// An event; of data the bytes are the first of the piece.
-pub fn put_event(page: &mut [u8], at: usize, e: Event, piece: &[u8]) -> usize {
+// An event; of data the bytes are the last of those used.
+pub fn put_event(page: &mut [u8], at: usize, e: Event, used: &[u8]) -> usize {
     if let Event::Data { id, stream, count } = e {
-        return put_data(page, at, id, stream, part(piece, 0, count));
+        return put_data(page, at, id, stream, last_part(used, count));
     }
     put_line(page, at, e)
 }
@@ -56,9 +57,9 @@ pub fn put_used(page: &mut [u8], at: usize, used: usize) -> usize {
     put_number(page, a, b" ", used as u64)
 }
 
-// How many bytes of the piece a single step used, and its event.
-pub fn put_step(page: &mut [u8], used: usize, e: Event, piece: &[u8]) -> usize {
-    let a = put_used(page, 0, used);
+// How many bytes a single call used, and its event.
+pub fn put_step(page: &mut [u8], e: Event, used: &[u8]) -> usize {
+    let a = put_used(page, 0, used.len());
     let b = put_mark(page, a, b" ", e);
-    put_event(page, b, e, piece)
+    put_event(page, b, e, used)
 }

@@ -15,6 +15,15 @@ pub fn part<'a>(s: &'a [u8], a: usize, e: usize) -> &'a [u8] {
     &s[z..z]
 }
 
+// The last n bytes of s; none where there are fewer.
+pub fn last_part<'a>(s: &'a [u8], n: usize) -> &'a [u8] {
+    let e = s.len();
+    if n <= e {
+        return part(s, e - n, e);
+    }
+    part(s, e, e)
+}
+
 // 1 if two bytes are the same, else 0.
 fn one_if_same(a: u8, b: u8) -> usize
     ensures { λ r. ⌜ r ≤ 1 ⌝ }

@@ -12,9 +12,9 @@ use fastcgi::StepResult;
 use fastcgi::Wrote;
 use fastcgi::end_output;
 use fastcgi::finish;
+use fastcgi::next_event;
 use fastcgi::owed_reply;
 use fastcgi::start;
-use fastcgi::step;
 use fastcgi::value;
 use fastcgi::write_output;
 use libc::STDIN_FILENO;
@@ -86,7 +86,7 @@ fn react(c: Conn, store: &mut [u8], e: Event, out: &mut [u8]) -> Conn {
     c
 }
 
-// Steps through a piece, to its end or to a close.
+// Goes through a piece from event to event, to its end or to a close.
 fn exchange_piece(
     c: Conn,
     store: &mut [u8],
@@ -98,7 +98,7 @@ fn exchange_piece(
     let mut from: usize = 0;
     while from < piece.len() {
         let end = piece.len();
-        let s = step(conn, store, gathered, &piece[from..end]);
+        let s = next_event(conn, store, gathered, &piece[from..end]);
         let used = s.used;
         let told = s.result;
         conn = s.conn;

@@ -9,7 +9,8 @@ use borrow.Author.Tests.{leb-false, eqb-false, eq-eqb, ne-eqb, le-leb, lt-leb}
 use Rattle.wire.specs.Test.{byTest}
 use Rattle.connection.specs.Step.{State, Stepped, stepped}
 use Rattle.connection.specs.Laws.Progress.{step-uses-no-more}
-use Rattle.export.specs.Digest.{mixed, nextEnd, Fed, fedIn, fedAll}
+use Rattle.digest.specs.Digest.{mixed, nextEnd}
+use Rattle.export.specs.Fed.{Fed, fedIn, fedAll}
 
 -- any sufficient bound gives the same
 enough : (k j : ℕ) (st : State) (store input : List ℕ) (piece at end sum : ℕ) → length input - at ≤ k → length input - at ≤ j

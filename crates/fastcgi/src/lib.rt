@@ -20,8 +20,10 @@ pub use connection::event::Status;
 pub use connection::event::Stream;
 pub use connection::request::Role;
 
-// ---- Calls that read the connection. `start` makes an open connection, `step` reads a piece of what came in.
+// ---- Calls that read the connection. `start` makes an open connection, `step` reads a piece of what came in,
+// `next_event` reads on to the next event.
 pub use call_start::start;
+pub use call_step::next_event;
 pub use call_step::step;
 
 // ---- Calls that ask for a request's parameters: the value of a name, where it was found, the pair of a number.

@@ -8,10 +8,12 @@ use fastcgi::QUERY;
 use fastcgi::STORE;
 use fastcgi::StepResult;
 use fastcgi::Stream;
+use fastcgi::next_event;
 use fastcgi::start;
-use fastcgi::step;
 use libc::STDIN_FILENO;
 use libc::STDOUT_FILENO;
+ghost use mathlib.Core.Path.{_≡_};
+ghost use Prim.Native.Nat.{_-_, _≤_};
 
 // Writes out what the buffer holds, and answers where the next line goes: at its start.
 fn flush(out: &[u8], at: usize) -> usize {
@@ -44,14 +46,22 @@ fn show_bytes(out: &mut [u8], at: usize, id: u16, stream: Stream, bytes: &[u8]) 
     place
 }
 
-// The lines of an event; the bytes are those that its step used.
-fn show(out: &mut [u8], at: usize, e: Event, bytes: &[u8]) -> usize {
-    if let Event::Data {
-        id,
-        stream,
-        count: _,
-    } = e {
-        return show_bytes(out, at, id, stream, bytes);
+// Where the last n of so many bytes begin.
+fn last_from(bytes: usize, n: usize) -> usize
+    ensures { λ r. ⌜ (r ≤ bytes) × (n ≤ bytes → r ≡ bytes - n) ⌝ }
+{
+    if bytes < n {
+        return bytes;
+    }
+    bytes - n
+}
+
+// The lines of an event; of data the bytes are the last of those used.
+fn show(out: &mut [u8], at: usize, e: Event, used: &[u8]) -> usize {
+    if let Event::Data { id, stream, count } = e {
+        let first = last_from(used.len(), count);
+        let end = used.len();
+        return show_bytes(out, at, id, stream, &used[first..end]);
     }
     let room = with_room(out, at);
     write_line(out, room, e)
@@ -63,7 +73,7 @@ struct Replay {
     at: usize,
 }
 
-// Steps through a piece, to its end or to a close.
+// Goes through a piece from event to event, to its end or to a close.
 fn replay_piece(
     r: Replay,
     store: &mut [u8],
@@ -76,7 +86,7 @@ fn replay_piece(
     let mut from: usize = 0;
     while from < piece.len() {
         let end = piece.len();
-        let s = step(conn, store, gathered, &piece[from..end]);
+        let s = next_event(conn, store, gathered, &piece[from..end]);
         let used = s.used;
         let told = s.result;
         conn = s.conn;

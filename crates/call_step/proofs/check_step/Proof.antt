@@ -1,5 +1,5 @@
 use borrow.Author.Tests.{eq-eqb, ne-eqb, not-false, not-true}
-use Rattle.call_step.specs.Outcome.{checkedStep}
+use Rattle.call_step.specs.Check.{checkedStep}
 use Rattle.call_step.proofs.check_step.Statement.{statement}
 use Rattle.call_step.proofs.check_step.Tie as tie
 

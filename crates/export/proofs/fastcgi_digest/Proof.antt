@@ -1,6 +1,6 @@
 use mathlib.Core.Path.{ap, _∙_}
 use Rattle.connection.specs.Step.{Started}
-use Rattle.export.specs.Digest.{Fed, fedAll, digest}
+use Rattle.export.specs.Fed.{Fed, fedAll, digest}
 use borrow.Author.Needs.{needs}
 use Rattle.export.proofs.fastcgi_digest.Statement.{statement}
 use Rattle.export.proofs.fastcgi_digest.Tie as tie

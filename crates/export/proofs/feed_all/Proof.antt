@@ -3,9 +3,9 @@ use Prim.Native.Nat.{_+_, _-_, _≤_, _<_}
 use native.Mathlib.Omega.{arith}
 use borrow.Author.Needs.{needs}
 use lib.ListN.{length}
-use Rattle.call_step.specs.Answer.{steppedBy}
+use Rattle.conn_step.specs.Answer.{steppedBy}
 use Rattle.connection.specs.Step.{stateOf}
-use Rattle.export.specs.Digest.{fedAll}
+use Rattle.export.specs.Fed.{fedAll}
 use Rattle.export.specs.Laws.{restOf, from-start, at-end, LoopTurn, turn}
 use Rattle.export.proofs.feed_all.Statement.{statement}
 use Rattle.export.proofs.feed_all.Tie as tie

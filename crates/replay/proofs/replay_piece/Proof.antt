@@ -15,17 +15,17 @@ abbrev μ-loop : tie.MeasureT-loop
 loop-holds : tie.Need-loop-holds Inv-loop μ-loop
 loop-holds c = (omega arith, refl, refl)
 
-sub-step : tie.Need-sub-step Inv-loop μ-loop
-sub-step c = search needs
+sub-next-event : tie.Need-sub-next-event Inv-loop μ-loop
+sub-next-event c = search needs
 
-part-step-start : tie.Need-part-step-start Inv-loop μ-loop
-part-step-start c = search needs
+part-next-event-start : tie.Need-part-next-event-start Inv-loop μ-loop
+part-next-event-start c = search needs
 
-part-step-end : tie.Need-part-step-end Inv-loop μ-loop
-part-step-end c = search needs
+part-next-event-end : tie.Need-part-next-event-end Inv-loop μ-loop
+part-next-event-end c = search needs
 
-step-requires : tie.Need-step-requires Inv-loop μ-loop
-step-requires c κs = search needs
+next-event-requires : tie.Need-next-event-requires Inv-loop μ-loop
+next-event-requires c κs = search needs
 
 same-length : tie.Need-same-length Inv-loop μ-loop
 same-length c = search needs
@@ -97,10 +97,10 @@ replay-piece-spec =
     Inv-loop
     μ-loop
     loop-holds
-    sub-step
-    part-step-start
-    part-step-end
-    step-requires
+    sub-next-event
+    part-next-event-start
+    part-next-event-end
+    next-event-requires
     same-length
     same-length-2
     returns

@@ -1,0 +1,299 @@
+use mathlib.Core.Path.{_≡_, refl, sym, ap, _∙_}
+use mathlib.Core.Bool.{Bool, true}
+use mathlib.Core.Logic.{⊎-elim}
+use Prim.Native.Nat.{ℕ, _+_, _-_, _≤_}
+use native.Mathlib.Omega.{arith}
+use lib.ListN.{length, take, drop}
+use borrow.Author.Tests.{le-ltb, not-false}
+use Rattle.connection.specs.Shape.{inShape}
+use Rattle.connection.specs.Event.{Event}
+use Rattle.connection.specs.Codes.{eventOf}
+use Rattle.connection.specs.Laws.ShapeLaws.{shaped}
+use Rattle.connection.specs.Step.{Stepped, stateOf, stepped}
+use Rattle.conn_check.specs.Laws.{shape-of}
+use Rattle.conn_quick.specs.Quick.{isShown}
+use Rattle.conn_step.specs.Answer.{toldNumber, toldEvent}
+use Rattle.call_step.specs.Check.{checkedStep, check-read, check-idle, byCheck, by-check}
+use Rattle.call_step.specs.declared.StepCheck.{StepCheck}
+use Rattle.call_step.specs.Next.{stepsBy, reached}
+use Rattle.call_step.specs.RoundLaws.{steps-stay, refused-last, reached-start, Due, ahead, Took, Kept, Round, round, connOf, quick-took, step-took, shown-took, shown-first, slot-low, shown-last}
+use borrow.Author.Needs.{needs}
+use Rattle.call_step.proofs.steps.Statement.{statement}
+use Rattle.call_step.proofs.steps.Tie as tie
+
+abbrev Inv-loop : tie.InvT-loop
+Inv-loop store₀ gathered₀ piece on t₀ f₀ open₀ result₀ used₀ n fits due₀ store gathered t f «open» result used due =
+    (used ≤ length piece)
+    × (length store ≡ length store₀)
+    × (due ≡ true → Due (connOf t f «open») store used (length piece))
+    × (stepsBy on (stateOf (connOf t₀ f₀ open₀) gathered₀) store₀ piece
+    ≡ reached on due (toldNumber result) (toldEvent result) used (stateOf (connOf t f «open») gathered) store piece)
+
+abbrev μ-loop : tie.MeasureT-loop
+μ-loop store₀ gathered₀ piece on t₀ f₀ open₀ result₀ used₀ n fits due₀ store gathered t f «open» result used due =
+    ahead due used (length piece)
+
+in-shape-requires : tie.Need-in-shape-requires Inv-loop μ-loop
+in-shape-requires c κs = search needs
+
+check-step-requires : tie.Need-check-step-requires Inv-loop μ-loop
+check-step-requires c κs = search needs
+
+-- what the check says, by the whole state
+checked : (c : tie.After-check-step Inv-loop μ-loop)
+    → c .check-step .result ≡ checkedStep (length (c .before .before .before .before .before .before .before .before .before .args .store .now)) (inShape (c .before .before .before .before .before .before .before .before .before .args .c)) (c .before .before .before .before .before .before .before .before .before .args .c .«open») (length (c .before .before .before .before .before .before .before .before .before .args .piece .now))
+checked c =
+    let a = c .before .before .before .before .before .before .before .before .before .args in
+    c .check-step .ensures ∙ ap (λ (x : Bool). checkedStep (length (a .store .now)) x (a .c .«open») (length (a .piece .now))) (c .before .in-shape .ensures ∙ shape-of (a .c))
+
+-- the step, by its check
+stepped-by : (c : tie.After-check-step Inv-loop μ-loop) {k : StepCheck} → c .check-step .result ≡ k
+    → byCheck k (c .before .before .before .before .before .before .before .before .before .args .c) (c .before .before .before .before .before .before .before .before .before .args .gathered .now) (c .before .before .before .before .before .before .before .before .before .args .store .now) (c .before .before .before .before .before .before .before .before .before .args .piece .now) ≡ stepped (stateOf (c .before .before .before .before .before .before .before .before .before .args .c) (c .before .before .before .before .before .before .before .before .before .args .gathered .now)) (c .before .before .before .before .before .before .before .before .before .args .store .now) (c .before .before .before .before .before .before .before .before .before .args .piece .now)
+stepped-by c {k} e =
+    let a = c .before .before .before .before .before .before .before .before .before .args in
+    ap (λ (x : StepCheck). byCheck x (a .c) (a .gathered .now) (a .store .now) (a .piece .now)) (sym e ∙ checked c) ∙ by-check (a .c) (a .gathered .now) (a .store .now) (a .piece .now)
+
+enum-known-check : tie.Need-enum-known-check Inv-loop μ-loop
+enum-known-check c = search needs
+
+enum-told : tie.Need-enum-told Inv-loop μ-loop
+enum-told c = search needs
+
+enum-told-2 : tie.Need-enum-told-2 Inv-loop μ-loop
+enum-told-2 c = search needs
+
+is-shown-requires : tie.Need-is-shown-requires Inv-loop μ-loop
+is-shown-requires c κs = search needs
+
+-- the first step is due
+first : (c : tie.After-enum-told2 Inv-loop μ-loop) → Due (c .before .before .before .before .before .before .before .before .before .before .before .args .c) (c .before .before .before .before .before .before .before .before .before .before .before .args .store .now) 0 (length (c .before .before .before .before .before .before .before .before .before .before .before .args .piece .now))
+first c =
+    let a = c .before .before .before .before .before .before .before .before .before .before .before .args in
+    let r = check-read (length (a .store .now)) (inShape (a .c)) (a .c .«open») (length (a .piece .now)) (sym (checked (c .before .before)) ∙ c .enum-told2 .given .1) in
+    record { fits = record { size = r .whole; shape = r .shape; is-open = r .reads }; left = r .some }
+
+show-content-requires : tie.Need-show-content-requires Inv-loop μ-loop
+show-content-requires c κs =
+    let a = c .before .before .before .before .before .before .before .before .before .before .before .before .before .before .before .args in
+    (sym (c .before .before .before .is-shown .ensures) ∙ c .before .before .if1 .taken, slot-low (a .c .frame .target) (a .c .table) _ _ (shaped _ (first (c .before .before .before .before) .fits .shape) .target))
+
+loop-holds : tie.Need-loop-holds Inv-loop μ-loop
+loop-holds c =
+    let a = c .before .before .before .before .before .before .before .before .before .before .before .before .before .args in
+    (omega arith, refl, λ e. first (c .before .before), reached-start (a .on) 0 Event.None (stateOf (a .c) (a .gathered .now)) (a .store .now) (a .piece .now))
+
+is-shown-requires-2 : tie.Need-is-shown-requires-2 Inv-loop μ-loop
+is-shown-requires-2 c κs = search needs
+
+sub-pass-header : tie.Need-sub-pass-header Inv-loop μ-loop
+sub-pass-header c = omega (arith, c .before .before .before .loop .inv .0)
+
+part-pass-header-start : tie.Need-part-pass-header-start Inv-loop μ-loop
+part-pass-header-start c = omega (arith, c .before .before .before .loop .inv .0)
+
+part-pass-header-end : tie.Need-part-pass-header-end Inv-loop μ-loop
+part-pass-header-end c = omega arith
+
+pass-header-requires : tie.Need-pass-header-requires Inv-loop μ-loop
+pass-header-requires c κs = search needs
+
+add-used : tie.Need-add-used Inv-loop μ-loop
+add-used c =
+    let l = c .before .before .before .before .before .before .before .before .loop in
+    let a = c .before .before .before .before .before .before .before .before .before .before .before .before .before .before .before .before .before .before .before .before .before .before .args in
+    let p = c .before .before .before .pass-header in
+    let due = l .inv .2 (c .before .before .before .before .before .before .before .loop-test .taken) in
+    let k = quick-took (l .used) (l .t) (l .f) (l .«open») (l .gathered) (l .store) (a .piece .now) (p .result) due (p .ensures (c .before .if3 .taken)) refl refl refl refl refl refl refl .0 in
+    omega (arith, round (a .on) _ _ _ _ _ _ _ _ _ due k .inside, c .before .before .before .before .before .before .before .before .before .before .before .before .before .before .before .before .before .before .before .before .before .before .good .1 .1 .1 .0)
+
+sub-take-step : tie.Need-sub-take-step Inv-loop μ-loop
+sub-take-step c = omega (arith, c .before .before .before .before .before .before .before .before .before .loop .inv .0)
+
+part-take-step-start : tie.Need-part-take-step-start Inv-loop μ-loop
+part-take-step-start c = omega (arith, c .before .before .before .before .before .before .before .before .before .loop .inv .0)
+
+part-take-step-end : tie.Need-part-take-step-end Inv-loop μ-loop
+part-take-step-end c = omega arith
+
+take-step-requires : tie.Need-take-step-requires Inv-loop μ-loop
+take-step-requires c κs =
+    let l = c .before .before .before .before .before .before .before .before .before .before .loop in
+    let d = l .inv .2 (c .before .before .before .before .before .before .before .before .before .loop-test .taken) .fits in
+    (d .size, d .shape, d .is-open)
+
+add-used-2 : tie.Need-add-used-2 Inv-loop μ-loop
+add-used-2 c =
+    let l = c .before .before .before .before .before .before .before .before .before .before .before .before .before .before .before .loop in
+    let a = c .before .before .before .before .before .before .before .before .before .before .before .before .before .before .before .before .before .before .before .before .before .before .before .before .before .before .before .before .before .args in
+    let m = c .before .before .before .before .take-step in
+    let due = l .inv .2 (c .before .before .before .before .before .before .before .before .before .before .before .before .before .before .loop-test .taken) in
+    let k = step-took (l .used) (l .t) (l .f) (l .«open») (l .gathered) (l .store) (a .piece .now) (m .result) (m .last .1 .1 .0) (m .last .1 .0) (m .ensures .0) (m .ensures .1) (search needs) refl refl refl refl refl refl refl .0 in
+    omega (arith, round (a .on) _ _ _ _ _ _ _ _ _ due k .inside, c .before .before .before .before .before .before .before .before .before .before .before .before .before .before .before .before .before .before .before .before .before .before .before .before .before .before .before .before .before .good .1 .1 .1 .0)
+
+-- what one turn of the loop does
+took : (c : tie.Joined3 Inv-loop μ-loop)
+    → (let l = c .before .before .before .before .before .before .before .loop in (Took (l .used) (stateOf (connOf (l .t) (l .f) (l .«open»)) (l .gathered)) (l .store) (c .before .before .before .before .before .before .before .before .before .before .before .before .before .before .before .before .before .before .before .before .before .args .piece .now) (toldNumber (c .if3 .result)) (toldEvent (c .if3 .result)) (c .if3 .used)
+    (stateOf (connOf (c .if3 .t) (c .if3 .f) (c .if3 .«open»)) (c .if3 .gathered)) (c .if3 .store)) × (Kept (l .store) (stateOf (connOf (c .if3 .t) (c .if3 .f) (c .if3 .«open»)) (c .if3 .gathered)) (c .if3 .store)))
+took c =
+    let l = c .before .before .before .before .before .before .before .loop in
+    let a = c .before .before .before .before .before .before .before .before .before .before .before .before .before .before .before .before .before .before .before .before .before .args in
+    let due = l .inv .2 (c .before .before .before .before .before .before .loop-test .taken) in
+    ⊎-elim
+    (λ w. quick-took (l .used) (l .t) (l .f) (l .«open») (l .gathered) (l .store) (a .piece .now) (c .before .before .pass-header .result) due (c .before .before .pass-header .ensures (w .0 .taken)) (w .3) (w .4) (w .5) (w .6) (w .7) (w .8) (w .9))
+    (λ w. let m = w .4 in step-took (l .used) (l .t) (l .f) (l .«open») (l .gathered) (l .store) (a .piece .now) (m .result) (m .last .1 .1 .0) (m .last .1 .0) (m .ensures .0) (m .ensures .1) (search needs) (w .11) (w .12) (w .13) (w .14) (w .15) (w .16) (w .17))
+    (c .if3 .came)
+
+-- and what it comes to
+rounded : (c : tie.Joined3 Inv-loop μ-loop)
+    → (let l = c .before .before .before .before .before .before .before .loop in Round (c .before .before .before .before .before .before .before .before .before .before .before .before .before .before .before .before .before .before .before .before .before .args .on) (l .used) (stateOf (connOf (l .t) (l .f) (l .«open»)) (l .gathered)) (l .store) (c .before .before .before .before .before .before .before .before .before .before .before .before .before .before .before .before .before .before .before .before .before .args .piece .now) (toldNumber (c .if3 .result)) (toldEvent (c .if3 .result)) (c .if3 .used)
+    (stateOf (connOf (c .if3 .t) (c .if3 .f) (c .if3 .«open»)) (c .if3 .gathered)) (c .if3 .store))
+rounded c = round _ _ _ _ _ _ _ _ _ _ (c .before .before .before .before .before .before .before .loop .inv .2 (c .before .before .before .before .before .before .loop-test .taken)) (took c .0)
+
+is-due-requires : tie.Need-is-due-requires Inv-loop μ-loop
+is-due-requires c κs = search needs
+
+loop-less : tie.Need-loop-less Inv-loop μ-loop
+loop-less c =
+    let x = c .before in
+    let l = x .before .before .before .before .before .before .before .loop in
+    let n = length (x .before .before .before .before .before .before .before .before .before .before .before .before .before .before .before .before .before .before .before .before .before .args .piece .now) in
+    let from : Bool → ℕ = λ d. ahead d (l .used) n in
+    let to : Bool → ℕ = λ d. ahead d (x .if3 .used) n in
+    omega (arith, rounded x .less, ap from (x .before .before .before .before .before .before .loop-test .taken), ap to (c .is-due .ensures))
+
+loop-again : tie.Need-loop-again Inv-loop μ-loop
+loop-again c =
+    let l = c .before .before .before .before .before .before .before .before .loop in
+    let x = c .before in
+    let r = rounded x in
+    let k = took x .1 in
+    let a = x .before .before .before .before .before .before .before .before .before .before .before .before .before .before .before .before .before .before .before .before .before .args in
+    let from : Bool → Stepped = λ d. reached (a .on) d (toldNumber (l .result)) (toldEvent (l .result)) (l .used) (stateOf (connOf (l .t) (l .f) (l .«open»)) (l .gathered)) (l .store) (a .piece .now) in
+    let to : Bool → Stepped = λ d. reached (a .on) d (toldNumber (x .if3 .result)) (toldEvent (x .if3 .result)) (x .if3 .used) (stateOf (connOf (x .if3 .t) (x .if3 .f) (x .if3 .«open»)) (x .if3 .gathered)) (x .if3 .store) (a .piece .now) in (
+      r .inside,
+      k .size ∙ l .inv .1,
+      λ e. r .next k (sym (c .is-due .ensures) ∙ e),
+      l .inv .3 ∙ ap from (x .before .before .before .before .before .before .loop-test .taken) ∙ r .same (toldNumber (l .result)) (toldEvent (l .result)) ∙ ap to (sym (c .is-due .ensures)),
+    )
+
+-- out of the loop with a step due, content is shown
+shown : (c : tie.Then4 Inv-loop μ-loop) → isShown (c .before .before .loop .f .position .content) (c .before .before .loop .f .target) ≡ true
+shown c =
+    ⊎-elim
+    (λ w. sym (w .1 .ensures) ∙ not-false _ (w .2 .left))
+    (λ w. let z : _≡_ {A = ℕ} 0 1 = cc (sym (c .if4 .taken) ∙ w .left) in absurd (omega arith))
+    (c .before .loop-test .came)
+
+sub-show-content : tie.Need-sub-show-content Inv-loop μ-loop
+sub-show-content c = omega (arith, c .before .before .before .before .loop .inv .0)
+
+part-show-content-start : tie.Need-part-show-content-start Inv-loop μ-loop
+part-show-content-start c = omega (arith, c .before .before .before .before .loop .inv .0)
+
+part-show-content-end : tie.Need-part-show-content-end Inv-loop μ-loop
+part-show-content-end c = omega arith
+
+show-content-requires-2 : tie.Need-show-content-requires-2 Inv-loop μ-loop
+show-content-requires-2 c κs =
+    let x = c .before .before .before in
+    let l = x .before .before .loop in
+    (shown x, slot-low (l .f .target) (l .t) _ _ (shaped _ (l .inv .2 (x .if4 .taken) .fits .shape) .target))
+
+-- what the step comes to that shows it
+last : (c : tie.After-show-content2 Inv-loop μ-loop)
+    → (let l = c .before .before .before .before .before .before .loop in Round (c .before .before .before .before .before .before .before .before .before .before .before .before .before .before .before .before .before .before .before .before .args .on) (l .used) (stateOf (connOf (l .t) (l .f) (l .«open»)) (l .gathered)) (l .store) (c .before .before .before .before .before .before .before .before .before .before .before .before .before .before .before .before .before .before .before .before .args .piece .now) 0 (eventOf (c .show-content2 .result .event)) (l .used + c .show-content2 .result .used)
+    (stateOf (connOf (l .t) (c .show-content2 .result .frame) (l .«open»)) (l .gathered)) (l .store))
+last c =
+    let l = c .before .before .before .before .before .before .loop in
+    let a = c .before .before .before .before .before .before .before .before .before .before .before .before .before .before .before .before .before .before .before .before .args in
+    let due = l .inv .2 (c .before .before .before .before .if4 .taken) in
+    round _ _ _ _ _ _ _ _ _ _ due (shown-took (l .used) (l .t) (l .f) (l .«open») (l .gathered) (l .store) (a .piece .now) (c .show-content2 .result) due (c .show-content2 .ensures (l .t) (l .gathered) (l .store) refl))
+
+add-used-3 : tie.Need-add-used-3 Inv-loop μ-loop
+add-used-3 c = omega (arith, last (c .before) .inside, c .before .before .before .before .before .before .before .before .before .before .before .before .before .before .before .before .before .before .before .before .before .good .1 .1 .1 .0)
+
+returns : tie.Need-returns Inv-loop μ-loop
+returns c =
+    let a = c .before .before .before .before .before .before .before .before .before .before .before .before .args in
+    steps-stay (a .on) (stateOf (a .c) (a .gathered .now)) (a .store .now) (a .piece .now) _ (stepped-by (c .before .before .before) (c .before .check .given .1)) (refused-last (c .before .check .given .0 .0) (length (a .piece .now)))
+
+returns-2 : tie.Need-returns-2 Inv-loop μ-loop
+returns-2 c =
+    let a = c .before .before .before .before .before .before .before .before .before .before .before .args in
+    let none = check-idle (length (a .store .now)) (inShape (a .c)) (a .c .«open») (length (a .piece .now)) (sym (checked (c .before .before)) ∙ c .enum-told .given .1) in
+    steps-stay (a .on) (stateOf (a .c) (a .gathered .now)) (a .store .now) (a .piece .now) 0 (stepped-by (c .before .before) (c .enum-told .given .1)) (le-ltb 0 (length (a .piece .now)) (omega arith))
+
+returns-3 : tie.Need-returns-3 Inv-loop μ-loop
+returns-3 c =
+    let x = c .before in
+    let a = c .before .before .before .before .before .before .before .before .before .before .before .before .before .before .before .before .before .args in
+    shown-first (a .on) (a .c .table) (a .c .frame) (a .c .«open») (a .gathered .now) (a .store .now) (a .piece .now) (x .show-content .result) (first (c .before .before .before .before .before .before)) (sym (c .before .before .before .before .before .is-shown .ensures) ∙ c .before .before .before .before .if1 .taken)
+    (x .show-content .ensures (a .c .table) (a .gathered .now) (a .store .now) refl)
+
+same-length : tie.Need-same-length Inv-loop μ-loop
+same-length c = search (needs, c .before .before .before .before .before .before .before .before .loop .inv .1)
+
+returns-4 : tie.Need-returns-4 Inv-loop μ-loop
+returns-4 c =
+    let x = c .before .before in
+    let l = x .before .before .before .before .before .before .loop in
+    let a = x .before .before .before .before .before .before .before .before .before .before .before .before .before .before .before .before .before .before .before .before .args in
+    let m = x .show-content2 in
+    let st = stateOf (connOf (l .t) (l .f) (l .«open»)) (l .gathered) in
+    let from : Bool → Stepped = λ d. reached (a .on) d (toldNumber (l .result)) (toldEvent (l .result)) (l .used) st (l .store) (a .piece .now) in
+    let to : Bool → Stepped = λ d. reached (a .on) d 0 (eventOf (m .result .event)) (l .used + m .result .used) (stateOf (connOf (l .t) (m .result .frame) (l .«open»)) (l .gathered)) (l .store) (a .piece .now) in
+    let rest = take (length (a .piece .now) - l .used) (drop (l .used) (a .piece .now)) in
+    let is = m .ensures (l .t) (l .gathered) (l .store) refl in
+    let none = shown-last (a .on) (l .t) (l .f) (l .gathered) (l .store) rest (eventOf (m .result .event)) (l .used + m .result .used) (length (a .piece .now)) (shown (x .before .before .before .before)) (ap (λ (s : Stepped). s .event) (sym is)) in
+    sym (l .inv .3 ∙ ap from (x .before .before .before .before .if4 .taken) ∙ last x .same (toldNumber (l .result)) (toldEvent (l .result)) ∙ ap to none)
+
+same-length-2 : tie.Need-same-length-2 Inv-loop μ-loop
+same-length-2 c = search (needs, c .before .before .loop .inv .1)
+
+returns-5 : tie.Need-returns-5 Inv-loop μ-loop
+returns-5 c =
+    let l = c .before .before .loop in
+    let a = c .before .before .before .before .before .before .before .before .before .before .before .before .before .before .before .before .args in
+    let from : Bool → Stepped = λ d. reached (a .on) d (toldNumber (l .result)) (toldEvent (l .result)) (l .used) (stateOf (connOf (l .t) (l .f) (l .«open»)) (l .gathered)) (l .store) (a .piece .now) in
+    sym (l .inv .3 ∙ ap from (c .if4 .left))
+
+pub steps-spec : {M : Type 1} → statement M
+steps-spec =
+    tie.close
+    (tie.spec
+    Inv-loop
+    μ-loop
+    in-shape-requires
+    check-step-requires
+    enum-known-check
+    enum-told
+    enum-told-2
+    is-shown-requires
+    show-content-requires
+    loop-holds
+    is-shown-requires-2
+    sub-pass-header
+    part-pass-header-start
+    part-pass-header-end
+    pass-header-requires
+    add-used
+    sub-take-step
+    part-take-step-start
+    part-take-step-end
+    take-step-requires
+    add-used-2
+    is-due-requires
+    loop-less
+    loop-again
+    sub-show-content
+    part-show-content-start
+    part-show-content-end
+    show-content-requires-2
+    add-used-3
+    returns
+    returns-2
+    returns-3
+    same-length
+    returns-4
+    same-length-2
+    returns-5)

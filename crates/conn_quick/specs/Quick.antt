@@ -1,0 +1,75 @@
+-- Steps that change the frame alone: content of STDIN or DATA, and a header that goes on with such a stream. Nothing in
+-- this file is a rule: `Laws` shows that these are steps of the rules. Here `Target.Skip` means that there is no quick way.
+use Prim.Native.Nat.{ℕ}
+use mathlib.Core.Bool.{Bool, true, false}
+use mathlib.Core.List.{List}
+use lib.ListN.{getD}
+use Rattle.wire.specs.Test.{if_then_else_, _<?_, _≤?_, _=?_}
+use Rattle.record.specs.Names.{VERSION, STDIN, DATA}
+use Rattle.record.specs.declared.header.Header.{Header}
+use Rattle.record_reader.specs.declared.Position.{Position}
+use Rattle.connection.specs.declared.request.Turn.{Turn}
+use Rattle.connection.specs.declared.request.RequestState.{RequestState}
+use Rattle.connection.specs.declared.state.Table.{Table}
+use Rattle.connection.specs.declared.state.Target.{Target}
+use Rattle.connection.specs.Event.{Event}
+use Rattle.connection.specs.Request.{isSpent, turnType}
+use Rattle.connection.specs.Slots.{requestAt, find, onSlot}
+
+abbrev pub isStream : Target → Bool
+isStream Target.Skip = false
+isStream (Target.Begin id) = false
+isStream Target.Query = false
+isStream (Target.Params i) = false
+isStream (Target.Stdin i) = true
+isStream (Target.Data i) = true
+
+-- content of STDIN or DATA is left
+abbrev pub isShown : ℕ → Target → Bool
+isShown left target = if 0 <? left then isStream target else false
+
+-- the slot that it is for
+abbrev pub slotOf : Target → ℕ
+slotOf Target.Skip = 0
+slotOf (Target.Begin id) = 0
+slotOf Target.Query = 0
+slotOf (Target.Params i) = 0
+slotOf (Target.Stdin i) = i
+slotOf (Target.Data i) = i
+
+-- what n bytes of it tell
+abbrev pub shownEvent : Target → List ℕ → ℕ → Event
+shownEvent Target.Skip ids n = Event.None
+shownEvent (Target.Begin id) ids n = Event.None
+shownEvent Target.Query ids n = Event.None
+shownEvent (Target.Params i) ids n = Event.None
+shownEvent (Target.Stdin i) ids n = Event.Data (getD ids i 0) STDIN n
+shownEvent (Target.Data i) ids n = Event.Data (getD ids i 0) DATA n
+
+-- Where the content of the stream goes whose turn it is. For PARAMS there is no quick way, since it is kept.
+abbrev pub streamTo : Turn → ℕ → Target
+streamTo Turn.Params i = Target.Skip
+streamTo Turn.Stdin i = Target.Stdin i
+streamTo Turn.Data i = Target.Data i
+streamTo Turn.Done i = Target.Skip
+
+-- a record of this type, for a request that is in slot i
+abbrev pub goesTo : RequestState → ℕ → ℕ → Target
+goesTo m kind i =
+    if isSpent (m .life) then Target.Skip
+    else if kind =? turnType (m .turn) then streamTo (m .turn) i
+    else Target.Skip
+
+-- Where a record's content goes if it goes on with STDIN or DATA, and to `Skip` if it does not.
+unfoldable pub headedTo : Table → Header → Target
+headedTo t h =
+    if h .version =? VERSION then
+    (if h .id =? 0 then Target.Skip
+    else if h .content =? 0 then Target.Skip
+    else onSlot (find t (h .id)) (λ i. goesTo (requestAt t i .state) (h .kind) i) Target.Skip)
+    else Target.Skip
+
+-- between two records, a piece of so many bytes begins with a whole header
+abbrev pub isHeaded : Position → ℕ → Bool
+isHeaded p bytes =
+    if p .content =? 0 then (if p .padding =? 0 then (if p .held =? 0 then 8 ≤? bytes else false) else false) else false

@@ -1,0 +1,227 @@
+// Two ways of a step that change the frame alone, for most of the bytes of a long body: content of STDIN or DATA, and
+// a header that goes on with such a stream. They look at a few fields of the table and copy none of it.
+use conn_frame::frame_after;
+use conn_frame::frame_within;
+use connection::event::Event;
+use connection::event::Stream;
+use connection::request::RequestState;
+use connection::request::Turn;
+use connection::sizes::SLOTS;
+use connection::state::Frame;
+use connection::state::Slot;
+use connection::state::Table;
+use connection::state::Target;
+use record::header::Header;
+use record::header::read_header;
+use record::names;
+use record_reader::Position;
+use record_reader::advance;
+use request_state::is_spent;
+use request_state::turn_type;
+use slot_table::find_from;
+ghost use mathlib.Core.Path.{_≡_};
+ghost use mathlib.Core.Bool.{true};
+ghost use mathlib.Core.List.{List};
+ghost use Prim.Native.Nat.{ℕ, _≤_, _<_};
+ghost use lib.ListN.{length};
+ghost use Rattle.record.specs.Header.{headerOf};
+ghost use Rattle.record_reader.specs.Position.{advanced};
+ghost use Rattle.connection.specs.declared.state.Table.{Table};
+ghost use Rattle.connection.specs.Sizes.{SLOTS};
+ghost use Rattle.connection.specs.Codes.{eventOf};
+ghost use Rattle.connection.specs.Decision.{openState};
+ghost use Rattle.connection.specs.Step.{advances};
+ghost use Rattle.conn_quick.specs.Quick.{isStream, isShown, slotOf, shownEvent};
+ghost use Rattle.conn_quick.specs.Quick.{streamTo, goesTo, headedTo, isHeaded};
+ghost use Rattle.conn_quick.specs.Passes.{passes, Passes};
+
+// What such a step comes to: the bytes used, what it tells, and the frame afterwards. No bytes are used where it is
+// none.
+pub struct Passed {
+    pub used: usize,
+    pub event: Event,
+    pub frame: Frame,
+}
+
+fn is_stream(target: Target) -> bool
+    ensures { λ r. ⌜ r ≡ isStream target ⌝ }
+{
+    match target {
+        Target::Skip => false,
+        Target::Begin(_) => false,
+        Target::Query => false,
+        Target::Params(_) => false,
+        Target::Stdin(_) => true,
+        Target::Data(_) => true,
+    }
+}
+
+// Content of STDIN or DATA is left.
+pub fn is_shown(f: Frame) -> bool
+    ensures { λ r. ⌜ r ≡ isShown (f .position .content) (f .target) ⌝ }
+{
+    let p = f.position;
+    let target = f.target;
+    if 0 < p.content {
+        return is_stream(target);
+    }
+    false
+}
+
+// What n bytes of that content tell.
+fn data_event(ids: &[u16; SLOTS], target: Target, n: usize) -> Event
+    requires { ⌜ slotOf target < SLOTS ⌝ }
+    ensures { λ r. ⌜ eventOf r ≡ shownEvent target (now (ids .entry)) n ⌝ }
+{
+    match target {
+        Target::Skip => Event::Nothing,
+        Target::Begin(_) => Event::Nothing,
+        Target::Query => Event::Nothing,
+        Target::Params(_) => Event::Nothing,
+        Target::Stdin(i) => Event::Data {
+            id: ids[i as usize],
+            stream: Stream::Stdin,
+            count: n,
+        },
+        Target::Data(i) => Event::Data {
+            id: ids[i as usize],
+            stream: Stream::Data,
+            count: n,
+        },
+    }
+}
+
+// Content that is shown.
+pub fn show_content(ids: &[u16; SLOTS], f: Frame, piece: &[u8]) -> Passed
+    requires { ⌜ (isShown (f .position .content) (f .target) ≡ true) × (slotOf (f .target) < SLOTS) ⌝ }
+    ensures { λ r. ⌜ ((t : Table) (g s : List ℕ) → t .ids ≡ now (ids .entry)
+        → passes r t g s
+        ≡ advances (openState t f g) s (now (piece .entry)) (advanced (f .position) (now (piece .entry)))) ⌝ }
+{
+    let position = f.position;
+    let target = f.target;
+    let gathered = f.gathered;
+    let body = f.body;
+    let a = advance(position, piece);
+    let p = a.position;
+    let event = data_event(ids, target, a.used);
+    let frame = frame_within(f, p, gathered, body);
+    Passed {
+        used: a.used,
+        event: event,
+        frame: frame,
+    }
+}
+
+// Where the content of the stream goes whose turn it is, of the request in slot i; PARAMS is kept and not shown.
+fn stream_to(turn: Turn, i: usize) -> Target
+    requires { ⌜ i < SLOTS ⌝ }
+    ensures { λ r. ⌜ r ≡ streamTo turn i ⌝ }
+{
+    match turn {
+        Turn::Params => Target::Skip,
+        Turn::Stdin => Target::Stdin(i as u8),
+        Turn::Data => Target::Data(i as u8),
+        Turn::Done => Target::Skip,
+    }
+}
+
+fn goes_to(m: RequestState, kind: u8, i: usize) -> Target
+    requires { ⌜ i < SLOTS ⌝ }
+    ensures { λ r. ⌜ r ≡ goesTo m kind i ⌝ }
+{
+    let life = m.life;
+    let turn = m.turn;
+    if is_spent(life) {
+        return Target::Skip;
+    }
+    if kind == turn_type(turn) {
+        return stream_to(turn, i);
+    }
+    Target::Skip
+}
+
+// Where a record's content goes if it goes on with STDIN or DATA.
+fn headed_to(t: Table, h: Header) -> Target
+    ensures { λ r. ⌜ r ≡ headedTo t h ⌝ }
+{
+    if h.version != names::VERSION {
+        return Target::Skip;
+    }
+    if h.id == 0 {
+        return Target::Skip;
+    }
+    if h.content == 0 {
+        return Target::Skip;
+    }
+    let slot = find_from(&t.ids, t.occupied, h.id, 0);
+    let Slot::At(i) = slot else {
+        return Target::Skip;
+    };
+    let m = t.states[i];
+    goes_to(m, h.kind, i)
+}
+
+// A piece that begins with a whole header.
+fn is_headed(p: Position, bytes: usize) -> bool
+    ensures { λ r. ⌜ r ≡ isHeaded p bytes ⌝ }
+{
+    if p.content != 0 {
+        return false;
+    }
+    if p.padding != 0 {
+        return false;
+    }
+    if p.held != 0 {
+        return false;
+    }
+    8 <= bytes
+}
+
+// The header at the start of a piece.
+fn header_at(piece: &[u8]) -> Header
+    requires { ⌜ 8 ≤ length (now piece) ⌝ }
+    ensures { λ r. ⌜ r ≡ headerOf (now (piece .entry)) ⌝ }
+{
+    read_header([
+        piece[0],
+        piece[1],
+        piece[2],
+        piece[3],
+        piece[4],
+        piece[5],
+        piece[6],
+        piece[7],
+    ])
+}
+
+// Nothing passes.
+fn none_passed(f: Frame) -> Passed
+    ensures { λ r. ⌜ r .used ≡ 0 ⌝ }
+{
+    Passed {
+        used: 0,
+        event: Event::Nothing,
+        frame: f,
+    }
+}
+
+// A header that goes on with STDIN or DATA.
+pub fn pass_header(t: Table, f: Frame, piece: &[u8]) -> Passed
+    ensures { λ r. ⌜ (0 < r .used → Passes r t f (now (piece .entry))) ⌝ }
+{
+    let position = f.position;
+    if !is_headed(position, piece.len()) {
+        return none_passed(f);
+    }
+    let h = header_at(piece);
+    let target = headed_to(t, h);
+    if !is_stream(target) {
+        return none_passed(f);
+    }
+    Passed {
+        used: 8,
+        event: Event::Nothing,
+        frame: frame_after(h, target),
+    }
+}
