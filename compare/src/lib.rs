@@ -10,6 +10,7 @@ pub mod drive;
 pub mod output;
 pub mod pairs;
 pub mod random;
+pub mod readings;
 pub mod receiver;
 pub mod replay;
 pub mod reply;
