@@ -99,8 +99,8 @@ fn is_due(on: bool, result: StepResult, used: usize, bytes: usize) -> bool
 }
 
 // One step, or steps up to the next event where the call goes `on`. A step keeps the state's shape, so row 9 is tested
-// before the first alone. Most steps over a long body take one of two quick ways, which leave the table where it is. (That
-// content is shown stands twice: a call that begins with it never comes to the loop, and the table is copied less.)
+// before the first alone. Most steps over a long body take one of two quick ways, which leave the table where it is.
+// (That content is shown stands twice: a call that begins with it never comes to the loop, and copies the table less.)
 fn steps(c: Conn, store: &mut [u8], gathered: &mut [u8; QUERY], piece: &[u8], on: bool) -> Stepped
     ensures { λ r. ⌜ steppedBy r (now (gathered .exit)) (now (store .exit))
         ≡ stepsBy on (stateOf c (now (gathered .entry))) (now (store .entry)) (now (piece .entry)) ⌝ }

@@ -94,9 +94,9 @@ fn go_on(t: Table, f: Frame, store: &mut [u8], gathered: &mut [u8; QUERY], piece
     }
 }
 
-// One step over a piece, of a connection that may read: it stays in one phase and uses as many bytes as that phase still
-// needs or the piece has. The table is changed in place and has one way out: each way out that carried it would copy
-// it once more.
+// One step over a piece, of a connection that may read: it stays in one phase and uses as many bytes as that phase
+// still needs or the piece has. The table is changed in place and has one way out: each way out that carried it would
+// copy it once more.
 pub fn take_step(c: Conn, store: &mut [u8], gathered: &mut [u8; QUERY], piece: &[u8]) -> Stepped
     requires { ⌜ (length (now store) ≡ STORE) × (inShape c ≡ true) × (c .«open» ≡ true) ⌝ }
     ensures { λ r. ⌜ (steppedBy r (now (gathered .exit)) (now (store .exit))

@@ -321,8 +321,8 @@ fn behind_feed(s: State, f: Fed) -> State {
     }
 }
 
-// Feeds bytes in pieces of that size; of size 0, makes a single call over all of them. A call goes `on` to the next event
-// or takes one step.
+// Feeds bytes in pieces of that size; of size 0, makes a single call over all of them. A call goes `on` to the next
+// event or takes one step.
 pub fn feed(
     s: State,
     size: usize,

@@ -1,4 +1,5 @@
-// One number for all that a connection tells, by which two receivers can be compared and the cost of a call be measured.
+// One number for all that a connection tells, by which two receivers can be compared and the cost of a call be
+// measured.
 use codes::Place;
 use codes::close_place;
 use codes::fault_place;

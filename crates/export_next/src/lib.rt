@@ -1,4 +1,5 @@
-// The receiver linked from another language, going from event to event: as `export`, with `next_event` in place of `step`.
+// The receiver linked from another language, going from event to event: as `export`, with `next_event` in place of
+// `step`.
 use digest::mix;
 use digest::next_end;
 use fastcgi::Conn;

@@ -40,8 +40,8 @@ fn refilled(from: usize, end: usize, buffer: &mut [u8]) -> Rest
     Rest { from: 0, end: n }
 }
 
-// Goes through standard input, a buffer at a time. A proved loop has to end, and nothing says that the input does: so it
-// counts its turns down, from a number that no run uses up.
+// Goes through standard input, a buffer at a time. A proved loop has to end, and nothing says that the input does: so
+// it counts its turns down, from a number that no run uses up.
 fn read_all(c: Conn, store: &mut [u8], gathered: &mut [u8; QUERY], buffer: &mut [u8]) -> u64 {
     let mut conn = c;
     let mut sum: u64 = 0;
