@@ -4,7 +4,7 @@ use mathlib.Core.Bool.{Bool, true}
 use mathlib.Core.List.{List}
 use lib.ListN.{take, drop}
 use Rattle.wire.specs.Test.{if_then_else_, _=?_}
-use Rattle.connection.specs.declared.request.RequestState.{RequestState}
+use Rattle.connection.specs.declared.request.Standing.{Standing}
 use Rattle.connection.specs.declared.state.Conn.{Conn}
 use Rattle.connection.specs.Sizes.{AREA}
 use Rattle.connection.specs.Codes.{refusalNumber}
@@ -13,9 +13,9 @@ use Rattle.connection.specs.RequestCalls as Of
 use Rattle.connection.specs.Calls.{lentRefusal, slotOf}
 use Rattle.call_list.specs.declared.Listed.{Listed}
 
--- row 4 is about the state alone
-abbrev pub noListOf : RequestState → Bool
-noListOf m = if Of.inParams (m .turn) then true else Of.isFaulted (m .life)
+-- row 4 is about the standing alone
+abbrev pub noListOf : Standing → Bool
+noListOf s = if Of.inParams (s .turn) then true else Of.isFaulted (s .life)
 
 -- Where a request's list lies in the store: the number of the refusal, 0 for none; where it begins and where it ends.
 pub record Listing : Type 0 where

@@ -2,7 +2,7 @@
 use call_admit::Admitted;
 use call_admit::admit_lent;
 use connection::answer::Refusal;
-use connection::request::RequestState;
+use connection::request::Standing;
 use connection::sizes::AREA;
 use connection::state::Conn;
 use request_state::in_params;
@@ -17,11 +17,11 @@ pub enum Listed {
 }
 
 // Row 4: PARAMS has not ended, or the request is faulted.
-fn no_list(m: RequestState) -> bool
-    ensures { λ r. ⌜ r ≡ noListOf m ⌝ }
+fn no_list(s: Standing) -> bool
+    ensures { λ r. ⌜ r ≡ noListOf s ⌝ }
 {
-    let turn = m.turn;
-    let life = m.life;
+    let turn = s.turn;
+    let life = s.life;
     if in_params(turn) {
         return true;
     }
@@ -37,8 +37,8 @@ pub fn list_at(c: Conn, store: &[u8], id: u16) -> Listed
         Admitted::Refused(why) => Listed::Refused(why),
         Admitted::At(i) => {
             let t = c.table;
-            let state = t.states[i];
-            if no_list(state) {
+            let standing = t.standings[i];
+            if no_list(standing) {
                 return Listed::Refused(Refusal::NotReady);
             }
             let a = i * AREA;

@@ -3,17 +3,16 @@ use Prim.Native.Nat.{ℕ}
 use mathlib.Core.Path.{_≡_, refl, ap}
 use mathlib.Core.List.{List}
 use lib.ListN.{length, getD}
-use lib.Seq.{set-getD, set-out, getD-set-same}
-use lib.Dec.{ltb}
-use borrow.Author.Tests.{ltb-true, ltb-false}
-use Rattle.wire.specs.Test.{byTest}
-use Rattle.connection.specs.declared.request.RequestState.{RequestState}
+use lib.Seq.{set-getD}
+use Rattle.slot_word.specs.Word.{taken}
+use Rattle.slot_word.specs.WordLaws.{mark-same}
+use Rattle.connection.specs.declared.request.Standing.{Standing}
 use Rattle.connection.specs.declared.request.Request.{Request}
 use Rattle.connection.specs.declared.state.Table.{Table}
 use Rattle.connection.specs.declared.state.Target.{Target}
 use Rattle.connection.specs.declared.state.Conn.{Conn}
 use Rattle.connection.specs.declared.answer.Output.{Output}
-use Rattle.connection.specs.Slots.{noState, requestAt, putRequest}
+use Rattle.connection.specs.Slots.{noStanding, requestAt, putRequest}
 use Rattle.connection.specs.Laws.SlotsLaws.{Sized, put-ids, put-occupied, put-sized, request-of-put, request-of-other}
 use Rattle.connection.specs.Laws.StateShape.{Arrays}
 use Rattle.connection.specs.Shape.{targetFits, inShape}
@@ -58,13 +57,13 @@ module _ (t : Table) (i : ℕ) (r : Request) (stays : SameRequest (requestAt t i
   target-stays (Target.Stdin j) gathered left = rw (put-occupied t i r)
   target-stays (Target.Data j) gathered left = rw (put-occupied t i r)
 
-  -- the slot's state is the one put, or there is no such slot
-  state-put : (P : RequestState → Type 0) → P (requestAt t i .state) → P (r .state) → P (requestAt (putRequest t i r) i .state)
-  unfolding requestAt putRequest
-  state-put P old new =
-      byTest (ltb i (length (t .states)))
-      (λ e. rw (getD-set-same (t .states) i (r .state) noState (ltb-true i (length (t .states)) e)) new)
-      (λ e. rw (set-out (t .states) i (r .state) (ltb-false i (length (t .states)) e)) old)
+  standings-stay : putRequest t i r .standings ≡ t .standings
+  unfolding putRequest requestAt
+  standings-stay = rw (stays .role, stays .turn, stays .life, set-getD (t .standings) i noStanding)
+
+  keep-stays : putRequest t i r .keep ≡ t .keep
+  unfolding putRequest requestAt
+  keep-stays = rw (stays .keep, mark-same i (t .keep))
 
   own-slot : SameRequest (requestAt t i) (requestAt (putRequest t i r) i)
   unfolding requestAt
@@ -72,10 +71,10 @@ module _ (t : Table) (i : ℕ) (r : Request) (stays : SameRequest (requestAt t i
       record {
         id = ap (λ (l : List ℕ). getD l i 0) ids-stay;
         length = ap (λ (l : List ℕ). getD l i 0) lengths-stay;
-        role = state-put (λ m. m .role ≡ requestAt t i .state .role) refl (stays .role);
-        turn = state-put (λ m. m .turn ≡ requestAt t i .state .turn) refl (stays .turn);
-        life = state-put (λ m. m .life ≡ requestAt t i .state .life) refl (stays .life);
-        keep = state-put (λ m. m .keep ≡ requestAt t i .state .keep) refl (stays .keep);
+        role = ap (λ (l : List Standing). getD l i noStanding .role) standings-stay;
+        turn = ap (λ (l : List Standing). getD l i noStanding .turn) standings-stay;
+        life = ap (λ (l : List Standing). getD l i noStanding .life) standings-stay;
+        keep = ap (taken i) keep-stays;
       }
 
 puts-shape : (c : Conn) (i : ℕ) (r : Request) → SameRequest (requestAt (c .table) i) r → inShape (putsRequest c i r) ≡ inShape c

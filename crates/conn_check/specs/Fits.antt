@@ -7,9 +7,10 @@ use Rattle.connection.specs.declared.state.Target.{Target}
 use Rattle.connection.specs.declared.state.Frame.{Frame}
 use Rattle.connection.specs.Shape.{dueFits, targetFits, inShape}
 
--- a table with these ids, lengths and slots taken; its states do not matter
+-- a table with these ids, lengths and slots taken; its standings and marks do not matter
 abbrev pub tableOf : List ℕ → List ℕ → ℕ → Table
-tableOf ids lengths occupied = record { ids = ids; lengths = lengths; states = []; occupied = occupied }
+tableOf ids lengths occupied =
+    record { ids = ids; lengths = lengths; standings = []; keep = 0; «out_ended» = 0; «err_used» = 0; «err_ended» = 0; occupied = occupied }
 
 abbrev pub dueOf : ℕ → ℕ → Bool
 dueOf occupied i = dueFits (tableOf [] [] occupied) i

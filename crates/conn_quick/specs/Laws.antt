@@ -25,7 +25,7 @@ use Rattle.connection.specs.declared.event.Event.{Event as CodeEvent}
 use Rattle.connection.specs.Event.{Event}
 use Rattle.connection.specs.Decision.{openState}
 use Rattle.connection.specs.Request.{isSpent, turnType, onStdin, onData, onInput, onLive, onHeader, Held, ruled}
-use Rattle.connection.specs.Slots.{noState, requestAt, heldAt, find, onSlot}
+use Rattle.connection.specs.Slots.{noStanding, standingOf, requestAt, heldAt, find, onSlot}
 use Rattle.connection.specs.Laws.SlotsLaws.{put-same, area-put-same, find-at}
 use Rattle.connection.specs.Laws.ShapeLaws.{InUse, Aimed}
 use Rattle.connection.specs.Laws.PieceLaws.{HeaderFits}
@@ -107,7 +107,7 @@ header-read p piece e =
 
 -- where its content goes, its request being in slot i
 pub headed-at : (t : Table) (h : Header) (i : ℕ) → h .version ≡ VERSION → (h .id ≡ 0 → ⊥) → (h .content ≡ 0 → ⊥) → find t (h .id) ≡ Slot.At i
-    → headedTo t h ≡ goesTo (getD (t .states) i noState) (h .kind) i
+    → headedTo t h ≡ goesTo (getD (t .standings) i noStanding) (h .kind) i
 unfolding headedTo requestAt
 headed-at t h i v d n e = simp (eq-eqb (h .version) VERSION v, ne-eqb (h .id) 0 d, ne-eqb (h .content) 0 n, e)
 
@@ -142,7 +142,7 @@ streams t h e =
     (λ a. let z : _≡_ {A = ℕ} 0 1 = cc (simp a at e) in absurd (omega arith))
   where
     found : eqb (h .version) VERSION ≡ true → eqb (h .id) 0 ≡ false → eqb (h .content) 0 ≡ false
-        → (w : Slot) → find t (h .id) ≡ w → isStream (onSlot w (λ i. goesTo (requestAt t i .state) (h .kind) i) Target.Skip) ≡ true
+        → (w : Slot) → find t (h .id) ≡ w → isStream (onSlot w (λ i. goesTo (standingOf (requestAt t i .state)) (h .kind) i) Target.Skip) ≡ true
         → (i : ℕ) × Streams t h i
     found a b c Slot.Nowhere s e′ = let z : _≡_ {A = ℕ} 0 1 = cc in absurd (omega arith)
     found a b c (Slot.At i) s e′ =

@@ -9,12 +9,12 @@ use Rattle.record.specs.Names.{VERSION, STDIN, DATA}
 use Rattle.record.specs.declared.header.Header.{Header}
 use Rattle.record_reader.specs.declared.Position.{Position}
 use Rattle.connection.specs.declared.request.Turn.{Turn}
-use Rattle.connection.specs.declared.request.RequestState.{RequestState}
+use Rattle.connection.specs.declared.request.Standing.{Standing}
 use Rattle.connection.specs.declared.state.Table.{Table}
 use Rattle.connection.specs.declared.state.Target.{Target}
 use Rattle.connection.specs.Event.{Event}
 use Rattle.connection.specs.Request.{isSpent, turnType}
-use Rattle.connection.specs.Slots.{requestAt, find, onSlot}
+use Rattle.connection.specs.Slots.{standingOf, requestAt, find, onSlot}
 
 abbrev pub isStream : Target → Bool
 isStream Target.Skip = false
@@ -54,10 +54,10 @@ streamTo Turn.Data i = Target.Data i
 streamTo Turn.Done i = Target.Skip
 
 -- a record of this type, for a request that is in slot i
-abbrev pub goesTo : RequestState → ℕ → ℕ → Target
-goesTo m kind i =
-    if isSpent (m .life) then Target.Skip
-    else if kind =? turnType (m .turn) then streamTo (m .turn) i
+abbrev pub goesTo : Standing → ℕ → ℕ → Target
+goesTo s kind i =
+    if isSpent (s .life) then Target.Skip
+    else if kind =? turnType (s .turn) then streamTo (s .turn) i
     else Target.Skip
 
 -- Where a record's content goes if it goes on with STDIN or DATA, and to `Skip` if it does not.
@@ -66,7 +66,7 @@ headedTo t h =
     if h .version =? VERSION then
     (if h .id =? 0 then Target.Skip
     else if h .content =? 0 then Target.Skip
-    else onSlot (find t (h .id)) (λ i. goesTo (requestAt t i .state) (h .kind) i) Target.Skip)
+    else onSlot (find t (h .id)) (λ i. goesTo (standingOf (requestAt t i .state)) (h .kind) i) Target.Skip)
     else Target.Skip
 
 -- between two records, a piece of so many bytes begins with a whole header

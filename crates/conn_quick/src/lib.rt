@@ -4,7 +4,7 @@ use conn_frame::frame_after;
 use conn_frame::frame_within;
 use connection::event::Event;
 use connection::event::Stream;
-use connection::request::RequestState;
+use connection::request::Standing;
 use connection::request::Turn;
 use connection::sizes::SLOTS;
 use connection::state::Frame;
@@ -126,12 +126,12 @@ fn stream_to(turn: Turn, i: usize) -> Target
     }
 }
 
-fn goes_to(m: RequestState, kind: u8, i: usize) -> Target
+fn goes_to(s: Standing, kind: u8, i: usize) -> Target
     requires { ⌜ i < SLOTS ⌝ }
-    ensures { λ r. ⌜ r ≡ goesTo m kind i ⌝ }
+    ensures { λ r. ⌜ r ≡ goesTo s kind i ⌝ }
 {
-    let life = m.life;
-    let turn = m.turn;
+    let life = s.life;
+    let turn = s.turn;
     if is_spent(life) {
         return Target::Skip;
     }
@@ -158,8 +158,8 @@ fn headed_to(t: Table, h: Header) -> Target
     let Slot::At(i) = slot else {
         return Target::Skip;
     };
-    let m = t.states[i];
-    goes_to(m, h.kind, i)
+    let s = t.standings[i];
+    goes_to(s, h.kind, i)
 }
 
 // A piece that begins with a whole header.

@@ -22,6 +22,16 @@ pub enum Life {
     Aborted,
 }
 
+// How a request stands: its role, its turn and its life.
+pub struct Standing {
+    // What the web server asks the application to be.
+    pub role: Role,
+    // The input stream that may come next.
+    pub turn: Turn,
+    // Whether it is spent.
+    pub life: Life,
+}
+
 // The state of a request, apart from its id and its parameters.
 pub struct RequestState {
     // What the web server asks the application to be.

@@ -1,13 +1,17 @@
 // The state of a connection.
-use crate::request::RequestState;
+use crate::request::Standing;
 use crate::sizes::SLOTS;
 use record_reader::Position;
 
-// The requests, slot by slot. Bit i of `occupied` says that slot i is taken.
+// The requests, slot by slot. Of the words bit i is for slot i: the marks of its request, and whether it is taken.
 pub struct Table {
     pub ids: [u16; SLOTS],
     pub lengths: [u16; SLOTS],
-    pub states: [RequestState; SLOTS],
+    pub standings: [Standing; SLOTS],
+    pub keep: u16,
+    pub out_ended: u16,
+    pub err_used: u16,
+    pub err_ended: u16,
     pub occupied: u16,
 }
 

@@ -1,6 +1,7 @@
 // A state as bytes, every field of it, so that two states can be compared. All images are of one length.
 use crate::page::put_at;
 use connection::request::Life;
+use connection::request::Request;
 use connection::request::RequestState;
 use connection::request::Turn;
 use connection::state::Frame;
@@ -10,6 +11,7 @@ use fastcgi::Conn;
 use fastcgi::SLOTS;
 use fastcgi::role_number;
 use record_reader::Position;
+use slot_table::request_at;
 
 // More bytes than an image has.
 pub const IMAGE: usize = 1024;
@@ -67,14 +69,19 @@ fn put_request_state(out: &mut [u8], at: usize, m: RequestState) -> usize {
     put_at(out, at, &seven)
 }
 
+// A request.
+fn put_request(out: &mut [u8], at: usize, r: Request) -> usize {
+    let id = put_count(out, at, r.id as usize);
+    let length = put_count(out, id, r.length as usize);
+    put_request_state(out, length, r.state)
+}
+
 // The requests, taken slots and others.
 fn put_table(out: &mut [u8], at: usize, t: Table) -> usize {
     let mut place = put_count(out, at, t.occupied as usize);
     let mut i: usize = 0;
     while i < SLOTS {
-        let id = put_count(out, place, t.ids[i] as usize);
-        let length = put_count(out, id, t.lengths[i] as usize);
-        place = put_request_state(out, length, t.states[i]);
+        place = put_request(out, place, request_at(t, i));
         i += 1;
     }
     place

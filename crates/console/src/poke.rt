@@ -4,6 +4,7 @@ use crate::number::low8;
 use crate::number::low16;
 use crate::words::part;
 use connection::request::Life;
+use connection::request::Request;
 use connection::request::RequestState;
 use connection::request::Turn;
 use connection::state::Frame;
@@ -12,8 +13,9 @@ use connection::state::Target;
 use fastcgi::Conn;
 use fastcgi::QUERY;
 use fastcgi::Role;
-use fastcgi::SLOTS;
 use record_reader::Position;
+use slot_table::put_request;
+use slot_table::request_at;
 use wire::clear;
 use wire::copy_into;
 use wire::least;
@@ -167,17 +169,20 @@ fn number_if(hit: bool, n: u64, before: u16) -> u16 {
     before
 }
 
+// A request with a field set, if it is one of its own.
+fn request_with(r: Request, field: u64, n: u64) -> Request {
+    Request {
+        id: number_if(field == ID, n, r.id),
+        length: number_if(field == LENGTH, n, r.length),
+        state: state_with(r.state, field, n),
+    }
+}
+
 // The table with its word, or a field of slot a, set.
 fn table_with(t: Table, field: u64, a: u64, b: u64) -> Table {
     let i = a as usize;
-    let mut table = t;
+    let mut table = put_request(t, i, request_with(request_at(t, i), field, b));
     table.occupied = number_if(field == OCCUPIED, a, t.occupied);
-    if i < SLOTS {
-        let state = t.states[i];
-        table.ids[i] = number_if(field == ID, b, t.ids[i]);
-        table.lengths[i] = number_if(field == LENGTH, b, t.lengths[i]);
-        table.states[i] = state_with(state, field, b);
-    }
     table
 }
 

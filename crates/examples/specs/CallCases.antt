@@ -6,7 +6,7 @@ use mathlib.Core.List.{List, [], _∷_, flatten}
 use native.Mathlib.Omega.{arith}
 use lib.ListN.{length}
 use borrow.Author.Tests.{lt-ltb}
-use Rattle.slot_word.specs.Word.{taken, withBit, withSlot}
+use Rattle.slot_word.specs.Word.{taken, withBit, withSlot, withoutBit, withoutSlot}
 use Rattle.record.specs.Header.{headerBytes}
 use Rattle.record_writer.specs.Written.{paddingOf, recordLength, recordBytes, chunksIn, chunks, streamBytes, streamLength}
 use Rattle.pairs.specs.Length.{lengthBytes}
@@ -64,7 +64,7 @@ ended-short-buffer = refl
 
 -- the other stream is not ended: the buffer is too short
 other-stream : say talking 1 Output.Stderr (65 ∷ []) [] .refusal ≡ 6
-unfolding say sayIn writes callRefusal inShape slotsFit idFits positionFits findFrom holdsId taken takeSlot putRequest withSlot withBit requestAt streamBytes flatten chunks chunksIn recordBytes headerBytes paddingOf
+unfolding say sayIn writes callRefusal inShape slotsFit idFits positionFits findFrom holdsId taken takeSlot putRequest withSlot withBit withoutSlot withoutBit requestAt streamBytes flatten chunks chunksIn recordBytes headerBytes paddingOf
 other-stream = refl
 
 -- empty data on an ended stream is refused all the same, on the other it is not

@@ -1,6 +1,6 @@
 -- The quick test tells what the slots' part of row 9 tells.
 use Prim.Native.Nat.{ℕ, zero, suc, _+_, _-_, _≤_, _<_}
-use mathlib.Core.Path.{_≡_, refl, sym, ap, _∙_}
+use mathlib.Core.Path.{_≡_, refl, sym, ap, subst, _∙_}
 use mathlib.Core.Bool.{Bool, true, false, not, _||_, or-true}
 use mathlib.Core.List.{List, []}
 use native.Mathlib.Omega.{arith}
@@ -75,7 +75,8 @@ neither true b e = let z : _≡_ {A = ℕ} 0 1 = cc in absurd (omega arith)
 
 module _ (ids lengths : List ℕ) (occupied : ℕ) where
   abbrev slots : Table
-  slots = record { ids = ids; lengths = lengths; states = []; occupied = occupied }
+  slots =
+      record { ids = ids; lengths = lengths; standings = []; keep = 0; «out_ended» = 0; «err_used» = 0; «err_ended» = 0; occupied = occupied }
 
   fits-tidy : slotsFit SLOTS ids lengths occupied 0 ≡ true → Tidy slots
   unfolding inShape positionFits
@@ -214,7 +215,7 @@ module _ (ids lengths : List ℕ) (occupied : ℕ) where
               omega arith
 
           some : (id i : ℕ) → Holds slots id i → id ≡ 0 → ⊥
-          some id i h e = named i (rw (← e) h)
+          some id i h e = named i (subst (λ (k : ℕ). Holds slots k i) e h)
 
       -- ---- all is well, nothing found
       -- the key of place i + d + 1, going round, is that of another slot

@@ -3,18 +3,20 @@ use connection::request::Life;
 use connection::request::Request;
 use connection::request::RequestState;
 use connection::request::Role;
+use connection::request::Standing;
 use connection::request::Turn;
 use connection::sizes::SLOTS;
 use connection::state::Slot;
 use connection::state::Table;
 use slot_word::free_slot;
 use slot_word::is_taken;
+use slot_word::mark_slot;
 use slot_word::take_slot;
 ghost use mathlib.Core.Path.{_≡_};
 ghost use Prim.Native.Nat.{_-_, _<_};
 ghost use Rattle.connection.specs.Sizes.{SLOTS};
-ghost use Rattle.connection.specs.Slots.{noState, noRequest, noRequests, requestAt, putRequest, takeSlot, freeSlot};
-ghost use Rattle.connection.specs.Slots.{holdsId, findFrom};
+ghost use Rattle.connection.specs.Slots.{noState, noRequest, noRequests, standingOf, requestAt, putRequest};
+ghost use Rattle.connection.specs.Slots.{takeSlot, freeSlot, holdsId, findFrom};
 
 // The state of a free slot.
 pub fn no_state() -> RequestState
@@ -42,16 +44,41 @@ fn no_request() -> Request
     }
 }
 
+// The part of a state that is no mark.
+fn standing_of(m: RequestState) -> Standing
+    ensures { λ r. ⌜ r ≡ standingOf m ⌝ }
+{
+    let role = m.role;
+    let turn = m.turn;
+    let life = m.life;
+    Standing {
+        role: role,
+        turn: turn,
+        life: life,
+    }
+}
+
 // The request in slot i. From 16 on there is none.
 pub fn request_at(t: Table, i: usize) -> Request
     ensures { λ r. ⌜ r ≡ requestAt t i ⌝ }
 {
     if i < SLOTS {
-        let state = t.states[i];
+        let standing = t.standings[i];
+        let role = standing.role;
+        let turn = standing.turn;
+        let life = standing.life;
         return Request {
             id: t.ids[i],
             length: t.lengths[i],
-            state: state,
+            state: RequestState {
+                role: role,
+                turn: turn,
+                life: life,
+                keep: is_taken(t.keep, i),
+                out_ended: is_taken(t.out_ended, i),
+                err_used: is_taken(t.err_used, i),
+                err_ended: is_taken(t.err_ended, i),
+            },
         };
     }
     no_request()
@@ -63,10 +90,14 @@ pub fn put_request(t: Table, i: usize, r: Request) -> Table
 {
     let mut table = t;
     if i < SLOTS {
-        let state = r.state;
+        let standing = standing_of(r.state);
         table.ids[i] = r.id;
         table.lengths[i] = r.length;
-        table.states[i] = state;
+        table.standings[i] = standing;
+        table.keep = mark_slot(t.keep, i, r.state.keep);
+        table.out_ended = mark_slot(t.out_ended, i, r.state.out_ended);
+        table.err_used = mark_slot(t.err_used, i, r.state.err_used);
+        table.err_ended = mark_slot(t.err_ended, i, r.state.err_ended);
     }
     table
 }
@@ -93,11 +124,15 @@ pub fn free_request(t: Table, i: usize) -> Table
 pub fn no_requests() -> Table
     ensures { λ r. ⌜ r ≡ noRequests ⌝ }
 {
-    let state = no_state();
+    let standing = standing_of(no_state());
     Table {
         ids: [0; SLOTS],
         lengths: [0; SLOTS],
-        states: [state; SLOTS],
+        standings: [standing; SLOTS],
+        keep: 0,
+        out_ended: 0,
+        err_used: 0,
+        err_ended: 0,
         occupied: 0,
     }
 }

@@ -35,3 +35,7 @@ withSlot i o = if i <? 16 then withBit i o else o
 unfoldable pub withoutSlot : ℕ → ℕ → ℕ
 unfolding withoutBit
 withoutSlot i o = if i <? 16 then withoutBit i o else o
+
+-- the mark of slot i, set or cleared
+abbrev pub marked : ℕ → Bool → ℕ → ℕ
+marked i b o = if b then withSlot i o else withoutSlot i o

@@ -1,15 +1,15 @@
--- What holds of the word of occupancy.
+-- What holds of a word that has a bit for each slot: that of occupancy, and those of the marks.
 use mathlib.Core.Path.{_≡_, refl, sym, ap, ap₂, _∙_}
 use Prim.Native.Nat.{ℕ, zero, suc, _+_, _-_, _*_, _/_, _%_, _^_, _≤_, _<_}
-use mathlib.Core.Bool.{true, false}
+use mathlib.Core.Bool.{Bool, true, false}
 use native.Mathlib.Omega.{arith}
 use native.Mathlib.Nat.{pow-suc, le-of-suc-le-suc, mod-eq-of-lt, div-one, div-div-eq-div-mul, mul-comm}
-use lib.Dec.{eqb}
+use lib.Dec.{ltb, eqb}
 use lib.Pow.{pow-lt, pow-pos}
 use lib.Count.{ones, trailingZeros, under, ones-step}
 use lib.Bits.{bitOr, bitAnd, or-step, and-step, or-zero-r, and-mask}
-use borrow.Author.Tests.{eq-eqb}
-use Rattle.slot_word.specs.Word.{taken, lowestFree, takenCount, withBit, withoutBit}
+use borrow.Author.Tests.{lt-ltb, le-ltb, ltb-true, ltb-false, eq-eqb, eqb-true, eqb-false}
+use Rattle.slot_word.specs.Word.{taken, lowestFree, takenCount, withBit, withoutBit, withSlot, withoutSlot, marked}
 use Rattle.wire.specs.Test.{if_then_else_, byTest}
 
 -- a digit is 0 or 1: a statement of a number's lowest digit, by its two cases
@@ -148,3 +148,86 @@ taken-out zero zero o h l = let z : o ≡ 0 = omega arith in rw z
 taken-out zero (suc i) o h l = taken-out zero i (o / 2) (omega arith) (omega arith)
 taken-out (suc k) zero o h l = absurd (omega arith)
 taken-out (suc k) (suc i) o h l = taken-out k i (o / 2) (omega (arith, pow-suc 2 k)) (le-of-suc-le-suc l)
+
+-- ---- the mark of a slot
+-- a bit set where it is 1, or cleared where it is 0, changes nothing
+with-same : (i o : ℕ) → taken i o ≡ true → withBit i o ≡ o
+unfolding taken withBit
+with-same zero o h = omega (arith, eqb-true (o % 2) 1 h)
+with-same (suc i) o h = omega (arith, with-same i (o / 2) h)
+
+without-same : (i o : ℕ) → taken i o ≡ false → withoutBit i o ≡ o
+unfolding taken withoutBit
+without-same zero o h = omega (arith, eqb-false (o % 2) 1 h)
+without-same (suc i) o h = omega (arith, without-same i (o / 2) h)
+
+-- bit i, set or cleared
+abbrev bitAs : ℕ → Bool → ℕ → ℕ
+bitAs i b o = if b then withBit i o else withoutBit i o
+
+bit-low : (b : Bool) (o : ℕ) → bitAs 0 b o / 2 ≡ o / 2
+unfolding withBit withoutBit
+bit-low true o = omega arith
+bit-low false o = omega arith
+
+bit-first : (b : Bool) (o p : ℕ) → o / 2 ≡ p / 2 → bitAs 0 b o ≡ bitAs 0 b p
+unfolding withBit withoutBit
+bit-first true o p e = omega arith
+bit-first false o p e = omega arith
+
+bit-next : (i : ℕ) (b : Bool) (o : ℕ) → bitAs (suc i) b o ≡ bitAs i b (o / 2) * 2 + o % 2
+unfolding withBit withoutBit
+bit-next i true o = refl
+bit-next i false o = refl
+
+-- of two the last counts
+bit-twice : (i : ℕ) (b c : Bool) (o : ℕ) → bitAs i c (bitAs i b o) ≡ bitAs i c o
+bit-twice zero b c o = bit-first c (bitAs 0 b o) o (bit-low b o)
+bit-twice (suc i) b c o =
+    let n = bitAs i b (o / 2) * 2 + o % 2 in
+    let half : n / 2 ≡ bitAs i b (o / 2) = omega arith in
+    let low : n % 2 ≡ o % 2 = omega arith in
+    ap (bitAs (suc i) c) (bit-next i b o) ∙ bit-next i c n
+    ∙ ap₂ (λ (a d : ℕ). a * 2 + d) (ap (bitAs i c) half ∙ bit-twice i b c (o / 2)) low ∙ sym (bit-next i c o)
+
+-- of the 16 slots the mark is the bit; from 16 on there is none
+mark-bit : (i : ℕ) (b : Bool) (o : ℕ) → i < 16 → marked i b o ≡ bitAs i b o
+unfolding withSlot withoutSlot
+mark-bit i true o h = simp (lt-ltb i 16 h)
+mark-bit i false o h = simp (lt-ltb i 16 h)
+
+pub mark-out : (i : ℕ) (b : Bool) (o : ℕ) → 16 ≤ i → marked i b o ≡ o
+unfolding withSlot withoutSlot
+mark-out i true o h = simp (le-ltb i 16 h)
+mark-out i false o h = simp (le-ltb i 16 h)
+
+-- by the two cases of a slot: one of the 16, or none
+by-slot : (P : Type 0) (i : ℕ) → (i < 16 → P) → (16 ≤ i → P) → P
+by-slot P i low high = byTest (ltb i 16) (λ e. low (ltb-true i 16 e)) (λ e. high (ltb-false i 16 e))
+
+-- a mark put as it is changes nothing
+pub mark-same : (i o : ℕ) → marked i (taken i o) o ≡ o
+mark-same i o = by-slot (marked i (taken i o) o ≡ o) i
+    (λ h. mark-bit i (taken i o) o h ∙ byTest (taken i o) (λ e. rw e (with-same i o e)) (λ e. rw e (without-same i o e)))
+    (mark-out i (taken i o) o)
+
+-- the mark put is read back
+pub mark-read : (i : ℕ) (b : Bool) (o : ℕ) → i < 16 → taken i (marked i b o) ≡ b
+mark-read i true o h = ap (taken i) (mark-bit i true o h) ∙ with-taken i o
+mark-read i false o h = ap (taken i) (mark-bit i false o h) ∙ without-free i o
+
+-- another slot's mark stays
+pub mark-other : (i j : ℕ) (b : Bool) (o : ℕ) → (j ≡ i → ⊥) → taken j (marked i b o) ≡ taken j o
+mark-other i j b o h = by-slot (taken j (marked i b o) ≡ taken j o) i
+    (λ l. ap (taken j) (mark-bit i b o l) ∙ go b)
+    (λ l. ap (taken j) (mark-out i b o l))
+  where
+    go : (b : Bool) → taken j (bitAs i b o) ≡ taken j o
+    go true = with-other i j o h
+    go false = without-other i j o h
+
+-- of two marks put the last one counts
+pub mark-twice : (i : ℕ) (b c : Bool) (o : ℕ) → marked i c (marked i b o) ≡ marked i c o
+mark-twice i b c o = by-slot (marked i c (marked i b o) ≡ marked i c o) i
+    (λ h. ap (marked i c) (mark-bit i b o h) ∙ mark-bit i c (bitAs i b o) h ∙ bit-twice i b c o ∙ sym (mark-bit i c o h))
+    (λ h. ap (marked i c) (mark-out i b o h))

@@ -1,6 +1,6 @@
 // Which of the 16 slots are taken: one word, bit i for slot i.
 ghost use mathlib.Core.Path.{_≡_};
-ghost use Rattle.slot_word.specs.Word.{taken, lowestFree, takenCount, withSlot, withoutSlot};
+ghost use Rattle.slot_word.specs.Word.{taken, lowestFree, takenCount, withSlot, withoutSlot, marked};
 
 // The lowest-numbered free slot, or 16 where none is free.
 pub fn lowest_free(occupied: u16) -> u32
@@ -44,4 +44,14 @@ pub fn free_slot(occupied: u16, i: usize) -> u16
         return occupied & !(1u16 << (i as u32));
     }
     occupied
+}
+
+// The word with the mark of slot i set or cleared.
+pub fn mark_slot(word: u16, i: usize, on: bool) -> u16
+    ensures { λ r. ⌜ r ≡ marked i on word ⌝ }
+{
+    if on {
+        return take_slot(word, i);
+    }
+    free_slot(word, i)
 }

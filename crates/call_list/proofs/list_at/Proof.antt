@@ -23,11 +23,11 @@ enum-known-admitted-2 c = search needs
 here : (c : tie.After-t) → Through (c .before .before .before .before .before .before .args .c) (now (c .before .before .before .before .before .before .args .store)) (c .before .before .before .before .before .before .args .id) (c .before .before .admitted2 .given .0 .0)
 here c = admitted-at _ _ _ _ (sym (c .before .before .before .before .admit-lent .ensures) ∙ ap admittedBy (c .before .before .admitted2 .given .1))
 
-mul-state : tie.Need-mul-state
-mul-state c = omega (arith, here c)
+mul-standing : tie.Need-mul-standing
+mul-standing c = omega (arith, here c)
 
-element-copy-out-state : tie.Need-element-copy-out-state
-element-copy-out-state c = here c .low
+element-copy-out-standing : tie.Need-element-copy-out-standing
+element-copy-out-standing c = here c .low
 
 no-list-requires : tie.Need-no-list-requires
 no-list-requires c κs = search needs
@@ -69,8 +69,8 @@ list-at-spec =
     admit-lent-requires
     enum-known-admitted
     enum-known-admitted-2
-    mul-state
-    element-copy-out-state
+    mul-standing
+    element-copy-out-standing
     no-list-requires
     returns
     mul-a

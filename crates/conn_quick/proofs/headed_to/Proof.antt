@@ -40,11 +40,11 @@ low : (c : tie.After-slot) → c .slot .given .0 .0 < SLOTS
 low c =
     find-at (c .before .before .before .before .before .before .before .before .before .before .before .args .t1) (c .before .before .before .before .before .before .before .before .before .before .before .args .h .id) (c .slot .given .0 .0) (sym (c .before .before .find-from .ensures) ∙ c .slot .given .1) .low
 
-mul-m : tie.Need-mul-m
-mul-m c = omega (arith, low (c .before))
+mul-s : tie.Need-mul-s
+mul-s c = omega (arith, low (c .before))
 
-element-copy-out-m : tie.Need-element-copy-out-m
-element-copy-out-m c = low (c .before)
+element-copy-out-s : tie.Need-element-copy-out-s
+element-copy-out-s c = low (c .before)
 
 goes-to-requires : tie.Need-goes-to-requires
 goes-to-requires c κs = low (c .before .before)
@@ -66,7 +66,7 @@ headed-to-spec =
     enum-known-slot
     enum-told
     returns-4
-    mul-m
-    element-copy-out-m
+    mul-s
+    element-copy-out-s
     goes-to-requires
     returns-5)

@@ -40,16 +40,16 @@ fits c =
     (omega (arith, u, e), omega (arith, u, e))
 
 -- the arrays are as the types say, before and after
-arrays : (c : tie.After-advance) → Arrays (openWith (c .before .before .before .before .args .t) (c .before .before .before .before .args .f))
+arrays : (c : tie.Start) → Arrays (openWith (c .args .t) (c .args .f))
 arrays c =
-    let a = c .before .before .before .before .args in
+    let a = c .args in
     let own : AllBytes (a .f .position .header) = λ i. let f : Fits w8 (getD (a .f .position .header) i 0) = search needs in f .fits in
     let ids : length (a .t .ids) ≡ SLOTS = search needs in
     let lengths : length (a .t .lengths) ≡ SLOTS = search needs in
-    let states : length (a .t .states) ≡ SLOTS = search mapped-length in
+    let standings : length (a .t .standings) ≡ SLOTS = search mapped-length in
     let header : length (a .f .position .header) ≡ 8 = search needs in
     let body : length (a .f .body) ≡ 8 = search needs in
-    record { table = record { ids = ids; lengths = lengths; states = states }; header = header; bytes = own; body = body }
+    record { table = record { ids = ids; lengths = lengths; standings = standings }; header = header; bytes = own; body = body }
 
 held : (c : tie.After-advance) → AllBytes (c .advance .result .position .header)
 held c i = let f : Fits w8 (getD (c .advance .result .position .header) i 0) = search needs in f .fits
@@ -78,7 +78,7 @@ returns c =
     ∙ ap (advances st (a .store .now) (a .piece .now)) (c .before .before .before .before .before .before .before .before .advance .ensures) in
     let read = c .before .before .before .before .before .before .before .before .advance .ensures in
     let whole : (h : Header) → advanced (a .f .position) (a .piece .now) .phase ≡ Phase.Whole h → HeaderFits h = λ h e. d .ensures .1 h (ap (λ (x : Advanced). x .phase) read ∙ e) in
-    let before = good (openWith (a .t) (a .f)) (arrays (c .before .before .before .before .before .before .before .before)) (shaped _ (c .before .before .before .before .before .before .before .before .before .before .before .before .pre .1)) in
+    let before = good (openWith (a .t) (a .f)) (arrays (c .before .before .before .before .before .before .before .before .before .before .before .before)) (shaped _ (c .before .before .before .before .before .before .before .before .before .before .before .before .pre .1)) in
     let fits : ReadFits (advanced (a .f .position) (a .piece .now)) = record { header = whole; bytes = subst (λ (x : Advanced). AllBytes (x .position .header)) read (held (c .before .before .before .before .before .before .before .before)) } in
     (same, ap (λ (x : Stepped). inShape (x .state .conn)) same ∙ good-shape _ (good-advances st (a .store .now) before (a .piece .now) fits))
 

@@ -10,6 +10,7 @@ use lib.Dec.{eqb}
 use borrow.Author.Tests.{le-leb, ne-eqb}
 use Rattle.wire.specs.Buffer.{putAt, copied}
 use Rattle.wire.specs.BufferLaws.{copied-room, put-put, put-length}
+use Rattle.slot_word.specs.WordLaws.{mark-twice}
 use Rattle.record_reader.specs.declared.Position.{Position}
 use Rattle.connection.specs.declared.request.Request.{Request}
 use Rattle.connection.specs.declared.state.Table.{Table}
@@ -17,7 +18,7 @@ use Rattle.connection.specs.declared.state.Target.{Target}
 use Rattle.connection.specs.Sizes.{SLOTS, AREA, STORE, QUERY}
 use Rattle.connection.specs.Event.{Event}
 use Rattle.connection.specs.Request.{Held, grown}
-use Rattle.connection.specs.Slots.{putRequest, putArea}
+use Rattle.connection.specs.Slots.{standingOf, putRequest, putArea}
 use Rattle.connection.specs.Laws.ShapeLaws.{Tidy, Placed, Begins, Aimed, shaped, in-shape}
 use Rattle.connection.specs.Step.{State, Left, Stepped, leaves, openWith, closes, targetIf, queried, opens, begun, ofBegin, ofQuery, onTarget, advances, stepped}
 use Rattle.connection.specs.Bytewise.{notes}
@@ -82,7 +83,18 @@ grown-grown h x y l a =
 -- a request put twice
 pub put-twice : (t : Table) (i : ℕ) (r q : Request) → putRequest (putRequest t i r) i q ≡ putRequest t i q
 unfolding putRequest
-put-twice t i r q = rw (set-set (t .ids) i (r .id) (q .id), set-set (t .lengths) i (r .length) (q .length), set-set (t .states) i (r .state) (q .state))
+put-twice t i r q =
+    let m = r .state in
+    let n = q .state in
+    rw (
+      set-set (t .ids) i (r .id) (q .id),
+      set-set (t .lengths) i (r .length) (q .length),
+      set-set (t .standings) i (standingOf m) (standingOf n),
+      mark-twice i (m .keep) (n .keep) (t .keep),
+      mark-twice i (m .«out_ended») (n .«out_ended») (t .«out_ended»),
+      mark-twice i (m .«err_used») (n .«err_used») (t .«err_used»),
+      mark-twice i (m .«err_ended») (n .«err_ended») (t .«err_ended»),
+    )
 
 -- an area put twice
 pub area-twice : (store : List ℕ) (i : ℕ) (a c : List ℕ) → length store ≡ STORE → i < SLOTS → length a ≡ AREA → putArea (putArea store i a) i c ≡ putArea store i c

@@ -10,24 +10,33 @@ use lib.Dec.{ltb, eqb}
 use borrow.Author.Tests.{lt-ltb, ltb-true, ltb-false, eqb-true, eqb-false, eq-eqb}
 use Rattle.wire.specs.Test.{byTest}
 use Rattle.slot_word.specs.Word.{taken, withSlot, withoutSlot}
-use Rattle.slot_word.specs.WordLaws.{with-taken, with-other, without-free, without-other}
+use Rattle.slot_word.specs.WordLaws.{with-taken, with-other, without-free, without-other, mark-same, mark-read, mark-other}
 use Rattle.connection.specs.declared.request.Request.{Request}
 use Rattle.connection.specs.declared.state.Table.{Table}
 use Rattle.connection.specs.declared.state.Slot.{Slot}
 use Rattle.connection.specs.Sizes.{SLOTS, AREA, STORE}
-use Rattle.connection.specs.Slots.{noState, noRequest, requestAt, areaAt, putRequest, putArea, takeSlot, freeSlot, holdsId, findFrom, find, isFound}
+use Rattle.connection.specs.Slots.{noStanding, standingOf, noRequest, requestAt, areaAt, putRequest, putArea, takeSlot, freeSlot, holdsId, findFrom, find, isFound}
 
 -- The arrays of a table have a place for each slot.
 pub record Sized (t : Table) : Type 0 where
   pub ids : length (t .ids) ≡ SLOTS
   pub lengths : length (t .lengths) ≡ SLOTS
-  pub states : length (t .states) ≡ SLOTS
+  pub standings : length (t .standings) ≡ SLOTS
 
 -- ---- requests
 -- A request put back where it came from changes nothing.
 pub put-same : (t : Table) (i : ℕ) → putRequest t i (requestAt t i) ≡ t
 unfolding putRequest requestAt
-put-same t i = rw (set-getD (t .ids) i 0, set-getD (t .lengths) i 0, set-getD (t .states) i noState)
+put-same t i =
+    rw (
+      set-getD (t .ids) i 0,
+      set-getD (t .lengths) i 0,
+      set-getD (t .standings) i noStanding,
+      mark-same i (t .keep),
+      mark-same i (t .«out_ended»),
+      mark-same i (t .«err_used»),
+      mark-same i (t .«err_ended»),
+    )
 
 -- The request put is read back.
 pub request-of-put : (t : Table) (i : ℕ) (r : Request) → Sized t → i < SLOTS → requestAt (putRequest t i r) i ≡ r
@@ -35,14 +44,32 @@ unfolding putRequest requestAt
 request-of-put t i r s h =
     let a : i < length (t .ids) = omega arith in
     let b : i < length (t .lengths) = omega arith in
-    let c : i < length (t .states) = omega arith in
-    rw (getD-set-same (t .ids) i (r .id) 0 a, getD-set-same (t .lengths) i (r .length) 0 b, getD-set-same (t .states) i (r .state) noState c)
+    let c : i < length (t .standings) = omega arith in
+    let m = r .state in
+    rw (
+      getD-set-same (t .ids) i (r .id) 0 a,
+      getD-set-same (t .lengths) i (r .length) 0 b,
+      getD-set-same (t .standings) i (standingOf m) noStanding c,
+      mark-read i (m .keep) (t .keep) h,
+      mark-read i (m .«out_ended») (t .«out_ended») h,
+      mark-read i (m .«err_used») (t .«err_used») h,
+      mark-read i (m .«err_ended») (t .«err_ended») h,
+    )
 
 -- Another slot's request stays.
 pub request-of-other : (t : Table) (i j : ℕ) (r : Request) → (j ≡ i → ⊥) → requestAt (putRequest t i r) j ≡ requestAt t j
 unfolding putRequest requestAt
 request-of-other t i j r h =
-    rw (getD-set-other (t .ids) i j (r .id) 0 h, getD-set-other (t .lengths) i j (r .length) 0 h, getD-set-other (t .states) i j (r .state) noState h)
+    let m = r .state in
+    rw (
+      getD-set-other (t .ids) i j (r .id) 0 h,
+      getD-set-other (t .lengths) i j (r .length) 0 h,
+      getD-set-other (t .standings) i j (standingOf m) noStanding h,
+      mark-other i j (m .keep) (t .keep) h,
+      mark-other i j (m .«out_ended») (t .«out_ended») h,
+      mark-other i j (m .«err_used») (t .«err_used») h,
+      mark-other i j (m .«err_ended») (t .«err_ended») h,
+    )
 
 -- The arrays keep their lengths.
 pub put-sized : (t : Table) (i : ℕ) (r : Request) → Sized t → Sized (putRequest t i r)
@@ -51,7 +78,7 @@ put-sized t i r s =
     record {
       ids = length-set (t .ids) i (r .id) ∙ s .ids;
       lengths = length-set (t .lengths) i (r .length) ∙ s .lengths;
-      states = length-set (t .states) i (r .state) ∙ s .states;
+      standings = length-set (t .standings) i (standingOf (r .state)) ∙ s .standings;
     }
 
 -- No slot is taken or freed by a request that is put.
@@ -92,7 +119,7 @@ taken-of-take-other t i j r h = byTest (ltb i SLOTS) (λ e. simp e (with-other i
 -- The arrays keep their lengths.
 pub take-sized : (t : Table) (i : ℕ) (r : Request) → Sized t → Sized (takeSlot t i r)
 unfolding takeSlot
-take-sized t i r s = let p = put-sized t i r s in record { ids = p .ids; lengths = p .lengths; states = p .states }
+take-sized t i r s = let p = put-sized t i r s in record { ids = p .ids; lengths = p .lengths; standings = p .standings }
 
 -- A slot freed holds no request.
 pub request-of-free : (t : Table) (i : ℕ) → Sized t → i < SLOTS → requestAt (freeSlot t i) i ≡ noRequest
@@ -117,7 +144,7 @@ taken-of-free-other t i j h = byTest (ltb i SLOTS) (λ e. simp e (without-other 
 -- The arrays keep their lengths.
 pub free-sized : (t : Table) (i : ℕ) → Sized t → Sized (freeSlot t i)
 unfolding freeSlot
-free-sized t i s = let p = put-sized t i noRequest s in record { ids = p .ids; lengths = p .lengths; states = p .states }
+free-sized t i s = let p = put-sized t i noRequest s in record { ids = p .ids; lengths = p .lengths; standings = p .standings }
 
 -- ---- areas
 -- An area put back where it came from changes nothing.

@@ -76,7 +76,7 @@ module _ (st : State) (store : List ℕ) (s : Sizes st store) where
   unfolding closes
   closes-keeps n =
       record {
-        table = record { ids = refl; lengths = refl; states = refl };
+        table = record { ids = refl; lengths = refl; standings = refl };
         header = refl;
         body = refl;
         gathered = s .gathered;
@@ -206,7 +206,7 @@ unfolding started
 start-sizes gathered store g f =
     simp (eq-eqb (length store) STORE f)
     (record {
-      table = record { ids = refl; lengths = refl; states = refl };
+      table = record { ids = refl; lengths = refl; standings = refl };
       header = refl;
       body = refl;
       gathered = length-replicate (length gathered) 0 ∙ g;

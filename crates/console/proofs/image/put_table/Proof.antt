@@ -20,38 +20,11 @@ put-count-requires c κs = search needs
 loop-holds : tie.Need-loop-holds Inv-loop μ-loop
 loop-holds c = search needs
 
-mul-put-count : tie.Need-mul-put-count Inv-loop μ-loop
-mul-put-count c = search needs
+request-at-requires : tie.Need-request-at-requires Inv-loop μ-loop
+request-at-requires c κs = search needs
 
-element-copy-out-put-count : tie.Need-element-copy-out-put-count Inv-loop μ-loop
-element-copy-out-put-count c = search needs
-
-cast-put-count-2 : tie.Need-cast-put-count-2 Inv-loop μ-loop
-cast-put-count-2 c = search needs
-
-put-count-requires-2 : tie.Need-put-count-requires-2 Inv-loop μ-loop
-put-count-requires-2 c κs = search needs
-
-mul-put-count-2 : tie.Need-mul-put-count-2 Inv-loop μ-loop
-mul-put-count-2 c = search needs
-
-element-copy-out-put-count-2 : tie.Need-element-copy-out-put-count-2 Inv-loop μ-loop
-element-copy-out-put-count-2 c = search needs
-
-cast-put-count-3 : tie.Need-cast-put-count-3 Inv-loop μ-loop
-cast-put-count-3 c = search needs
-
-put-count-requires-3 : tie.Need-put-count-requires-3 Inv-loop μ-loop
-put-count-requires-3 c κs = search needs
-
-mul-put-request-state : tie.Need-mul-put-request-state Inv-loop μ-loop
-mul-put-request-state c = search needs
-
-element-copy-out-put-request-state : tie.Need-element-copy-out-put-request-state Inv-loop μ-loop
-element-copy-out-put-request-state c = search needs
-
-put-request-state-requires : tie.Need-put-request-state-requires Inv-loop μ-loop
-put-request-state-requires c κs = search needs
+put-request-requires : tie.Need-put-request-requires Inv-loop μ-loop
+put-request-requires c κs = search needs
 
 add-i : tie.Need-add-i Inv-loop μ-loop
 add-i c = search needs
@@ -77,17 +50,8 @@ put-table-spec =
     cast-put-count
     put-count-requires
     loop-holds
-    mul-put-count
-    element-copy-out-put-count
-    cast-put-count-2
-    put-count-requires-2
-    mul-put-count-2
-    element-copy-out-put-count-2
-    cast-put-count-3
-    put-count-requires-3
-    mul-put-request-state
-    element-copy-out-put-request-state
-    put-request-state-requires
+    request-at-requires
+    put-request-requires
     add-i
     loop-less
     loop-again
