@@ -117,6 +117,17 @@ pub enum Output {
     Stderr = 7,
 }
 
+/// How many bytes of a body were shown, against the length that the request's parameters state for it.
+#[derive(Clone, Copy, Debug, PartialEq, Eq)]
+#[repr(u8)]
+pub enum Word {
+    Short = 0,
+    Exact = 1,
+    Over = 2,
+    /// No length is stated.
+    Unstated = 3,
+}
+
 /// Which values a query named.
 #[derive(Clone, Copy, Debug, Default, PartialEq, Eq)]
 pub struct Named {
@@ -145,6 +156,7 @@ pub enum Event {
     End {
         id: u16,
         stream: Stream,
+        word: Word,
     },
     Abort {
         id: u16,

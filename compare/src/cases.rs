@@ -191,9 +191,9 @@ fn ends_feed(answer: &str) -> bool {
 }
 
 /// What the console's commands begin with.
-const COMMANDS: [&str; 17] = [
+const COMMANDS: [&str; 18] = [
     "start", "lend", "step", "next", "feed", "value", "pair", "walk", "say", "end", "owed", "put",
-    "finish", "active", "area", "store", "poke",
+    "finish", "active", "area", "counts", "store", "poke",
 ];
 const EVENTS: [&str; 10] = [
     "open", "ready", "data", "end", "abort", "refuse", "fault", "query", "unknown", "closed",

@@ -102,6 +102,7 @@ impl Console {
                 Err(refusal) => refused(refusal),
             },
             ["area", r] => self.area(id(r)?),
+            ["counts", r] => self.counts(id(r)?),
             ["store"] => self.places(),
             ["poke", ref field @ ..] => {
                 poke::poke(&mut self.connection, &mut self.store, field)?;
@@ -206,6 +207,16 @@ impl Console {
         }
     }
 
+    fn counts(&self, id: u16) -> String {
+        match self.connection.find(id) {
+            None => "none".into(),
+            Some(slot) => {
+                let request = &self.connection.slots[slot];
+                format!("counts {} {}", request.stdin_shown, request.data_shown)
+            }
+        }
+    }
+
     /// How many bytes of the store are not zero, and where the first and the last of them lie.
     fn places(&self) -> String {
         let places = || (0..WHOLE_STORE).filter(|&place| self.store[place] != 0);
@@ -264,8 +275,10 @@ mod tests {
 
     #[test]
     fn a_refused_call_that_changed_something() {
-        let changes: [fn(&mut Connection, &mut [u8]); 4] = [
+        let changes: [fn(&mut Connection, &mut [u8]); 6] = [
             |connection, _| connection.slots[15].err_used = true,
+            |connection, _| connection.slots[15].stdin_shown = 1,
+            |connection, _| connection.slots[0].data_shown = u32::MAX,
             |connection, _| connection.query[511] = 1,
             |connection, _| connection.body[7] = 1,
             |_, store| store[STORE - 1] = 1,

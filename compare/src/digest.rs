@@ -14,7 +14,7 @@ impl<T: Fn(&mut Connection, &mut [u8], &[u8]) -> Result<Step, Refusal>> Call for
 /// The digest has 56 bits.
 const MODULUS: u64 = 1 << 56;
 
-/// A kind, an id, a small number, and a length or a place in one number.
+/// A kind, an id, a small number, and a length, a place or a word in one number.
 fn packed(kind: u8, id: u16, what: u8, n: u16) -> u64 {
     u64::from(kind) + (u64::from(id) << 8) + (u64::from(what) << 24) + (u64::from(n) << 32)
 }
@@ -31,7 +31,7 @@ fn weight(told: &Result<Step, Refusal>) -> u64 {
         Event::Open { id, role, keep } => packed(1, id, role as u8, keep.into()),
         Event::Ready { id, length } => packed(2, id, 0, length),
         Event::Data { id, stream, count } => packed(3, id, stream as u8, count as u16),
-        Event::End { id, stream } => packed(4, id, stream as u8, 0),
+        Event::End { id, stream, word } => packed(4, id, stream as u8, word as u16),
         Event::Abort { id } => packed(5, id, 0, 0),
         Event::Refuse { id, status } => packed(6, id, status as u8, 0),
         Event::Fault { id, fault } => packed(7, id, fault.number(), fault.place().unwrap_or(0)),

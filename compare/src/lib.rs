@@ -17,5 +17,6 @@ pub mod reply;
 pub mod scripts;
 pub mod shape;
 pub mod state;
+pub mod stated;
 pub mod tally;
 pub mod wire;

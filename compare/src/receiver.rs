@@ -3,6 +3,7 @@
 use crate::answer::{Close, Event, Fault, Named, Refusal, Role, Status, Step, Stream};
 use crate::pairs::{malformed_at, repeats_a_name, Pairs};
 use crate::state::{area, Connection, Life, Request, Target, Turn, AREA, BEGIN_BODY, QUERY, STORE};
+use crate::stated::word_for;
 use crate::wire::{kind, Header, HEADER, KEEP_CONN, VERSION};
 
 impl Connection {
@@ -152,8 +153,12 @@ impl Connection {
         Step { used, event }
     }
 
-    fn show(&self, slot: u8, stream: Stream, count: usize) -> Event {
-        let id = self.slots[usize::from(slot)].id;
+    fn show(&mut self, slot: u8, stream: Stream, count: usize) -> Event {
+        let request = &mut self.slots[usize::from(slot)];
+        let id = request.id;
+        let shown = request.shown_mut(stream);
+        // A record has at most 65,535 bytes of content.
+        *shown = shown.saturating_add(count as u32);
         Event::Data { id, stream, count }
     }
 
@@ -213,13 +218,14 @@ impl Connection {
                 Ok(Some(Event::Abort { id: header.id }))
             }
             kind::PARAMS => self.judge_params(slot, header, &store[area(slot)]),
-            kind::STDIN => self.judge_input(slot, header, Stream::Stdin),
-            kind::DATA => self.judge_input(slot, header, Stream::Data),
+            kind::STDIN => self.judge_input(slot, header, Stream::Stdin, &store[area(slot)]),
+            kind::DATA => self.judge_input(slot, header, Stream::Data, &store[area(slot)]),
             _ => Err(Fault::WrongType),
         };
         outcome.unwrap_or_else(|fault| {
             store[area(slot)].fill(0);
             self.slots[slot].length = 0;
+            (self.slots[slot].stdin_shown, self.slots[slot].data_shown) = (0, 0);
             self.slots[slot].life = Life::Faulted;
             Some(Event::Fault {
                 id: header.id,
@@ -269,6 +275,7 @@ impl Connection {
         slot: usize,
         header: Header,
         stream: Stream,
+        area: &[u8],
     ) -> Result<Option<Event>, Fault> {
         let request = &mut self.slots[slot];
         let (turn, target) = match stream {
@@ -286,9 +293,11 @@ impl Connection {
             (Stream::Stdin, Role::Filter) => Turn::Data,
             _ => Turn::Done,
         };
+        let list = &area[..usize::from(request.length)];
         Ok(Some(Event::End {
             id: header.id,
             stream,
+            word: word_for(request.shown(stream), list, stream),
         }))
     }
 

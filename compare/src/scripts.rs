@@ -4,6 +4,7 @@
 //! What the rules leave open is kept away from: bytes of a body past those gathered. A script that pokes how many
 //! bytes are gathered, or makes the content a body's, pokes the bytes, the target and the content with it.
 
+mod bodies;
 mod broken;
 mod calls;
 mod lists;
@@ -76,9 +77,10 @@ pub fn generate(seed: u64, lines: usize) -> Script {
     }
     while draft.script.lines.len() < lines {
         match draft.random.below(100) {
-            0..=24 => draft.traffic(false),
-            25..=44 => draft.traffic(true),
-            45..=57 => draft.any_calls(),
+            0..=19 => draft.traffic(false),
+            20..=31 => draft.bodies(),
+            32..=49 => draft.traffic(true),
+            50..=57 => draft.any_calls(),
             58..=60 => draft.whole_connection(),
             61..=75 => draft.row_nine(),
             76..=89 => draft.poked_state(),

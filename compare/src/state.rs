@@ -1,7 +1,7 @@
 //! The state of a connection. Its fields are open, so that a state that no traffic leads to can be tried too; numbers
 //! that a rule limits are kept in types wider than their limit, so that each limit can be broken.
 
-use crate::answer::{Output, Role};
+use crate::answer::{Output, Role, Stream};
 use crate::wire::HEADER;
 
 pub const SLOTS: usize = 16;
@@ -42,6 +42,9 @@ pub struct Request {
     pub out_ended: bool,
     pub err_used: bool,
     pub err_ended: bool,
+    /// How many bytes of each body were shown. A count that is full stays so.
+    pub stdin_shown: u32,
+    pub data_shown: u32,
 }
 
 impl Request {
@@ -55,6 +58,8 @@ impl Request {
         out_ended: false,
         err_used: false,
         err_ended: false,
+        stdin_shown: 0,
+        data_shown: 0,
     };
 
     pub fn spent(&self) -> bool {
@@ -63,6 +68,21 @@ impl Request {
 
     pub fn params_ended(&self) -> bool {
         self.turn != Turn::Params
+    }
+
+    pub fn shown(&self, stream: Stream) -> u32 {
+        match stream {
+            Stream::Stdin => self.stdin_shown,
+            Stream::Data => self.data_shown,
+        }
+    }
+
+    /// The same to be set: it grows with each data event.
+    pub fn shown_mut(&mut self, stream: Stream) -> &mut u32 {
+        match stream {
+            Stream::Stdin => &mut self.stdin_shown,
+            Stream::Data => &mut self.data_shown,
+        }
     }
 
     pub fn output_ended(&self, output: Output) -> bool {

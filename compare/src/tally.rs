@@ -23,30 +23,21 @@ impl Tally {
         for call in ["step", "next", "feed"] {
             wanted.extend([11, 12, 13].map(|n| format!("{call}: closed {n}")));
             wanted.extend([21, 22, 23, 24, 26].map(|n| format!("{call}: fault {n}")));
+            for word in ["short", "exact", "over", "unstated"] {
+                wanted.extend(["stdin", "data"].map(|s| format!("{call}: end {s} {word}")));
+            }
             wanted.extend(PLACES.map(|place| format!("{call}: closed 14 {place}")));
             wanted.extend(PLACES.map(|place| format!("{call}: fault 25 {place}")));
             wanted.extend((0..8).map(|n| format!("{call}: query {n:03b}")));
             wanted.extend(
                 [
-                    "refuse 2", "refuse 3", "open", "ready", "data", "end", "abort", "unknown",
-                    "used",
+                    "refuse 2", "refuse 3", "open", "ready", "data", "abort", "unknown", "used",
                 ]
                 .map(|event| format!("{call}: {event}")),
             );
         }
         wanted.extend(PLACES.map(|place| format!("walk: malformed {place}")));
-        wanted.extend(
-            [
-                "walk: end",
-                "finish: open",
-                "finish: closed",
-                "store: zeros",
-                "store: store",
-                "what",
-                "long",
-            ]
-            .map(Into::into),
-        );
+        wanted.extend(OTHERS.map(String::from));
         wanted.retain(|kind| !self.0.contains_key(kind));
         wanted
     }
@@ -64,6 +55,24 @@ fn place_kind(place: &str) -> &'static str {
         _ => PLACES[2],
     }
 }
+
+/// Answers of calls that tell no event.
+const OTHERS: [&str; 11] = [
+    "walk: end",
+    "finish: open",
+    "finish: closed",
+    "store: zeros",
+    "store: store",
+    "counts: none",
+    "counts: zeros",
+    "counts: some",
+    "counts: full",
+    "what",
+    "long",
+];
+
+/// A count that stays as it is, whatever else is shown.
+const FULL: &str = "4294967295";
 
 /// The numbers that each call can give.
 const REFUSALS: [(&str, &[u8]); 13] = [
@@ -91,7 +100,9 @@ fn kind(line: &[u8], answer: &str) -> String {
         ["used", _, ref event @ ..] if !event.is_empty() => event_kind(event),
         ["walk", .., "malformed", "at", place] => format!("malformed {}", place_kind(place)),
         ["walk", .., "end", _] => "end".into(),
-        ["store", "0"] => "zeros".into(),
+        ["store", "0"] | ["counts", "0", "0"] => "zeros".into(),
+        ["counts", FULL, _] | ["counts", _, FULL] => "full".into(),
+        ["counts", _, _] => "some".into(),
         ["refused", n, ..] => format!("refused {n}"),
         ["wrote", _, _, end] => end.into(),
         _ => event_kind(&words),
@@ -100,12 +111,13 @@ fn kind(line: &[u8], answer: &str) -> String {
     format!("{}: {what}", String::from_utf8_lossy(call))
 }
 
-/// An event without the id and with the number that says which of its kind it is; of other answers the first word.
+/// An event without the id and with what says which of its kind it is; of other answers the first word.
 fn event_kind(words: &[&str]) -> String {
     match *words {
         [event @ "fault", _, n, "at", place] | [event @ "closed", n, "at", place] => {
             format!("{event} {n} {}", place_kind(place))
         }
+        ["end", _, stream, word] => format!("end {stream} {word}"),
         [event @ ("refuse" | "fault"), _, n] | [event @ ("query" | "closed"), n] => {
             format!("{event} {n}")
         }

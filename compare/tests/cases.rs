@@ -242,7 +242,7 @@ fn what_is_wrong_and_where() {
             "one.txt:3: `opened` is no event",
         ),
         (
-            "case a\nstdin 1\n> used 8\n> end 1 stdin\n",
+            "case a\nstdin 1\n> used 8\n> end 1 stdin unstated\n",
             "one.txt:4: nothing is told after",
         ),
         (

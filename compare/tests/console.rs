@@ -222,7 +222,8 @@ fn feeding_in_pieces_of_any_size() {
             ),
             (
                 &format!("feed {size} {data}"),
-                "data 1 stdin 616263; data 2 stdin 64; end 2 stdin; data 2 data 6566; data 1 stdin 6a; used 58",
+                "data 1 stdin 616263; data 2 stdin 64; end 2 stdin unstated; data 2 data 6566; \
+                 data 1 stdin 6a; used 58",
             ),
             ("active", "active 2"),
             // Inside a record, and on.
@@ -339,4 +340,44 @@ fn the_longest_names_and_values() {
         answers(&[&put(65_530, 1, 65_536)]),
         [format!("wrote 65536 8000fffa01{}76", "6e".repeat(65_530))]
     );
+}
+
+#[test]
+fn counts_of_what_was_shown() {
+    check(&[
+        ("counts 1", "none"),
+        ("start", "open"),
+        (
+            &format!("feed 9 {TWO_READY}"),
+            "open 1 responder keep; ready 1 0; open 2 filter keep; ready 2 0; used 48",
+        ),
+        ("counts 1", "counts 0 0"),
+        ("next 0105000200030000616263", "used 11 data 2 stdin 616263"),
+        ("counts 2", "counts 3 0"),
+        ("counts 1", "counts 0 0"),
+        ("counts 0", "none"),
+        ("poke shown 1 data 4294967295", "ok"),
+        ("poke shown 1 stdin 00000000000000000004", "ok"),
+        ("counts 2", "counts 4 4294967295"),
+        ("counts 02", "counts 4 4294967295"),
+        // Whatever is lent, and whatever the state is.
+        (&lend(0), "ok"),
+        ("poke open 0", "ok"),
+        ("poke held 8", "ok"),
+        ("counts 2", "counts 4 4294967295"),
+        // The first of two slots.
+        ("poke id 0 2", "ok"),
+        ("counts 2", "counts 0 0"),
+        ("poke occupied 2", "ok"),
+        ("counts 2", "counts 4 4294967295"),
+        ("counts", "what"),
+        ("counts 2 ", "what"),
+        ("counts 65536", "what"),
+        ("poke shown 1 data 4294967296", "what"),
+        ("poke shown 16 data 1", "what"),
+        ("poke shown 1 params 1", "what"),
+        ("poke shown 1 1", "what"),
+        ("poke shown 1 data 1 1", "what"),
+        ("counts 2", "counts 4 4294967295"),
+    ]);
 }

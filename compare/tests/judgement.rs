@@ -3,7 +3,7 @@
 mod common;
 
 use common::{fault, padded, record, role, told, Station, Told, DROP, KEEP, PORT};
-use compare::answer::{Close, Event, Fault, Named, Refusal, Role, Status, Stream};
+use compare::answer::{Close, Event, Fault, Named, Refusal, Role, Status, Stream, Word};
 use compare::state::{Life, Turn, AREA, STORE};
 use compare::wire::kind::*;
 
@@ -125,7 +125,14 @@ fn abort_before_the_parameters_ended_keeps_the_turn() {
 
 #[test]
 fn turns_of_the_roles() {
-    let end = |stream| told(Event::End { id: 1, stream });
+    let word = Word::Unstated;
+    let end = |stream| {
+        told(Event::End {
+            id: 1,
+            stream,
+            word,
+        })
+    };
     for (number, streams) in [(1, "i"), (2, ""), (3, "id")] {
         let mut station = Station::ready(1, role(number, 1));
         if streams.contains('i') {
@@ -311,6 +318,7 @@ fn the_greatest_record() {
     let end = Event::End {
         id: 1,
         stream: Stream::Stdin,
+        word: Word::Unstated,
     };
     assert_eq!(station.send(STDIN, 1, &[]), told(end));
 }

@@ -3,7 +3,7 @@
 mod common;
 
 use common::{Station, DROP, KEEP, PORT};
-use compare::answer::{Event, Output, Refusal, Source, Stream};
+use compare::answer::{Event, Output, Refusal, Source, Stream, Word};
 use compare::state::{Connection, STORE};
 use compare::wire::kind::*;
 
@@ -77,10 +77,16 @@ fn the_first_match_in_a_damaged_list() {
         (&b"A"[..], &b"3"[..])
     );
     assert_eq!(connection.walk(store, 1).unwrap().count(), 3);
-    // The next records do not look at the list again.
+    // Of the list, the end of a body looks at the length alone.
     let end = connection.step(store, &[1, 5, 0, 1, 0, 0, 0, 0]).unwrap();
     let stream = Stream::Stdin;
-    assert_eq!(end.event, Some(Event::End { id: 1, stream }));
+    let word = Word::Unstated;
+    let wanted = Event::End {
+        id: 1,
+        stream,
+        word,
+    };
+    assert_eq!(end.event, Some(wanted));
 }
 
 #[test]

@@ -17,7 +17,7 @@ fn worked_case() {
     capture.extend(b"\x01\x05\x00\x01\x00\x01\x00\x00-\x01\x05\x00\x01\x00\x02\x00\x0018");
     capture.extend([1, 5, 0, 1, 0, 0, 0, 0]);
     let wanted = "open 1 responder keep\nready 1 15\nbyte 1 stdin 2d\nbyte 1 stdin 31\n\
-                  byte 1 stdin 38\nend 1 stdin\nstop open\n";
+                  byte 1 stdin 38\nend 1 stdin unstated\nstop open\n";
     for size in 1..capture.len() + 1 {
         assert_eq!(replay(&capture, size), wanted);
     }
@@ -55,8 +55,8 @@ fn three_requests_side_by_side() {
         "ready 8 119",
         "ready 7 119",
         "abort 300",
-        "end 8 stdin",
-        "end 7 stdin",
+        "end 8 stdin unstated",
+        "end 7 stdin unstated",
         "stop open",
     ];
     assert_eq!(others, wanted);
@@ -78,6 +78,26 @@ fn captures_that_repeat_a_name() {
     let wanted = "ready 1 373, fault 3 26, ready 5 425, ready 7 425";
     assert_eq!(told("haproxy-mpxs"), wanted);
     assert_eq!(told("lighttpd-headers"), "ready 1 4041");
+}
+
+/// What the ends of bodies in a capture say.
+fn ends(name: &str) -> Vec<String> {
+    let file = format!("samples/captures/{name}.bin");
+    let lines = replay(&fs::read(repository().join(file)).unwrap(), 1_000);
+    let ends = lines.lines().filter(|line| line.starts_with("end"));
+    ends.map(String::from).collect()
+}
+
+/// A web server states the length of what it sends; of a request without a body, as 0, as an empty value or not at all.
+#[test]
+fn captures_with_bodies() {
+    let names = ["nginx-post-small", "caddy-get", "nginx-get", "h2o-get"];
+    let words = ["exact", "exact", "unstated", "unstated"];
+    for (name, word) in names.into_iter().zip(words) {
+        assert_eq!(ends(name), [format!("end 1 stdin {word}")], "{name}");
+    }
+    let wanted = [1, 7, 5].map(|id| format!("end {id} stdin exact"));
+    assert_eq!(ends("haproxy-mpxs"), wanted);
 }
 
 #[test]

@@ -1,7 +1,7 @@
 //! Fields of the state, and bytes of the store, set to anything that their types can hold.
 
 use super::words::{bytes, flag, id, number};
-use crate::answer::Role;
+use crate::answer::{Role, Stream};
 use crate::state::{Connection, Life, Request, Target, Turn, SLOTS, STORE};
 
 /// Sets what the words behind `poke` name; none where they are no field or no value of it.
@@ -23,13 +23,26 @@ pub fn poke(connection: &mut Connection, store: &mut [u8], words: &[&str]) -> Op
             let place = number(place, STORE as u64 - 1)? as usize;
             store[place] = number(value, 255)? as u8;
         }
+        ["shown", slot, stream, value] => {
+            let stream = match stream {
+                "stdin" => Stream::Stdin,
+                "data" => Stream::Data,
+                _ => return None,
+            };
+            let count = number(value, u32::MAX.into())? as u32;
+            *connection.slots[slot_number(slot)?].shown_mut(stream) = count;
+        }
         [field, slot, value] => {
-            let slot = number(slot, SLOTS as u64 - 1)? as usize;
+            let slot = slot_number(slot)?;
             poke_request(&mut connection.slots[slot], field, value)?;
         }
         _ => return None,
     }
     Some(())
+}
+
+fn slot_number(word: &str) -> Option<usize> {
+    number(word, SLOTS as u64 - 1).map(|n| n as usize)
 }
 
 fn poke_request(request: &mut Request, field: &str, value: &str) -> Option<()> {

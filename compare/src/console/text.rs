@@ -1,7 +1,7 @@
 //! The line of an event, as the replay prints it; data with all its bytes at once.
 
 use super::words::hex;
-use crate::answer::{Event, Role, Stream};
+use crate::answer::{Event, Role, Stream, Word};
 
 /// The bytes are those that the call used.
 pub fn event_text(event: &Event, used: &[u8]) -> String {
@@ -19,7 +19,9 @@ pub fn event_text(event: &Event, used: &[u8]) -> String {
             let bytes = hex(content_of(used, count));
             format!("data {id} {} {bytes}", stream_text(stream))
         }
-        Event::End { id, stream } => format!("end {id} {}", stream_text(stream)),
+        Event::End { id, stream, word } => {
+            format!("end {id} {} {}", stream_text(stream), word_text(word))
+        }
         Event::Abort { id } => format!("abort {id}"),
         Event::Refuse { id, status } => format!("refuse {id} {}", status as u8),
         Event::Fault { id, fault } => {
@@ -50,5 +52,14 @@ pub fn stream_text(stream: Stream) -> &'static str {
     match stream {
         Stream::Stdin => "stdin",
         Stream::Data => "data",
+    }
+}
+
+fn word_text(word: Word) -> &'static str {
+    match word {
+        Word::Short => "short",
+        Word::Exact => "exact",
+        Word::Over => "over",
+        Word::Unstated => "unstated",
     }
 }

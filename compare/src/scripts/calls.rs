@@ -47,8 +47,11 @@ impl Draft {
             83..=89 => {
                 self.line("active");
             }
-            90..=95 => {
+            90..=93 => {
                 self.line(format!("area {id}"));
+            }
+            94 | 95 => {
+                self.line(format!("counts {id}"));
             }
             96 => {
                 let line = self.random.pick(&["step -", "next -", "feed 8 -"]);
@@ -69,6 +72,7 @@ impl Draft {
         self.value(id);
         self.pair(id);
         self.line(format!("walk {id}"));
+        self.line(format!("counts {id}"));
         self.say(id);
         self.end(id);
         self.finish(id);

@@ -1,12 +1,13 @@
 //! Lists of pairs: well formed, with a name that comes twice, or malformed.
 
+use super::bodies::stating;
 use super::broken::broken_list;
 use crate::pairs::{pair_length, write_pair};
 use crate::random::Random;
 use crate::state::AREA;
 
 /// A name and its value.
-type Named = (Vec<u8>, Vec<u8>);
+pub type Named = (Vec<u8>, Vec<u8>);
 
 pub fn append_pair(list: &mut Vec<u8>, name: &[u8], value: &[u8]) {
     let mut buffer = vec![0; pair_length(name, value)];
@@ -70,6 +71,10 @@ fn distinct(random: &mut Random) -> Vec<Named> {
         if pairs.iter().all(|(other, _)| *other != name) {
             pairs.push((name, any_value(random)));
         }
+    }
+    if random.one_in(2) {
+        let at = random.within(0, pairs.len());
+        pairs.splice(at..at, stating(random));
     }
     pairs
 }

@@ -5,7 +5,7 @@ use crate::console::{LONGEST_LINE, WHOLE_STORE};
 use crate::state::STORE;
 
 /// Whole lines: what is almost a command, and commands at the limits of their numbers.
-const LINES: [&str; 92] = [
+const LINES: [&str; 97] = [
     "",
     " ",
     "-",
@@ -92,6 +92,11 @@ const LINES: [&str; 92] = [
     "area",
     "area 65536",
     "area -",
+    "counts",
+    "counts 65536",
+    "counts 1 2",
+    "counts -",
+    "count 1",
     "store 0",
     "poke",
     "poke ",
@@ -101,7 +106,7 @@ const LINES: [&str; 92] = [
 ];
 
 /// What stands behind `poke`, refused for one reason each.
-const POKES: [&str; 46] = [
+const POKES: [&str; 54] = [
     "open",
     "open 2",
     "open 0 0",
@@ -128,6 +133,14 @@ const POKES: [&str; 46] = [
     "err_used 16 0",
     "err_ended 0",
     "out-ended 0 1",
+    "shown 0 stdin",
+    "shown 0 stdin 4294967296",
+    "shown 0 data 18446744073709551615",
+    "shown 16 data 0",
+    "shown 0 params 0",
+    "shown 0 stdout 0",
+    "shown 0 data -",
+    "shown 0 0",
     "held -",
     "held 18446744073709551616",
     "header",

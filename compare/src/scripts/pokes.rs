@@ -50,6 +50,9 @@ impl Draft {
             let field = self.random.pick(&["out_ended", "err_used", "err_ended"]);
             self.line(format!("poke {field} {slot} 1"));
         }
+        if self.random.one_in(6) {
+            self.poke_shown(slot);
+        }
         if self.random.one_in(4) {
             let list = self.small_list();
             self.line(format!("poke length {slot} {}", list.len()));
@@ -115,6 +118,14 @@ impl Draft {
         poke("out_ended", number(is.out_ended), number(was.out_ended));
         poke("err_used", number(is.err_used), number(was.err_used));
         poke("err_ended", number(is.err_ended), number(was.err_ended));
+        for (stream, is, was) in [
+            ("stdin", is.stdin_shown, was.stdin_shown),
+            ("data", is.data_shown, was.data_shown),
+        ] {
+            if is != was {
+                self.line(format!("poke shown {slot} {stream} {was}"));
+            }
+        }
     }
 
     pub(super) fn poked_state(&mut self) {
@@ -186,7 +197,7 @@ impl Draft {
     /// A slot's field, the reader's counts, or the target with all that belongs to it.
     fn poke_any(&mut self) {
         let slot = self.random.index(SLOTS);
-        match self.random.below(28) {
+        match self.random.below(30) {
             0 => {
                 let open = self.random.index(2);
                 self.line(format!("poke open {open}"));
@@ -228,6 +239,8 @@ impl Draft {
             15..=17 => self.poke_begin(),
             18..=20 => self.poke_query(),
             21 | 22 => self.poke_live(),
+            23 => self.poke_shown(slot),
+            24 => self.poke_stated(slot),
             _ => self.poke_due(slot),
         }
     }

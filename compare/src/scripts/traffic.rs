@@ -3,6 +3,7 @@
 use super::lists::any_list;
 use super::records::{begin_body, query, record};
 use super::{stream, Draft};
+use crate::answer::Stream;
 use crate::console::words::hex;
 use crate::state::{Life, Turn, AREA};
 use crate::wire::kind;
@@ -129,8 +130,8 @@ impl Draft {
         }
         match request.turn {
             Turn::Params => self.next_params(id),
-            Turn::Stdin => self.next_input(id, kind::STDIN),
-            Turn::Data => self.next_input(id, kind::DATA),
+            Turn::Stdin => self.next_input(id, Stream::Stdin),
+            Turn::Data => self.next_input(id, Stream::Data),
             Turn::Done if self.random.one_in(8) => self.any_record(id),
             Turn::Done if self.random.one_in(6) => {
                 // An end that comes twice, or that this role has not.
@@ -154,14 +155,15 @@ impl Draft {
         bytes
     }
 
-    fn next_input(&mut self, id: u16, kind: u8) -> Vec<u8> {
+    fn next_input(&mut self, id: u16, stream: Stream) -> Vec<u8> {
         let n = match self.random.below(30) {
             0..=9 => 0,
             10 => self.random.within(100, 700),
+            11..=20 => self.aimed(id, stream),
             _ => self.random.within(1, 24),
         };
         let content = self.random.bytes(n);
-        record(&mut self.random, kind, id, &content)
+        record(&mut self.random, stream as u8, id, &content)
     }
 
     /// Any type, any content.
@@ -243,17 +245,19 @@ impl Draft {
         record(&mut self.random, kind::PARAMS, id, &content)
     }
 
-    /// What no traffic can bring about: a malformed pair or a name that comes twice after PARAMS has ended, a spent
-    /// request that is live.
+    /// What no traffic can bring about: a malformed pair or a name that comes twice after PARAMS has ended, a stated
+    /// length that is another, a count that is almost full, a spent request that is live.
     fn change_some(&mut self) {
         if self.random.one_in(2) && self.poke_broken() {
             return;
         }
         let id = self.some_id();
-        match self.console.connection.find(id) {
-            Some(slot) if self.random.one_in(2) => {
+        match (self.console.connection.find(id), self.random.below(6)) {
+            (Some(slot), 0 | 1) => {
                 self.poke_name_twice(slot);
             }
+            (Some(slot), 2) => self.poke_stated(slot),
+            (Some(slot), 3) => self.poke_shown(slot),
             _ => self.poke_live(),
         }
     }
@@ -266,6 +270,7 @@ impl Draft {
         let id = self.random.pick(&active);
         if self.random.one_in(2) {
             self.line(format!("area {id}"));
+            self.line(format!("counts {id}"));
         }
         let status = self.random.pick(&[0, 1, 938, 4_294_967_295u32]);
         self.line(format!("finish {id} {status} 64"));

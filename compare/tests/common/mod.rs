@@ -1,7 +1,8 @@
 //! A connection with its store, fed with records.
 #![allow(dead_code)]
 
-use compare::answer::{Event, Refusal, Step, Stream};
+use compare::answer::{Event, Refusal, Step, Stream, Word};
+use compare::pairs::{pair_length, write_pair};
 use compare::state::{area, Connection, STORE};
 use compare::wire::{kind, record_with};
 
@@ -106,4 +107,41 @@ pub fn told(event: Event) -> Vec<Told> {
 
 pub fn fault(id: u16, fault: compare::answer::Fault) -> Vec<Told> {
     told(Event::Fault { id, fault })
+}
+
+/// The pairs of these names and values.
+pub fn list_of(pairs: &[(&str, &str)]) -> Vec<u8> {
+    let mut list = Vec::new();
+    for (name, value) in pairs {
+        let (name, value) = (name.as_bytes(), value.as_bytes());
+        let mut pair = vec![0; pair_length(name, value)];
+        write_pair(&mut pair, name, value).unwrap();
+        list.extend(pair);
+    }
+    list
+}
+
+/// A filter that is past its parameters, in slot 0.
+pub fn filter(pairs: &[(&str, &str)]) -> Station {
+    let mut station = Station::new();
+    station.open(1, role(3, 1));
+    let list = list_of(pairs);
+    if !list.is_empty() {
+        station.send(kind::PARAMS, 1, &list);
+    }
+    let length = list.len() as u16;
+    let ready = told(Event::Ready { id: 1, length });
+    assert_eq!(station.send(kind::PARAMS, 1, &[]), ready);
+    station
+}
+
+pub fn end(id: u16, stream: Stream, word: Word) -> Vec<Told> {
+    told(Event::End { id, stream, word })
+}
+
+/// How many bytes of STDIN and of DATA were shown.
+pub fn counts(station: &Station, id: u16) -> (u32, u32) {
+    let slot = station.connection.find(id).unwrap();
+    let request = station.connection.slots[slot];
+    (request.stdin_shown, request.data_shown)
 }

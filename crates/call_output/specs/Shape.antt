@@ -1,6 +1,6 @@
 -- What say and the end of a stream leave of the state: everything but the state of the request's output.
 use Prim.Native.Nat.{ℕ}
-use mathlib.Core.Path.{_≡_, refl, ap}
+use mathlib.Core.Path.{_≡_, refl, ap, ap₂}
 use mathlib.Core.List.{List}
 use lib.ListN.{length, getD}
 use lib.Seq.{set-getD}
@@ -28,17 +28,18 @@ pub record SameRequest (r r′ : Request) : Type 0 where
   pub turn : r′ .state .turn ≡ r .state .turn
   pub life : r′ .state .life ≡ r .state .life
   pub keep : r′ .state .keep ≡ r .state .keep
+  pub shown : r′ .state .shown ≡ r .state .shown
 
 same : (r : Request) → SameRequest r r
-same r = record { id = refl; length = refl; role = refl; turn = refl; life = refl; keep = refl }
+same r = record { id = refl; length = refl; role = refl; turn = refl; life = refl; keep = refl; shown = refl }
 
 same-said : (output : Output) (bytes : List ℕ) (r : Request) → SameRequest r (saidOn r output bytes)
 unfolding saidOn
-same-said output bytes r = record { id = refl; length = refl; role = refl; turn = refl; life = refl; keep = refl }
+same-said output bytes r = record { id = refl; length = refl; role = refl; turn = refl; life = refl; keep = refl; shown = refl }
 
 same-ended : (output : Output) (r : Request) → SameRequest r (endedOn r output)
 unfolding endedOn
-same-ended output r = record { id = refl; length = refl; role = refl; turn = refl; life = refl; keep = refl }
+same-ended output r = record { id = refl; length = refl; role = refl; turn = refl; life = refl; keep = refl; shown = refl }
 
 -- ---- such a request put back
 module _ (t : Table) (i : ℕ) (r : Request) (stays : SameRequest (requestAt t i) r) where
@@ -65,6 +66,14 @@ module _ (t : Table) (i : ℕ) (r : Request) (stays : SameRequest (requestAt t i
   unfolding putRequest requestAt
   keep-stays = rw (stays .keep, mark-same i (t .keep))
 
+  stdin-stays : putRequest t i r .«stdin_shown» ≡ t .«stdin_shown»
+  unfolding putRequest requestAt
+  stdin-stays = rw (stays .shown, set-getD (t .«stdin_shown») i 0)
+
+  data-stays : putRequest t i r .«data_shown» ≡ t .«data_shown»
+  unfolding putRequest requestAt
+  data-stays = rw (stays .shown, set-getD (t .«data_shown») i 0)
+
   own-slot : SameRequest (requestAt t i) (requestAt (putRequest t i r) i)
   unfolding requestAt
   own-slot =
@@ -75,6 +84,7 @@ module _ (t : Table) (i : ℕ) (r : Request) (stays : SameRequest (requestAt t i
         turn = ap (λ (l : List Standing). getD l i noStanding .turn) standings-stay;
         life = ap (λ (l : List Standing). getD l i noStanding .life) standings-stay;
         keep = ap (taken i) keep-stays;
+        shown = ap₂ (λ (a b : List ℕ). record { stdin = getD a i 0; «data» = getD b i 0 }) stdin-stays data-stays;
       }
 
 puts-shape : (c : Conn) (i : ℕ) (r : Request) → SameRequest (requestAt (c .table) i) r → inShape (putsRequest c i r) ≡ inShape c

@@ -109,7 +109,11 @@ pub fn owed_reply(e: Event, out: &mut [u8]) -> Wrote
             stream: _,
             count: _,
         } => Wrote::Bytes(0),
-        Event::End { id: _, stream: _ } => Wrote::Bytes(0),
+        Event::End {
+            id: _,
+            stream: _,
+            measure: _,
+        } => Wrote::Bytes(0),
         Event::Abort { id: _ } => Wrote::Bytes(0),
         Event::Fault { id: _, fault: _ } => Wrote::Bytes(0),
         Event::Closed { cause: _ } => Wrote::Bytes(0),

@@ -32,7 +32,7 @@ isData Event.None = false
 isData (Event.Open id role keep) = false
 isData (Event.Ready id n) = false
 isData (Event.Data id stream n) = true
-isData (Event.End id stream) = false
+isData (Event.End id stream measure) = false
 isData (Event.Abort id) = false
 isData (Event.Refuse id n) = false
 isData (Event.Fault id cause) = false
@@ -43,7 +43,7 @@ isData (Event.Closed cause) = false
 -- ---- what tells no data: headers, BEGIN bodies and queries
 header-no-data : (kind n : ℕ) (h : Held) → isData (onHeader kind n h .event) ≡ false
 unfolding faulted aborted turned
-header-no-data kind n h = by-rule (λ (r : Ruled). isData (r .event) ≡ false) h (λ d. refl) (λ cause f. refl) refl (λ t. refl) (λ t s. refl) kind n
+header-no-data kind n h = by-rule (λ (r : Ruled). isData (r .event) ≡ false) h (λ d. refl) (λ cause f. refl) refl (λ t. refl) (λ t s m. refl) kind n
 
 module _ (st : State) (store : List ℕ) where
   queried-no-data : (list : List ℕ) (f : Frame) → isData (queried st store list f .event) ≡ false

@@ -41,7 +41,7 @@ none-is Event.None h = refl
 none-is (Event.Open id role keep) h = let z : _≡_ {A = ℕ} 0 1 = cc in absurd (omega arith)
 none-is (Event.Ready id n) h = let z : _≡_ {A = ℕ} 0 1 = cc in absurd (omega arith)
 none-is (Event.Data id stream n) h = let z : _≡_ {A = ℕ} 0 1 = cc in absurd (omega arith)
-none-is (Event.End id stream) h = let z : _≡_ {A = ℕ} 0 1 = cc in absurd (omega arith)
+none-is (Event.End id stream measure) h = let z : _≡_ {A = ℕ} 0 1 = cc in absurd (omega arith)
 none-is (Event.Abort id) h = let z : _≡_ {A = ℕ} 0 1 = cc in absurd (omega arith)
 none-is (Event.Refuse id n) h = let z : _≡_ {A = ℕ} 0 1 = cc in absurd (omega arith)
 none-is (Event.Fault id cause) h = let z : _≡_ {A = ℕ} 0 1 = cc in absurd (omega arith)
@@ -239,7 +239,7 @@ count-used st store piece = of (stepped st store piece .event) refl
     of (Event.Open id role keep) q = omega arith
     of (Event.Ready id n) q = omega arith
     of (Event.Data id stream n) q = omega (arith, data-used st store piece id stream n q)
-    of (Event.End id stream) q = omega arith
+    of (Event.End id stream measure) q = omega arith
     of (Event.Abort id) q = omega arith
     of (Event.Refuse id n) q = omega arith
     of (Event.Fault id cause) q = omega arith
@@ -274,7 +274,7 @@ shows st store piece = of (stepped st store piece .event) refl
         let u = data-used st store piece id stream n q in
         let z : stepped st store piece .used - n ≡ 0 = omega (arith, u) in
         ap (λ (k : ℕ). showing id stream (take n (take k piece))) u ∙ sym (ap (λ (k : ℕ). showing id stream (take n (take n (drop k piece)))) z)
-    of (Event.End id stream) q = refl
+    of (Event.End id stream measure) q = refl
     of (Event.Abort id) q = refl
     of (Event.Refuse id n) q = refl
     of (Event.Fault id cause) q = refl

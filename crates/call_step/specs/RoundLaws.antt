@@ -17,7 +17,7 @@ use Rattle.connection.specs.declared.state.Frame.{Frame}
 use Rattle.connection.specs.declared.state.Conn.{Conn}
 use Rattle.connection.specs.Sizes.{SLOTS}
 use Rattle.connection.specs.Decision.{openState}
-use Rattle.conn_quick.specs.Quick.{isStream, isShown, slotOf, shownEvent}
+use Rattle.conn_quick.specs.Quick.{isShown, slotOf}
 use Rattle.conn_quick.specs.Laws.{content-shown}
 use Rattle.connection.specs.Shape.{inShape}
 use Rattle.connection.specs.declared.answer.Refusal.{Refusal}
@@ -29,7 +29,8 @@ use Rattle.connection.specs.declared.answer.Stepped.{Stepped as Answer}
 use Rattle.connection.specs.Laws.ShapeLaws.{Aimed, shaped, in-shape}
 use Rattle.connection.specs.Codes.{eventOf, refusalNumber}
 use Rattle.conn_quick.specs.declared.Passed.{Passed}
-use Rattle.conn_quick.specs.Passes.{passes, Passes}
+use Rattle.conn_quick.specs.declared.Showing.{Showing}
+use Rattle.conn_quick.specs.Passes.{countedAt, shows, Passes}
 use Rattle.conn_step.specs.Answer.{toldNumber, toldEvent, steppedBy}
 use Rattle.call_step.specs.NextLaws.{goes-on, next-step, stays-open}
 
@@ -165,12 +166,13 @@ abbrev pub connOf : Table → Frame → Bool → Conn
 connOf t f is-open = record { table = t; frame = f; «open» = is-open }
 
 -- a quick way of an open connection
-passed-step : (t : Table) (f : Frame) (is-open : Bool) (g store rest : List ℕ) (r : Passed) → is-open ≡ true → passes r t g store ≡ advances (openState t f g) store rest (advanced (f .position) rest)
-    → record { refusal = 0; used = r .used; event = eventOf (r .event); state = stateOf (connOf t (r .frame) is-open) g; store = store }
+opened-step : (t t′ : Table) (f f′ : Frame) (is-open : Bool) (g store rest : List ℕ) (used : ℕ) (event : Event) → is-open ≡ true
+    → record { refusal = 0; used = used; event = event; state = openState t′ f′ g; store = store } ≡ advances (openState t f g) store rest (advanced (f .position) rest)
+    → record { refusal = 0; used = used; event = event; state = stateOf (connOf t′ f′ is-open) g; store = store }
     ≡ advances (stateOf (connOf t f is-open) g) store rest (advanced (f .position) rest)
-passed-step t f is-open g store rest r is same =
+opened-step t t′ f f′ is-open g store rest used event is same =
     subst
-    (λ (b : Bool). record { refusal = 0; used = r .used; event = eventOf (r .event); state = stateOf (connOf t (r .frame) b) g; store = store }
+    (λ (b : Bool). record { refusal = 0; used = used; event = event; state = stateOf (connOf t′ f′ b) g; store = store }
     ≡ advances (stateOf (connOf t f b) g) store rest (advanced (f .position) rest))
     (sym is) same
 
@@ -186,7 +188,7 @@ quick-took used t f is-open g store piece r due p es eg et ef eo er eu =
       record {
         count = r .used;
         sum = eu;
-        step = passed-step t f is-open g store rest r (due .fits .is-open) (p .same g store);
+        step = opened-step t t f (r .frame) is-open g store rest (r .used) (eventOf (r .event)) (due .fits .is-open) (p .same g store);
       },
       record { shape = in-shape (connOf t (r .frame) is-open) (record { table = before .table; position = p .position; target = p .target }); size = refl },
     )
@@ -202,12 +204,14 @@ step-took used t f is-open g store piece r g₁ store₁ same shape size es eg e
 
 -- ---- content that is shown
 -- A step that shows content was taken.
-pub shown-took : (used : ℕ) (t : Table) (f : Frame) (is-open : Bool) (g store piece : List ℕ) (r : Passed) → Due (connOf t f is-open) store used (length piece)
-    → (let rest = take (length piece - used) (drop used piece) in passes r t g store ≡ advances (openState t f g) store rest (advanced (f .position) rest))
-    → Took used (stateOf (connOf t f is-open) g) store piece 0 (eventOf (r .event)) (used + r .used) (stateOf (connOf t (r .frame) is-open) g) store
+pub shown-took : (used : ℕ) (t : Table) (f : Frame) (is-open : Bool) (g store piece : List ℕ) (r : Showing) → Due (connOf t f is-open) store used (length piece)
+    → (let rest = take (length piece - used) (drop used piece) in shows r t g store ≡ advances (openState t f g) store rest (advanced (f .position) rest))
+    → Took used (stateOf (connOf t f is-open) g) store piece 0 (eventOf (r .event)) (used + r .used)
+    (stateOf (connOf (countedAt t (r .slot) (r .due) (r .used)) (r .frame) is-open) g) store
 shown-took used t f is-open g store piece r due same =
     let rest = take (length piece - used) (drop used piece) in
-    record { count = r .used; sum = refl; step = passed-step t f is-open g store rest r (due .fits .is-open) same }
+    let after = countedAt t (r .slot) (r .due) (r .used) in
+    record { count = r .used; sum = refl; step = opened-step t after f (r .frame) is-open g store rest (r .used) (eventOf (r .event)) (due .fits .is-open) same }
 
 -- its slot is one of them
 pub slot-low : (target : Target) (t : Table) (gathered left : ℕ) → Aimed target t gathered left → slotOf target < SLOTS
@@ -218,33 +222,9 @@ slot-low (Target.Params i) t gathered left a = omega arith
 slot-low (Target.Stdin i) t gathered left a = a .low
 slot-low (Target.Data i) t gathered left a = a .low
 
-shown-some : (target : Target) (ids : List ℕ) (n : ℕ) → isStream target ≡ true → isNone (shownEvent target ids n) ≡ false
-shown-some Target.Skip ids n h = let z : _≡_ {A = ℕ} 0 1 = cc in absurd (omega arith)
-shown-some (Target.Begin id) ids n h = let z : _≡_ {A = ℕ} 0 1 = cc in absurd (omega arith)
-shown-some Target.Query ids n h = let z : _≡_ {A = ℕ} 0 1 = cc in absurd (omega arith)
-shown-some (Target.Params i) ids n h = let z : _≡_ {A = ℕ} 0 1 = cc in absurd (omega arith)
-shown-some (Target.Stdin i) ids n h = refl
-shown-some (Target.Data i) ids n h = refl
-
 -- A step that shows content tells it, so no other is due.
 pub shown-last : (on : Bool) (t : Table) (f : Frame) (g store piece : List ℕ) (event : Event) (used n : ℕ) → isShown (f .position .content) (f .target) ≡ true
     → advances (openState t f g) store piece (advanced (f .position) piece) .event ≡ event → isDue on 0 event used n ≡ false
 shown-last on t f g store piece event used n shown e =
-    let u = advanced (f .position) piece .used in
-    let is : shownEvent (f .target) (t .ids) u ≡ event = ap (λ (s : Stepped). s .event) (content-shown t f g store piece shown) ∙ e in
-    let told : isNone event ≡ false = ap isNone (sym is) ∙ shown-some (f .target) (t .ids) u (and-stream (f .position .content) (f .target) shown) in
+    let told : isNone event ≡ false = ap isNone (sym (ap (λ (s : Stepped). s .event) (content-shown t f g store piece shown) ∙ e)) in
     ap (λ (b : Bool). if on then (if b then used <? n else false) else false) told ∙ either-false on
-  where
-    and-stream : (left : ℕ) (target : Target) → isShown left target ≡ true → isStream target ≡ true
-    and-stream left target h = byTest (ltb 0 left) (λ l. simp l at h) (λ l. let z : _≡_ {A = ℕ} 0 1 = cc (simp l at h) in absurd (omega arith))
-
--- A call that begins with it is that step.
-pub shown-first : (on : Bool) (t : Table) (f : Frame) (is-open : Bool) (g store piece : List ℕ) (r : Passed) → Due (connOf t f is-open) store 0 (length piece)
-    → isShown (f .position .content) (f .target) ≡ true → passes r t g store ≡ advances (openState t f g) store piece (advanced (f .position) piece)
-    → record { refusal = 0; used = r .used; event = eventOf (r .event); state = stateOf (connOf t (r .frame) is-open) g; store = store } ≡ stepsBy on (stateOf (connOf t f is-open) g) store piece
-shown-first on t f is-open g store piece r due shown same =
-    let st = stateOf (connOf t f is-open) g in
-    let step = passed-step t f is-open g store piece r (due .fits .is-open) same ∙ sym (step-advances st store piece (fits-admitted (connOf t f is-open) store (due .fits)) (due .left)) in
-    let none = shown-last on t f g store piece (eventOf (r .event)) (r .used) (length piece) shown (ap (λ (s : Stepped). s .event) (sym same)) in
-    let to : Bool → Stepped = λ d. reached on d 0 (eventOf (r .event)) (r .used) (stateOf (connOf t (r .frame) is-open) g) store piece in
-    sym (steps-first on st store piece step ∙ ap to none)

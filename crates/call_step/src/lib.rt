@@ -8,9 +8,11 @@ use connection::answer::Refusal;
 use connection::answer::StepResult;
 use connection::answer::Stepped;
 use connection::event::Event;
+use connection::request::Shown;
 use connection::sizes::QUERY;
 use connection::sizes::STORE;
 use connection::state::Conn;
+use request_state::show_more;
 ghost use mathlib.Core.Path.{_≡_};
 ghost use mathlib.Core.Bool.{true, false};
 ghost use Rattle.connection.specs.Codes.{eventOf};
@@ -61,7 +63,11 @@ fn is_nothing(e: Event) -> bool
             stream: _,
             count: _,
         } => false,
-        Event::End { id: _, stream: _ } => false,
+        Event::End {
+            id: _,
+            stream: _,
+            measure: _,
+        } => false,
         Event::Abort { id: _ } => false,
         Event::Refuse { id: _, status: _ } => false,
         Event::Fault { id: _, fault: _ } => false,
@@ -99,8 +105,9 @@ fn is_due(on: bool, result: StepResult, used: usize, bytes: usize) -> bool
 }
 
 // One step, or steps up to the next event where the call goes `on`. A step keeps the state's shape, so row 9 is tested
-// before the first alone. Most steps over a long body take one of two quick ways, which leave the table where it is.
-// (That content is shown stands twice: a call that begins with it never comes to the loop, and copies the table less.)
+// before the first alone. Most steps over a long body take one of two quick ways: a header that goes on with a stream
+// leaves the table as it is, and content that is shown changes a count, in place. (The count is read after the content
+// is shown: read before, the table would be copied once more.)
 fn steps(c: Conn, store: &mut [u8], gathered: &mut [u8; QUERY], piece: &[u8], on: bool) -> Stepped
     ensures { λ r. ⌜ steppedBy r (now (gathered .exit)) (now (store .exit))
         ≡ stepsBy on (stateOf c (now (gathered .entry))) (now (store .entry)) (now (piece .entry)) ⌝ }
@@ -119,44 +126,45 @@ fn steps(c: Conn, store: &mut [u8], gathered: &mut [u8; QUERY], piece: &[u8], on
         }
         StepCheck::Idle => {}
         StepCheck::Read => {
-            if is_shown(f) {
-                let s = show_content(&t.ids, f, piece);
-                let event = s.event;
-                used = s.used;
-                f = s.frame;
-                result = StepResult::Event(event);
-            } else {
-                let mut due = true;
-                while due && !is_shown(f) {
-                    let q = pass_header(t, f, &piece[used..n]);
-                    if 0 < q.used {
-                        let event = q.event;
-                        used = used + q.used;
-                        f = q.frame;
-                        result = StepResult::Event(event);
-                    } else {
-                        let conn = Conn {
-                            table: t,
-                            frame: f,
-                            open: open,
-                        };
-                        let s = take_step(conn, store, gathered, &piece[used..n]);
-                        let after = s.conn;
-                        used = used + s.used;
-                        t = after.table;
-                        f = after.frame;
-                        open = after.open;
-                        result = s.result;
-                    }
-                    due = is_due(on, result, used, n);
-                }
-                if due {
-                    let s = show_content(&t.ids, f, &piece[used..n]);
-                    let event = s.event;
-                    used = used + s.used;
-                    f = s.frame;
+            let mut due = true;
+            while due && !is_shown(f) {
+                let q = pass_header(t, f, &piece[used..n]);
+                if 0 < q.used {
+                    let event = q.event;
+                    used = used + q.used;
+                    f = q.frame;
                     result = StepResult::Event(event);
+                } else {
+                    let conn = Conn {
+                        table: t,
+                        frame: f,
+                        open: open,
+                    };
+                    let s = take_step(conn, store, gathered, &piece[used..n]);
+                    let after = s.conn;
+                    used = used + s.used;
+                    t = after.table;
+                    f = after.frame;
+                    open = after.open;
+                    result = s.result;
                 }
+                due = is_due(on, result, used, n);
+            }
+            if due {
+                let s = show_content(&t.ids, f, &piece[used..n]);
+                let event = s.event;
+                let due_to = s.due;
+                let i = s.slot;
+                let before = Shown {
+                    stdin: t.stdin_shown[i],
+                    data: t.data_shown[i],
+                };
+                let shown = show_more(due_to, s.used, before);
+                used = used + s.used;
+                f = s.frame;
+                t.stdin_shown[i] = shown.stdin;
+                t.data_shown[i] = shown.data;
+                result = StepResult::Event(event);
             }
         }
     }

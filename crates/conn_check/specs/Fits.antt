@@ -10,7 +10,7 @@ use Rattle.connection.specs.Shape.{dueFits, targetFits, inShape}
 -- a table with these ids, lengths and slots taken; its standings and marks do not matter
 abbrev pub tableOf : List ℕ → List ℕ → ℕ → Table
 tableOf ids lengths occupied =
-    record { ids = ids; lengths = lengths; standings = []; keep = 0; «out_ended» = 0; «err_used» = 0; «err_ended» = 0; occupied = occupied }
+    record { ids = ids; lengths = lengths; standings = []; keep = 0; «out_ended» = 0; «err_used» = 0; «err_ended» = 0; «stdin_shown» = []; «data_shown» = []; occupied = occupied }
 
 abbrev pub dueOf : ℕ → ℕ → Bool
 dueOf occupied i = dueFits (tableOf [] [] occupied) i

@@ -1,24 +1,25 @@
 -- What the proofs of this crate share.
 use Prim.Native.Nat.{ℕ, _-_, _≤_, _<_, min}
-use mathlib.Core.Path.{_≡_, refl, sym, ap, subst, _∙_}
+use mathlib.Core.Path.{_≡_, sym, ap, subst, _∙_}
 use mathlib.Core.List.{List}
 use native.Mathlib.Omega.{arith}
-use lib.ListN.{length, take, getD}
+use lib.ListN.{length, take}
 use lib.Seq.{take-all}
 use lib.Dec.{ltb}
 use borrow.Author.Tests.{ltb-true, ltb-false}
 use Rattle.wire.specs.Test.{byTest}
-use Rattle.record.specs.Names.{STDIN, DATA}
 use Rattle.record_reader.specs.declared.Position.{Position}
-use Rattle.connection.specs.declared.request.Due.{Due}
+use Rattle.connection.specs.declared.event.Stream.{Stream}
 use Rattle.connection.specs.declared.state.Table.{Table}
 use Rattle.connection.specs.declared.state.Target.{Target}
 use Rattle.connection.specs.declared.state.Frame.{Frame}
 use Rattle.connection.specs.Event.{Event}
-use Rattle.connection.specs.Slots.{requestAt}
-use Rattle.connection.specs.Laws.SlotsLaws.{put-same, area-put-same}
+use Rattle.connection.specs.Codes.{streamType, streamDue}
+use Rattle.connection.specs.Request.{countsOn}
+use Rattle.connection.specs.Slots.{requestAt, putRequest}
+use Rattle.connection.specs.Laws.SlotsLaws.{area-put-same}
 use Rattle.connection.specs.Laws.ShapeLaws.{Aimed}
-use Rattle.connection.specs.Step.{frameWithin, reads, ofRequest}
+use Rattle.connection.specs.Step.{Left, openWith, frameWithin, ofRequest}
 use Rattle.connection.specs.Decision.{openState}
 
 -- a part of a list that ends where the list ends
@@ -33,20 +34,22 @@ take-least n l e h =
     let same : e - 0 ≡ n = omega arith in
     ap (λ (m : ℕ). take m l) same)
 
--- Content that is shown leaves its request as it is.
-id-at : (t : Table) (i : ℕ) → requestAt t i .id ≡ getD (t .ids) i 0
-unfolding requestAt
-id-at t i = refl
+-- What n bytes of a stream that are shown leave: the request with them counted, and all else but the frame as it is.
+abbrev pub shownBy : Stream → ℕ → Table → Frame → List ℕ → List ℕ → ℕ → Position → Left
+shownBy stream n t f g s i p =
+    record {
+      conn = openWith (putRequest t i (countsOn (streamDue stream) n (requestAt t i))) (frameWithin f p (f .gathered) (f .body));
+      gathered = g;
+      store = s;
+      event = Event.Data (requestAt t i .id) (streamType stream) n;
+    }
 
-pub stdin-passes : (t : Table) (f : Frame) (g s : List ℕ) (i : ℕ) (bytes : List ℕ) (p : Position)
-    → reads (openState t f g) s (frameWithin f p (f .gathered) (f .body)) (Event.Data (getD (t .ids) i 0) STDIN (length bytes)) ≡ ofRequest (openState t f g) s Due.Stdin i bytes p
+-- It is what their target does with them.
+pub stream-shown : (stream : Stream) (t : Table) (f : Frame) (g s : List ℕ) (i : ℕ) (bytes : List ℕ) (p : Position)
+    → shownBy stream (length bytes) t f g s i p ≡ ofRequest (openState t f g) s (streamDue stream) i bytes p
 unfolding ofRequest
-stdin-passes t f g s i bytes p = rw (put-same t i, area-put-same s i, id-at t i)
-
-pub data-passes : (t : Table) (f : Frame) (g s : List ℕ) (i : ℕ) (bytes : List ℕ) (p : Position)
-    → reads (openState t f g) s (frameWithin f p (f .gathered) (f .body)) (Event.Data (getD (t .ids) i 0) DATA (length bytes)) ≡ ofRequest (openState t f g) s Due.Data i bytes p
-unfolding ofRequest
-data-passes t f g s i bytes p = rw (put-same t i, area-put-same s i, id-at t i)
+stream-shown Stream.Stdin t f g s i bytes p = rw (area-put-same s i)
+stream-shown Stream.Data t f g s i bytes p = rw (area-put-same s i)
 
 -- what the shape says of a target that is known
 pub aimed-at : (target known : Target) (t : Table) (gathered left : ℕ) → Aimed target t gathered left → target ≡ known → Aimed known t gathered left

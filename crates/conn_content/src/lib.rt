@@ -14,7 +14,9 @@ use connection::state::Frame;
 use connection::state::Table;
 use connection::state::Target;
 use record_reader::Position;
+use request_input::count_shown;
 use request_input::grow;
+use request_input::stream_due;
 use slot_table::request_at;
 use slot_word::lowest_free;
 use wire::copy_into;
@@ -26,7 +28,8 @@ ghost use lib.ListN.{length};
 ghost use Rattle.connection.specs.declared.state.Table.{Table};
 ghost use Rattle.connection.specs.declared.state.Frame.{Frame};
 ghost use Rattle.connection.specs.declared.request.Due.{Due};
-ghost use Rattle.connection.specs.Codes.{eventOf, streamType};
+ghost use Rattle.connection.specs.Codes.{eventOf, streamDue};
+ghost use Rattle.connection.specs.declared.event.Event.{Event};
 ghost use Rattle.connection.specs.Sizes.{SLOTS, STORE, QUERY};
 ghost use Rattle.connection.specs.Slots.{requestAt, areaAt, putArea, freeSlotOf};
 ghost use Rattle.connection.specs.Laws.ShapeLaws.{Aimed};
@@ -71,15 +74,36 @@ fn of_params(area: &mut [u8], r: Request, i: usize, f: Frame, bytes: &[u8], p: P
     }
 }
 
-// Content that is shown or skipped: only the frame changes.
-fn passed(f: Frame, p: Position, e: Event) -> Decision
+// STDIN or DATA content for the request in slot i: n bytes are shown.
+fn of_stream(r: Request, i: usize, f: Frame, stream: Stream, n: usize, p: Position) -> Decision
+    ensures { λ x. ⌜ ((t : Table) (g s bytes : List ℕ) → requestAt t i ≡ r → length bytes ≡ n
+        → applied x t g s ≡ ofRequest (openState t f g) s (streamDue stream) i bytes p) ⌝ }
+{
+    let due = stream_due(stream);
+    let counted = count_shown(r, due, n);
+    let gathered = f.gathered;
+    let body = f.body;
+    let frame = frame_within(f, p, gathered, body);
+    Decision {
+        change: Change::Put(i, counted),
+        frame: frame,
+        event: Event::Data {
+            id: r.id,
+            stream: stream,
+            count: n,
+        },
+    }
+}
+
+// Content that is skipped: only the frame changes.
+fn skipped(f: Frame, p: Position) -> Decision
     ensures { λ x. ⌜ ((t : Table) (g s : List ℕ) → applied x t g s
-        ≡ reads (openState t f g) s (frameWithin f p (f .gathered) (f .body)) (eventOf e)) ⌝ }
+        ≡ reads (openState t f g) s (frameWithin f p (f .gathered) (f .body)) (eventOf Event.Nothing)) ⌝ }
 {
     let gathered = f.gathered;
     let body = f.body;
     let frame = frame_within(f, p, gathered, body);
-    only_frame(frame, e)
+    only_frame(frame, Event::Nothing)
 }
 
 // Content bytes of the record being read; p is the position after them.
@@ -98,7 +122,7 @@ pub fn feed(
 {
     let target = f.target;
     match target {
-        Target::Skip => passed(f, p, Event::Nothing),
+        Target::Skip => skipped(f, p),
         Target::Begin(id) => {
             let free = lowest_free(t.occupied) as usize;
             of_begin(f, free, id, bytes, p)
@@ -113,27 +137,13 @@ pub fn feed(
         }
         Target::Stdin(i) => {
             let slot = i as usize;
-            passed(
-                f,
-                p,
-                Event::Data {
-                    id: t.ids[slot],
-                    stream: Stream::Stdin,
-                    count: bytes.len(),
-                },
-            )
+            let r = request_at(t, slot);
+            of_stream(r, slot, f, Stream::Stdin, bytes.len(), p)
         }
         Target::Data(i) => {
             let slot = i as usize;
-            passed(
-                f,
-                p,
-                Event::Data {
-                    id: t.ids[slot],
-                    stream: Stream::Data,
-                    count: bytes.len(),
-                },
-            )
+            let r = request_at(t, slot);
+            of_stream(r, slot, f, Stream::Data, bytes.len(), p)
         }
     }
 }

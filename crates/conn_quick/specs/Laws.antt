@@ -5,7 +5,7 @@ use mathlib.Core.Bool.{true, false}
 use mathlib.Core.List.{List}
 use native.Mathlib.Omega.{arith}
 use lib.ListN.{length, take, drop, getD, List·getD-append}
-use lib.Seq.{length-take-le, getD-take}
+use lib.Seq.{length-take-le, getD-take, set-getD}
 use lib.Dec.{ltb, eqb}
 use borrow.Author.Tests.{ltb-true, leb-true, eqb-true, ne-eqb, eq-eqb}
 use Rattle.wire.specs.Test.{byTest}
@@ -15,6 +15,8 @@ use Rattle.record.specs.declared.header.Header.{Header}
 use Rattle.record_reader.specs.Position.{heldAnd, afterHeader, inHeader, advanced}
 use Rattle.record_reader.specs.declared.Position.{Position}
 use Rattle.record_reader.specs.declared.Phase.{Phase}
+use Rattle.slot_word.specs.WordLaws.{mark-same}
+use Rattle.connection.specs.declared.event.Stream.{Stream}
 use Rattle.connection.specs.declared.request.Turn.{Turn}
 use Rattle.connection.specs.declared.request.Due.{Due}
 use Rattle.connection.specs.declared.state.Table.{Table}
@@ -24,34 +26,72 @@ use Rattle.connection.specs.declared.state.Frame.{Frame}
 use Rattle.connection.specs.declared.event.Event.{Event as CodeEvent}
 use Rattle.connection.specs.Event.{Event}
 use Rattle.connection.specs.Decision.{openState}
-use Rattle.connection.specs.Request.{isSpent, turnType, onStdin, onData, onInput, onLive, onHeader, Held, ruled}
-use Rattle.connection.specs.Slots.{noStanding, standingOf, requestAt, heldAt, find, onSlot}
+use Rattle.connection.specs.Codes.{streamType, streamDue}
+use Rattle.connection.specs.Request.{countsOn, isSpent, turnType, onStdin, onData, onInput, onLive, onHeader, Held, ruled}
+use Rattle.connection.specs.Slots.{noStanding, standingOf, requestAt, putRequest, heldAt, find, onSlot}
 use Rattle.connection.specs.Laws.SlotsLaws.{put-same, area-put-same, find-at}
 use Rattle.connection.specs.Laws.ShapeLaws.{InUse, Aimed}
 use Rattle.connection.specs.Laws.PieceLaws.{HeaderFits}
 use Rattle.connection.specs.Laws.StateShape.{aimed-if}
 use Rattle.connection.specs.Laws.Progress.{lessContent, in-content, in-header, in-whole}
-use Rattle.connection.specs.Step.{frameAfter, frameWithin, targetIf, reads, leaves, dueTo, rules, onActive, judged, onTarget, advances}
-use Rattle.conn_content.specs.Laws.{stdin-passes, data-passes}
-use Rattle.conn_quick.specs.Quick.{isStream, isShown, shownEvent, streamTo, goesTo, headedTo, isHeaded}
-use Rattle.conn_quick.specs.Passes.{Passes}
+use Rattle.connection.specs.Step.{Left, openWith, frameAfter, frameWithin, targetIf, reads, leaves, dueTo, rules, onActive, judged, ofRequest, onTarget, advances}
+use Rattle.conn_content.specs.Laws.{stream-shown}
+use Rattle.conn_quick.specs.Quick.{isStream, isShown, slotOf, streamOf, streamTo, goesTo, headedTo, isHeaded}
+use Rattle.conn_quick.specs.Passes.{countedAt, Passes}
 
 -- ---- content of STDIN or DATA
--- what its target does with it
+-- The request with the bytes counted, put back: its counts alone change.
+counts-put : (t : Table) (i : ℕ) (due : Due) (n : ℕ) → countedAt t i due n ≡ putRequest t i (countsOn due n (requestAt t i))
+unfolding putRequest requestAt
+counts-put t i due n =
+    rw (
+      set-getD (t .ids) i 0,
+      set-getD (t .lengths) i 0,
+      set-getD (t .standings) i noStanding,
+      mark-same i (t .keep),
+      mark-same i (t .«out_ended»),
+      mark-same i (t .«err_used»),
+      mark-same i (t .«err_ended»),
+    )
+
+-- what n bytes of a stream leave that are shown
+abbrev showsOf : Stream → ℕ → ℕ → Table → Frame → List ℕ → List ℕ → Position → Left
+showsOf stream i n t f g s p =
+    record {
+      conn = openWith (countedAt t i (streamDue stream) n) (frameWithin f p (f .gathered) (f .body));
+      gathered = g;
+      store = s;
+      event = Event.Data (getD (t .ids) i 0) (streamType stream) n;
+    }
+
+stream-shows : (stream : Stream) (i : ℕ) (t : Table) (f : Frame) (g s bytes : List ℕ) (p : Position)
+    → showsOf stream i (length bytes) t f g s p ≡ ofRequest (openState t f g) s (streamDue stream) i bytes p
+unfolding requestAt
+stream-shows stream i t f g s bytes p =
+    ap
+    (λ (u : Table). record {
+      conn = openWith u (frameWithin f p (f .gathered) (f .body));
+      gathered = g;
+      store = s;
+      event = Event.Data (getD (t .ids) i 0) (streamType stream) (length bytes);
+    })
+    (counts-put t i (streamDue stream) (length bytes))
+    ∙ stream-shown stream t f g s i bytes p
+
+-- It is what the target does with them.
 shown-target : (target : Target) (t : Table) (f : Frame) (g s bytes : List ℕ) (p : Position) → isStream target ≡ true
-    → reads (openState t f g) s (frameWithin f p (f .gathered) (f .body)) (shownEvent target (t .ids) (length bytes)) ≡ onTarget target (openState t f g) s bytes p
+    → showsOf (streamOf target) (slotOf target) (length bytes) t f g s p ≡ onTarget target (openState t f g) s bytes p
 shown-target Target.Skip t f g s bytes p h = let z : _≡_ {A = ℕ} 0 1 = cc in absurd (omega arith)
 shown-target (Target.Begin id) t f g s bytes p h = let z : _≡_ {A = ℕ} 0 1 = cc in absurd (omega arith)
 shown-target Target.Query t f g s bytes p h = let z : _≡_ {A = ℕ} 0 1 = cc in absurd (omega arith)
 shown-target (Target.Params i) t f g s bytes p h = let z : _≡_ {A = ℕ} 0 1 = cc in absurd (omega arith)
-shown-target (Target.Stdin i) t f g s bytes p h = stdin-passes t f g s i bytes p
-shown-target (Target.Data i) t f g s bytes p h = data-passes t f g s i bytes p
+shown-target (Target.Stdin i) t f g s bytes p h = stream-shows Stream.Stdin i t f g s bytes p
+shown-target (Target.Data i) t f g s bytes p h = stream-shows Stream.Data i t f g s bytes p
 
 -- A step shows as much of it as the piece has.
 pub content-shown : (t : Table) (f : Frame) (g s piece : List ℕ) → isShown (f .position .content) (f .target) ≡ true
-    → leaves (advanced (f .position) piece .used)
-    (reads (openState t f g) s (frameWithin f (advanced (f .position) piece .position) (f .gathered) (f .body)) (shownEvent (f .target) (t .ids) (advanced (f .position) piece .used)))
-    ≡ advances (openState t f g) s piece (advanced (f .position) piece)
+    → (let a = advanced (f .position) piece in
+    leaves (a .used) (showsOf (streamOf (f .target)) (slotOf (f .target)) (a .used) t f g s (a .position)) ≡ advances (openState t f g) s piece a)
 unfolding advances
 content-shown t f g s piece e =
     byTest (ltb 0 (f .position .content))
@@ -60,7 +100,7 @@ content-shown t f g s piece e =
     let q = lessContent (f .position) n in
     let used : length (take n piece) ≡ n = length-take-le n piece (omega arith) in
     rw (in-content (f .position) piece (ltb-true 0 (f .position .content) l))
-    (ap (λ (m : ℕ). leaves n (reads (openState t f g) s (frameWithin f q (f .gathered) (f .body)) (shownEvent (f .target) (t .ids) m))) (sym used)
+    (ap (λ (m : ℕ). leaves n (showsOf (streamOf (f .target)) (slotOf (f .target)) m t f g s q)) (sym used)
     ∙ ap (leaves n) (shown-target (f .target) t f g s (take n piece) q (simp l at e))))
     (λ l. let z : _≡_ {A = ℕ} 0 1 = cc (simp l at e) in absurd (omega arith))
 

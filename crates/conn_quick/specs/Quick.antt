@@ -1,18 +1,16 @@
--- Steps that change the frame alone: content of STDIN or DATA, and a header that goes on with such a stream. Nothing in
--- this file is a rule: `Laws` shows that these are steps of the rules. Here `Target.Skip` means that there is no quick way.
+-- Steps that change the frame and at most a count: content of STDIN or DATA, and a header that goes on with such a
+-- stream. Nothing in this file is a rule: `Laws` shows that these are steps of the rules. Here `Target.Skip` means that there is no quick way.
 use Prim.Native.Nat.{ℕ}
 use mathlib.Core.Bool.{Bool, true, false}
-use mathlib.Core.List.{List}
-use lib.ListN.{getD}
 use Rattle.wire.specs.Test.{if_then_else_, _<?_, _≤?_, _=?_}
-use Rattle.record.specs.Names.{VERSION, STDIN, DATA}
+use Rattle.record.specs.Names.{VERSION}
 use Rattle.record.specs.declared.header.Header.{Header}
 use Rattle.record_reader.specs.declared.Position.{Position}
+use Rattle.connection.specs.declared.event.Stream.{Stream}
 use Rattle.connection.specs.declared.request.Turn.{Turn}
 use Rattle.connection.specs.declared.request.Standing.{Standing}
 use Rattle.connection.specs.declared.state.Table.{Table}
 use Rattle.connection.specs.declared.state.Target.{Target}
-use Rattle.connection.specs.Event.{Event}
 use Rattle.connection.specs.Request.{isSpent, turnType}
 use Rattle.connection.specs.Slots.{standingOf, requestAt, find, onSlot}
 
@@ -37,14 +35,14 @@ slotOf (Target.Params i) = 0
 slotOf (Target.Stdin i) = i
 slotOf (Target.Data i) = i
 
--- what n bytes of it tell
-abbrev pub shownEvent : Target → List ℕ → ℕ → Event
-shownEvent Target.Skip ids n = Event.None
-shownEvent (Target.Begin id) ids n = Event.None
-shownEvent Target.Query ids n = Event.None
-shownEvent (Target.Params i) ids n = Event.None
-shownEvent (Target.Stdin i) ids n = Event.Data (getD ids i 0) STDIN n
-shownEvent (Target.Data i) ids n = Event.Data (getD ids i 0) DATA n
+-- the stream that it is of
+abbrev pub streamOf : Target → Stream
+streamOf Target.Skip = Stream.Stdin
+streamOf (Target.Begin id) = Stream.Stdin
+streamOf Target.Query = Stream.Stdin
+streamOf (Target.Params i) = Stream.Stdin
+streamOf (Target.Stdin i) = Stream.Stdin
+streamOf (Target.Data i) = Stream.Data
 
 -- Where the content of the stream goes whose turn it is. For PARAMS there is no quick way, since it is kept.
 abbrev pub streamTo : Turn → ℕ → Target

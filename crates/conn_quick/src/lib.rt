@@ -1,9 +1,10 @@
-// Two ways of a step that change the frame alone, for most of the bytes of a long body: content of STDIN or DATA, and
-// a header that goes on with such a stream. They look at a few fields of the table and copy none of it.
+// Two ways of a step for most of the bytes of a long body: content of STDIN or DATA, and a header that goes on with such
+// a stream. They change the frame and at most one slot, look at a few fields of the table and copy none of it.
 use conn_frame::frame_after;
 use conn_frame::frame_within;
 use connection::event::Event;
 use connection::event::Stream;
+use connection::request::Due;
 use connection::request::Standing;
 use connection::request::Turn;
 use connection::sizes::SLOTS;
@@ -16,6 +17,7 @@ use record::header::read_header;
 use record::names;
 use record_reader::Position;
 use record_reader::advance;
+use request_input::stream_due;
 use request_state::is_spent;
 use request_state::turn_type;
 use slot_table::find_from;
@@ -28,12 +30,11 @@ ghost use Rattle.record.specs.Header.{headerOf};
 ghost use Rattle.record_reader.specs.Position.{advanced};
 ghost use Rattle.connection.specs.declared.state.Table.{Table};
 ghost use Rattle.connection.specs.Sizes.{SLOTS};
-ghost use Rattle.connection.specs.Codes.{eventOf};
 ghost use Rattle.connection.specs.Decision.{openState};
 ghost use Rattle.connection.specs.Step.{advances};
-ghost use Rattle.conn_quick.specs.Quick.{isStream, isShown, slotOf, shownEvent};
+ghost use Rattle.conn_quick.specs.Quick.{isStream, isShown, slotOf, streamOf};
 ghost use Rattle.conn_quick.specs.Quick.{streamTo, goesTo, headedTo, isHeaded};
-ghost use Rattle.conn_quick.specs.Passes.{passes, Passes};
+ghost use Rattle.conn_quick.specs.Passes.{shows, Passes};
 
 // What such a step comes to: the bytes used, what it tells, and the frame afterwards. No bytes are used where it is
 // none.
@@ -41,6 +42,16 @@ pub struct Passed {
     pub used: usize,
     pub event: Event,
     pub frame: Frame,
+}
+
+// The same of a step that shows content, with the slot that it is for, and what it is due to there: the bytes used are
+// counted.
+pub struct Showing {
+    pub used: usize,
+    pub event: Event,
+    pub frame: Frame,
+    pub slot: usize,
+    pub due: Due,
 }
 
 fn is_stream(target: Target) -> bool
@@ -68,34 +79,39 @@ pub fn is_shown(f: Frame) -> bool
     false
 }
 
-// What n bytes of that content tell.
-fn data_event(ids: &[u16; SLOTS], target: Target, n: usize) -> Event
-    requires { ⌜ slotOf target < SLOTS ⌝ }
-    ensures { λ r. ⌜ eventOf r ≡ shownEvent target (now (ids .entry)) n ⌝ }
+// The slot that it is for.
+fn slot_of(target: Target) -> usize
+    ensures { λ r. ⌜ r ≡ slotOf target ⌝ }
 {
     match target {
-        Target::Skip => Event::Nothing,
-        Target::Begin(_) => Event::Nothing,
-        Target::Query => Event::Nothing,
-        Target::Params(_) => Event::Nothing,
-        Target::Stdin(i) => Event::Data {
-            id: ids[i as usize],
-            stream: Stream::Stdin,
-            count: n,
-        },
-        Target::Data(i) => Event::Data {
-            id: ids[i as usize],
-            stream: Stream::Data,
-            count: n,
-        },
+        Target::Skip => 0,
+        Target::Begin(_) => 0,
+        Target::Query => 0,
+        Target::Params(_) => 0,
+        Target::Stdin(i) => i as usize,
+        Target::Data(i) => i as usize,
+    }
+}
+
+// The stream that it is of.
+fn stream_of(target: Target) -> Stream
+    ensures { λ r. ⌜ r ≡ streamOf target ⌝ }
+{
+    match target {
+        Target::Skip => Stream::Stdin,
+        Target::Begin(_) => Stream::Stdin,
+        Target::Query => Stream::Stdin,
+        Target::Params(_) => Stream::Stdin,
+        Target::Stdin(_) => Stream::Stdin,
+        Target::Data(_) => Stream::Data,
     }
 }
 
 // Content that is shown.
-pub fn show_content(ids: &[u16; SLOTS], f: Frame, piece: &[u8]) -> Passed
+pub fn show_content(ids: &[u16; SLOTS], f: Frame, piece: &[u8]) -> Showing
     requires { ⌜ (isShown (f .position .content) (f .target) ≡ true) × (slotOf (f .target) < SLOTS) ⌝ }
-    ensures { λ r. ⌜ ((t : Table) (g s : List ℕ) → t .ids ≡ now (ids .entry)
-        → passes r t g s
+    ensures { λ r. ⌜ (r .slot < SLOTS) × ((t : Table) (g s : List ℕ) → t .ids ≡ now (ids .entry)
+        → shows r t g s
         ≡ advances (openState t f g) s (now (piece .entry)) (advanced (f .position) (now (piece .entry)))) ⌝ }
 {
     let position = f.position;
@@ -103,13 +119,22 @@ pub fn show_content(ids: &[u16; SLOTS], f: Frame, piece: &[u8]) -> Passed
     let gathered = f.gathered;
     let body = f.body;
     let a = advance(position, piece);
+    let n = a.used;
     let p = a.position;
-    let event = data_event(ids, target, a.used);
+    let i = slot_of(target);
+    let stream = stream_of(target);
+    let due = stream_due(stream);
     let frame = frame_within(f, p, gathered, body);
-    Passed {
-        used: a.used,
-        event: event,
+    Showing {
+        used: n,
+        event: Event::Data {
+            id: ids[i],
+            stream: stream,
+            count: n,
+        },
         frame: frame,
+        slot: i,
+        due: due,
     }
 }
 

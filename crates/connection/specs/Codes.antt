@@ -3,6 +3,7 @@ use Prim.Native.Nat.{ℕ}
 use Rattle.record.specs.Names.{RESPONDER, AUTHORIZER, FILTER, STDIN, STDOUT, STDERR, DATA, OVERLOADED, UNKNOWN-ROLE}
 use Rattle.machine.specs.Cause.{Cause, Plain, At, causeNumber}
 use Rattle.connection.specs.declared.request.Role.{Role}
+use Rattle.connection.specs.declared.request.Due.{Due}
 use Rattle.connection.specs.declared.event.Stream.{Stream}
 use Rattle.connection.specs.declared.event.Status.{Status}
 use Rattle.connection.specs.declared.event.Fault.{Fault}
@@ -22,6 +23,11 @@ roleNumber Role.Filter = FILTER
 abbrev pub streamType : Stream → ℕ
 streamType Stream.Stdin = STDIN
 streamType Stream.Data = DATA
+
+-- what the content of a stream is due to
+abbrev pub streamDue : Stream → Due
+streamDue Stream.Stdin = Due.Stdin
+streamDue Stream.Data = Due.Data
 
 abbrev pub outputType : Output → ℕ
 outputType Output.Stdout = STDOUT
@@ -59,7 +65,7 @@ eventOf CodeEvent.Nothing = Event.None
 eventOf (CodeEvent.Open id role keep) = Event.Open id (roleNumber role) keep
 eventOf (CodeEvent.Ready id n) = Event.Ready id n
 eventOf (CodeEvent.Data id stream n) = Event.Data id (streamType stream) n
-eventOf (CodeEvent.End id stream) = Event.End id (streamType stream)
+eventOf (CodeEvent.End id stream measure) = Event.End id (streamType stream) measure
 eventOf (CodeEvent.Abort id) = Event.Abort id
 eventOf (CodeEvent.Refuse id status) = Event.Refuse id (statusNumber status)
 eventOf (CodeEvent.Fault id fault) = Event.Fault id (faultCause fault)

@@ -101,7 +101,7 @@ changeOf R (Event.Fault id n) = if id =? R then Drops else Keeps
 changeOf R (Event.Closed n) = Drops
 changeOf R Event.None = Keeps
 changeOf R (Event.Data id stream n) = Keeps
-changeOf R (Event.End id stream) = Keeps
+changeOf R (Event.End id stream measure) = Keeps
 changeOf R (Event.Refuse id n) = Keeps
 changeOf R (Event.Query conns reqs mpxs) = Keeps
 changeOf R (Event.Unknown kind) = Keeps

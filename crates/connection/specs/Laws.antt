@@ -13,6 +13,7 @@ pub mod PartLaws
 pub mod Progress
 pub mod StepSizes
 pub mod PlainEvents
+pub mod Counting
 pub mod CuttingContent
 pub mod CuttingRequest
 pub mod Cutting
@@ -29,3 +30,4 @@ pub mod RefusalRows
 pub mod UsedAlone
 pub mod BeginReserved
 pub mod SpentStays
+pub mod CountsSteps

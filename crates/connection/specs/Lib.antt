@@ -14,5 +14,6 @@ pub mod Arguments
 pub mod Run
 pub mod Isolation
 pub mod History
+pub mod Counts
 pub mod Laws
 pub mod Runs

@@ -116,7 +116,7 @@ unfoldable pub saidOn : Request → Output → List ℕ → Request
 saidOn r output bytes =
     let m = r .state in
     withState r
-    (record { role = m .role; turn = m .turn; life = m .life; keep = m .keep; «out_ended» = m .«out_ended»; «err_used» = usesErr output bytes (m .«err_used»); «err_ended» = m .«err_ended» })
+    (record { role = m .role; turn = m .turn; life = m .life; keep = m .keep; «out_ended» = m .«out_ended»; «err_used» = usesErr output bytes (m .«err_used»); «err_ended» = m .«err_ended»; shown = m .shown })
 
 abbrev pub endsOut : Output → Bool → Bool
 endsOut Output.Stdout ended = true
@@ -130,7 +130,7 @@ unfoldable pub endedOn : Request → Output → Request
 endedOn r output =
     let m = r .state in
     withState r
-    (record { role = m .role; turn = m .turn; life = m .life; keep = m .keep; «out_ended» = endsOut output (m .«out_ended»); «err_used» = m .«err_used»; «err_ended» = endsErr output (m .«err_ended») })
+    (record { role = m .role; turn = m .turn; life = m .life; keep = m .keep; «out_ended» = endsOut output (m .«out_ended»); «err_used» = m .«err_used»; «err_ended» = endsErr output (m .«err_ended»); shown = m .shown })
 
 -- Say: data in records of CHUNK content bytes, the last one shorter; empty data writes nothing.
 abbrev pub sayBytes : Request → Output → List ℕ → List ℕ

@@ -39,3 +39,4 @@ pub mod HistoryCalls
 pub mod HistorySeen
 pub mod HistoryRuns
 pub mod ReadyLength
+pub mod CountsShown

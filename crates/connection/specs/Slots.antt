@@ -9,12 +9,13 @@ use Rattle.connection.specs.declared.request.Role.{Role}
 use Rattle.connection.specs.declared.request.Turn.{Turn}
 use Rattle.connection.specs.declared.request.Life.{Life}
 use Rattle.connection.specs.declared.request.Standing.{Standing}
+use Rattle.connection.specs.declared.request.Shown.{Shown}
 use Rattle.connection.specs.declared.request.RequestState.{RequestState}
 use Rattle.connection.specs.declared.request.Request.{Request}
 use Rattle.connection.specs.declared.state.Table.{Table}
 use Rattle.connection.specs.declared.state.Slot.{Slot}
 use Rattle.connection.specs.Sizes.{SLOTS, AREA}
-use Rattle.connection.specs.Request.{Held}
+use Rattle.connection.specs.Request.{Held, unshown}
 
 -- what a free slot holds
 abbrev pub noStanding : Standing
@@ -22,7 +23,7 @@ noStanding = record { role = Role.Responder; turn = Turn.Params; life = Life.Liv
 
 abbrev pub noState : RequestState
 noState =
-    record { role = Role.Responder; turn = Turn.Params; life = Life.Live; keep = false; «out_ended» = false; «err_used» = false; «err_ended» = false }
+    record { role = Role.Responder; turn = Turn.Params; life = Life.Live; keep = false; «out_ended» = false; «err_used» = false; «err_ended» = false; shown = unshown }
 
 abbrev pub noRequest : Request
 noRequest = record { id = 0; length = 0; state = noState }
@@ -30,6 +31,9 @@ noRequest = record { id = 0; length = 0; state = noState }
 -- ---- the request of slot i, with its own AREA bytes of the store
 abbrev pub standingOf : RequestState → Standing
 standingOf m = record { role = m .role; turn = m .turn; life = m .life }
+
+abbrev pub shownAt : Table → ℕ → Shown
+shownAt t i = record { stdin = getD (t .«stdin_shown») i 0; «data» = getD (t .«data_shown») i 0 }
 
 abbrev pub stateAt : Table → ℕ → RequestState
 stateAt t i =
@@ -41,6 +45,7 @@ stateAt t i =
       «out_ended» = taken i (t .«out_ended»);
       «err_used» = taken i (t .«err_used»);
       «err_ended» = taken i (t .«err_ended»);
+      shown = shownAt t i;
     }
 
 unfoldable pub requestAt : Table → ℕ → Request
@@ -63,6 +68,8 @@ putRequest t i r =
       «out_ended» = marked i (r .state .«out_ended») (t .«out_ended»);
       «err_used» = marked i (r .state .«err_used») (t .«err_used»);
       «err_ended» = marked i (r .state .«err_ended») (t .«err_ended»);
+      «stdin_shown» = set (t .«stdin_shown») i (r .state .shown .stdin);
+      «data_shown» = set (t .«data_shown») i (r .state .shown .«data»);
       occupied = t .occupied;
     }
 
@@ -80,6 +87,8 @@ withOccupied t w =
       «out_ended» = t .«out_ended»;
       «err_used» = t .«err_used»;
       «err_ended» = t .«err_ended»;
+      «stdin_shown» = t .«stdin_shown»;
+      «data_shown» = t .«data_shown»;
       occupied = w;
     }
 
@@ -103,6 +112,8 @@ noRequests =
       «out_ended» = 0;
       «err_used» = 0;
       «err_ended» = 0;
+      «stdin_shown» = replicate SLOTS 0;
+      «data_shown» = replicate SLOTS 0;
       occupied = 0;
     }
 

@@ -7,6 +7,14 @@ pub enum Stream {
     Data,
 }
 
+// What was shown of a stream against the length that the request's list states for it.
+pub enum Measure {
+    Short,
+    Exact,
+    Over,
+    Unstated,
+}
+
 // Why an opening is refused: the protocol status of its END_REQUEST, 2 or 3.
 pub enum Status {
     Overloaded,
@@ -56,10 +64,11 @@ pub enum Event {
         stream: Stream,
         count: usize,
     },
-    // One of its streams ends.
+    // One of its streams ends; `measure` holds what was shown of it against the length that the request stated.
     End {
         id: u16,
         stream: Stream,
+        measure: Measure,
     },
     // The web server aborts it.
     Abort {
@@ -70,7 +79,7 @@ pub enum Event {
         id: u16,
         status: Status,
     },
-    // It did something wrong, and its parameters are lost.
+    // It did something wrong, and its parameters and counts are lost.
     Fault {
         id: u16,
         fault: Fault,

@@ -22,6 +22,13 @@ pub enum Life {
     Aborted,
 }
 
+// How many bytes of its STDIN and of its DATA were shown since the request was opened; none after a fault. A count that
+// comes to its largest number stays there.
+pub struct Shown {
+    pub stdin: u32,
+    pub data: u32,
+}
+
 // How a request stands: its role, its turn and its life.
 pub struct Standing {
     // What the web server asks the application to be.
@@ -48,6 +55,8 @@ pub struct RequestState {
     pub err_used: bool,
     // The end of its STDERR is written.
     pub err_ended: bool,
+    // What was shown of its input.
+    pub shown: Shown,
 }
 
 // A request's id, the length of its list (the bytes of PARAMS that its area holds), and its state.

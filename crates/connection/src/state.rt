@@ -12,6 +12,8 @@ pub struct Table {
     pub out_ended: u16,
     pub err_used: u16,
     pub err_ended: u16,
+    pub stdin_shown: [u32; SLOTS],
+    pub data_shown: [u32; SLOTS],
     pub occupied: u16,
 }
 

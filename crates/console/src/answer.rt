@@ -135,7 +135,7 @@ fn poke(
     let b = values[1];
     poke_bytes(f.kind, a, b, store, gathered, bytes);
     tell(page, b"ok");
-    with_conn(s, poked(s.conn, f.kind, a, b, bytes))
+    with_conn(s, poked(s.conn, f.kind, a, b, values[2], bytes))
 }
 
 // Answers a line that was read.

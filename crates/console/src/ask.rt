@@ -1,6 +1,7 @@
 // The questions: they change nothing.
 use crate::command::ACTIVE;
 use crate::command::AREA_OF;
+use crate::command::COUNTS;
 use crate::command::LONG;
 use crate::command::PAIR;
 use crate::command::STORE;
@@ -17,6 +18,7 @@ use crate::words::part;
 use crate::write::put_refused;
 use call_walk::list_of;
 use call_walk::list_refusal;
+use connection::request::Shown;
 use connection::state::Slot;
 use connection::state::Table;
 use fastcgi::AREA;
@@ -33,6 +35,7 @@ use fastcgi::pair_from;
 use fastcgi::refusal_number;
 use fastcgi::value;
 use fastcgi::value_source;
+use slot_table::request_at;
 use slot_word::is_taken;
 use wire::least;
 
@@ -192,6 +195,25 @@ fn ask_area(page: &mut [u8], c: Conn, store: &[u8], id: u16) -> usize {
     put_hex(page, a, area_of(t, store, i))
 }
 
+// The counts of slot i.
+fn put_counts(page: &mut [u8], at: usize, shown: Shown) -> usize {
+    let a = put_number(page, at, b" ", shown.stdin as u64);
+    put_number(page, a, b" ", shown.data as u64)
+}
+
+// How much of its input was shown, of the first taken slot with that id.
+fn ask_counts(page: &mut [u8], c: Conn, id: u16) -> usize {
+    let t = c.table;
+    let slot = first_with(t, id);
+    let Slot::At(i) = slot else {
+        return put(page, 0, b"none");
+    };
+    let r = request_at(t, i);
+    let m = r.state;
+    let a = put(page, 0, b"counts");
+    put_counts(page, a, m.shown)
+}
+
 // The place of the first byte that is not zero; 0 where all are.
 fn first_set(store: &[u8]) -> usize {
     let mut i: usize = 0;
@@ -248,6 +270,7 @@ fn put_answer<'a>(
         STORE => ask_store(page, store),
         WALK => ask_walk(page, c, seen, id),
         AREA_OF => ask_area(page, c, store, id),
+        COUNTS => ask_counts(page, c, id),
         PAIR => ask_pair(page, c, seen, id, n),
         VALUE => ask_value(page, c, seen, id, part(bytes, 0, n), part(bytes, n, m)),
         LONG => put(page, 0, b"long"),

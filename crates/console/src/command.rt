@@ -18,31 +18,33 @@ pub const WALK: u64 = 2;
 
 pub const AREA_OF: u64 = 3;
 
-pub const PAIR: u64 = 4;
+pub const COUNTS: u64 = 4;
 
-pub const VALUE: u64 = 5;
+pub const PAIR: u64 = 5;
+
+pub const VALUE: u64 = 6;
 
 // Commands that change the state.
-pub const START: u64 = 6;
+pub const START: u64 = 7;
 
-pub const LEND: u64 = 7;
+pub const LEND: u64 = 8;
 
-pub const STEP: u64 = 8;
+pub const STEP: u64 = 9;
 
-pub const NEXT: u64 = 9;
+pub const NEXT: u64 = 10;
 
-pub const FEED: u64 = 10;
+pub const FEED: u64 = 11;
 
 // Commands that write into a lent room.
-pub const OWED: u64 = 11;
+pub const OWED: u64 = 12;
 
-pub const END: u64 = 12;
+pub const END: u64 = 13;
 
-pub const PUT: u64 = 13;
+pub const PUT: u64 = 14;
 
-pub const FINISH: u64 = 14;
+pub const FINISH: u64 = 15;
 
-pub const SAY: u64 = 15;
+pub const SAY: u64 = 16;
 
 // A line that is too long.
 pub const LONG: u64 = 98;
@@ -93,8 +95,8 @@ pub fn room_of(f: Form) -> usize {
 fn read_command(line: &[u8], bytes: &mut [u8]) -> Form {
     read_form(
         line,
-        b"active store walk area pair value start lend step next feed owed end put finish say",
-        b"- - i i ik ihh - l h h nh m iom hhm ium iohm",
+        b"active store walk area counts pair value start lend step next feed owed end put finish say",
+        b"- - i i i ik ihh - l h h nh m iom hhm ium iohm",
         bytes,
     )
 }
@@ -103,8 +105,8 @@ fn read_command(line: &[u8], bytes: &mut [u8]) -> Form {
 fn read_field(line: &[u8], bytes: &mut [u8]) -> Form {
     read_form(
         line,
-        b"open occupied id length role keep turn spent out_ended err_used err_ended held header content padding gathered body byte",
-        b"f i si si sr sf st sv sf sf sf k 8 k k k 5 pb",
+        b"open occupied id length role keep turn spent out_ended err_used err_ended held header content padding gathered body byte shown",
+        b"f i si si sr sf st sv sf sf sf k 8 k k k 5 pb sdu",
         bytes,
     )
 }

@@ -71,6 +71,7 @@ fn argument(kind: u8, w: &[u8], bytes: &mut [u8], at: usize) -> Number {
         b'r' => choice(b"1 2 3", w),
         b't' => choice(b"params stdin data done", w),
         b'v' => choice(b"live faulted aborted", w),
+        b'd' => choice(b"stdin data", w),
         _ => numeral(kind, w),
     }
 }

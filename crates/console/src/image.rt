@@ -14,7 +14,7 @@ use record_reader::Position;
 use slot_table::request_at;
 
 // More bytes than an image has.
-pub const IMAGE: usize = 1024;
+pub const IMAGE: usize = 2048;
 
 // Sixteen digits.
 fn put_digits(out: &mut [u8], at: usize, digits: &[u8; 16]) -> usize {
@@ -52,7 +52,7 @@ fn life_number(life: Life) -> u8 {
     }
 }
 
-// The state of a request, a byte for each field.
+// The state of a request: a byte for each mark, and its counts.
 fn put_request_state(out: &mut [u8], at: usize, m: RequestState) -> usize {
     let role = m.role;
     let turn = m.turn;
@@ -66,7 +66,10 @@ fn put_request_state(out: &mut [u8], at: usize, m: RequestState) -> usize {
         flag(m.err_used),
         flag(m.err_ended),
     ];
-    put_at(out, at, &seven)
+    let marks = put_at(out, at, &seven);
+    let shown = m.shown;
+    let stdin = put_count(out, marks, shown.stdin as usize);
+    put_count(out, stdin, shown.data as usize)
 }
 
 // A request.

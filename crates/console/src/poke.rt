@@ -2,10 +2,12 @@
 // from POKE on.
 use crate::number::low8;
 use crate::number::low16;
+use crate::number::low32;
 use crate::words::part;
 use connection::request::Life;
 use connection::request::Request;
 use connection::request::RequestState;
+use connection::request::Shown;
 use connection::request::Turn;
 use connection::state::Frame;
 use connection::state::Table;
@@ -62,6 +64,9 @@ const BODY: u64 = 66;
 
 // A byte of the store.
 const BYTE: u64 = 67;
+
+// A count of a slot.
+const SHOWN: u64 = 68;
 
 // From here on, what the content of the record being read is for.
 pub const TARGET: u64 = 70;
@@ -145,8 +150,24 @@ fn eight_if(hit: bool, bytes: &[u8], before: [u8; 8]) -> [u8; 8] {
     before
 }
 
-// The state of a request with a field set, if it is one of its own.
-fn state_with(m: RequestState, field: u64, n: u64) -> RequestState {
+// A 32-bit number set or left.
+fn long_if(hit: bool, n: u64, before: u32) -> u32 {
+    if hit {
+        return low32(n);
+    }
+    before
+}
+
+// The count of a stream, 0 for STDIN and 1 for DATA, set or left.
+fn shown_if(hit: bool, stream: u64, n: u64, before: Shown) -> Shown {
+    Shown {
+        stdin: long_if(hit & (stream == 0), n, before.stdin),
+        data: long_if(hit & (stream == 1), n, before.data),
+    }
+}
+
+// The state of a request with a field set, if it is one of its own. A count has its stream for n and its number for k.
+fn state_with(m: RequestState, field: u64, n: u64, k: u64) -> RequestState {
     let role = m.role;
     let turn = m.turn;
     let life = m.life;
@@ -158,6 +179,7 @@ fn state_with(m: RequestState, field: u64, n: u64) -> RequestState {
         out_ended: flag_if(field == OUT_ENDED, n, m.out_ended),
         err_used: flag_if(field == ERR_USED, n, m.err_used),
         err_ended: flag_if(field == ERR_ENDED, n, m.err_ended),
+        shown: shown_if(field == SHOWN, n, k, m.shown),
     }
 }
 
@@ -170,18 +192,18 @@ fn number_if(hit: bool, n: u64, before: u16) -> u16 {
 }
 
 // A request with a field set, if it is one of its own.
-fn request_with(r: Request, field: u64, n: u64) -> Request {
+fn request_with(r: Request, field: u64, n: u64, k: u64) -> Request {
     Request {
         id: number_if(field == ID, n, r.id),
         length: number_if(field == LENGTH, n, r.length),
-        state: state_with(r.state, field, n),
+        state: state_with(r.state, field, n, k),
     }
 }
 
 // The table with its word, or a field of slot a, set.
-fn table_with(t: Table, field: u64, a: u64, b: u64) -> Table {
+fn table_with(t: Table, field: u64, a: u64, b: u64, k: u64) -> Table {
     let i = a as usize;
-    let mut table = put_request(t, i, request_with(request_at(t, i), field, b));
+    let mut table = put_request(t, i, request_with(request_at(t, i), field, b, k));
     table.occupied = number_if(field == OCCUPIED, a, t.occupied);
     table
 }
@@ -205,11 +227,11 @@ fn frame_with(f: Frame, field: u64, n: u64, bytes: &[u8]) -> Frame {
     }
 }
 
-// The connection with a field set to a, or of slot a to b.
-pub fn poked(c: Conn, field: u64, a: u64, b: u64, bytes: &[u8]) -> Conn {
+// The connection with a field set to a, or of slot a to b; of a count b is the stream and k the number.
+pub fn poked(c: Conn, field: u64, a: u64, b: u64, k: u64, bytes: &[u8]) -> Conn {
     let eight = part(bytes, 0, least(a as usize, 8));
     Conn {
-        table: table_with(c.table, field, a, b),
+        table: table_with(c.table, field, a, b, k),
         frame: frame_with(c.frame, field, a, eight),
         open: flag_if(field == OPEN, a, c.open),
     }

@@ -3,6 +3,7 @@ use Prim.Native.Nat.{ℕ, _+_, _*_, _-_, _%_}
 use mathlib.Core.Bool.{Bool}
 use Rattle.wire.specs.Test.{if_then_else_, _<?_, _=?_}
 use Rattle.machine.specs.Cause.{Cause, Plain, At, causeNumber}
+use Rattle.connection.specs.declared.event.Measure.{Measure}
 use Rattle.connection.specs.Event.{Event}
 
 -- ---- a number for what a step tells: its kind, and its values
@@ -17,12 +18,19 @@ abbrev pub placeOf : Cause → ℕ
 placeOf (Plain n) = 0
 placeOf (At n place) = place
 
+-- the word at a stream's end
+abbrev pub measureNumber : Measure → ℕ
+measureNumber Measure.Short = 0
+measureNumber Measure.Exact = 1
+measureNumber Measure.Over = 2
+measureNumber Measure.Unstated = 3
+
 abbrev pub weight : Event → ℕ
 weight Event.None = packed 0 0 0 0
 weight (Event.Open id role keep) = packed 1 id role (flagNumber keep)
 weight (Event.Ready id n) = packed 2 id 0 n
 weight (Event.Data id stream n) = packed 3 id stream (n % 65536)
-weight (Event.End id stream) = packed 4 id stream 0
+weight (Event.End id stream measure) = packed 4 id stream (measureNumber measure)
 weight (Event.Abort id) = packed 5 id 0 0
 weight (Event.Refuse id n) = packed 6 id n 0
 weight (Event.Fault id cause) = packed 7 id (causeNumber cause) (placeOf cause)

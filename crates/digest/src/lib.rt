@@ -6,6 +6,7 @@ use codes::fault_place;
 use fastcgi::Close;
 use fastcgi::Event;
 use fastcgi::Fault;
+use fastcgi::Measure;
 use fastcgi::StepResult;
 use fastcgi::close_number;
 use fastcgi::fault_number;
@@ -18,7 +19,8 @@ ghost use Prim.Native.Nat.{ℕ, _≤_, _<_};
 ghost use Rattle.connection.specs.Codes.{eventOf, faultNumber, faultCause, closeNumber, closeCause};
 ghost use Rattle.codes.specs.Place.{causeOf};
 ghost use Rattle.conn_step.specs.Answer.{toldNumber, toldEvent};
-ghost use Rattle.digest.specs.Digest.{flagNumber, packed, placeOf, weight, toldWeight, mixed, nextEnd};
+ghost use Rattle.digest.specs.Digest.{flagNumber, measureNumber, packed, placeOf, weight, toldWeight, mixed};
+ghost use Rattle.digest.specs.Digest.{nextEnd};
 
 fn flag(b: bool) -> u8
     ensures { λ r. ⌜ r ≡ flagNumber b ⌝ }
@@ -57,6 +59,18 @@ fn closed_weight(cause: Close) -> u64
     pack(10, 0, close_number(cause), at)
 }
 
+// The number of a word at a stream's end.
+fn measure_number(measure: Measure) -> u16
+    ensures { λ r. ⌜ r ≡ measureNumber measure ⌝ }
+{
+    match measure {
+        Measure::Short => 0,
+        Measure::Exact => 1,
+        Measure::Over => 2,
+        Measure::Unstated => 3,
+    }
+}
+
 // The number of an event.
 fn event_weight(e: Event) -> u64
     ensures { λ r. ⌜ (r ≡ weight (eventOf e)) × (r < 281474976710656) ⌝ }
@@ -71,7 +85,11 @@ fn event_weight(e: Event) -> u64
             stream_type(stream),
             (count % 65536) as u16,
         ),
-        Event::End { id, stream } => pack(4, id, stream_type(stream), 0),
+        Event::End {
+            id,
+            stream,
+            measure,
+        } => pack(4, id, stream_type(stream), measure_number(measure)),
         Event::Abort { id } => pack(5, id, 0, 0),
         Event::Refuse { id, status } => pack(6, id, status_number(status), 0),
         Event::Fault { id, fault } => fault_weight(id, fault),

@@ -3,6 +3,7 @@ use mathlib.Core.Path.{_≡_, refl}
 use mathlib.Core.Bool.{true, false}
 use mathlib.Core.List.{[], _∷_, flatten}
 use lib.ListN.{length}
+use Rattle.connection.specs.declared.event.Measure.{Measure}
 use Rattle.connection.specs.Event.{Event}
 use Rattle.event_text.specs.Line.{LONGEST, decimalIn, decimal, hexDigit, eventLine, byteLine, eventLines}
 use Rattle.machine.specs.Cause.{Plain, At}
@@ -27,10 +28,25 @@ ready : eventLine (Event.Ready 10 0) ≡ 114 ∷ 101 ∷ 97 ∷ 100 ∷ 121 ∷ 
 unfolding decimalIn decimal eventLine
 ready = refl
 
--- end 1 stdin
-ended : eventLine (Event.End 1 5) ≡ 101 ∷ 110 ∷ 100 ∷ 32 ∷ 49 ∷ 32 ∷ 115 ∷ 116 ∷ 100 ∷ 105 ∷ 110 ∷ 10 ∷ []
+-- end 1 stdin unstated
+ended : eventLine (Event.End 1 5 Measure.Unstated) ≡ 101 ∷ 110 ∷ 100 ∷ 32 ∷ 49 ∷ 32 ∷ 115 ∷ 116 ∷ 100 ∷ 105 ∷ 110 ∷ 32 ∷ 117 ∷ 110 ∷ 115 ∷ 116 ∷ 97 ∷ 116 ∷ 101 ∷ 100 ∷ 10 ∷ []
 unfolding decimalIn decimal eventLine
 ended = refl
+
+-- end 2 data short
+ended-short : eventLine (Event.End 2 8 Measure.Short) ≡ 101 ∷ 110 ∷ 100 ∷ 32 ∷ 50 ∷ 32 ∷ 100 ∷ 97 ∷ 116 ∷ 97 ∷ 32 ∷ 115 ∷ 104 ∷ 111 ∷ 114 ∷ 116 ∷ 10 ∷ []
+unfolding decimalIn decimal eventLine
+ended-short = refl
+
+-- end 2 data exact
+ended-exact : eventLine (Event.End 2 8 Measure.Exact) ≡ 101 ∷ 110 ∷ 100 ∷ 32 ∷ 50 ∷ 32 ∷ 100 ∷ 97 ∷ 116 ∷ 97 ∷ 32 ∷ 101 ∷ 120 ∷ 97 ∷ 99 ∷ 116 ∷ 10 ∷ []
+unfolding decimalIn decimal eventLine
+ended-exact = refl
+
+-- end 2 data over
+ended-over : eventLine (Event.End 2 8 Measure.Over) ≡ 101 ∷ 110 ∷ 100 ∷ 32 ∷ 50 ∷ 32 ∷ 100 ∷ 97 ∷ 116 ∷ 97 ∷ 32 ∷ 111 ∷ 118 ∷ 101 ∷ 114 ∷ 10 ∷ []
+unfolding decimalIn decimal eventLine
+ended-over = refl
 
 -- fault 300 24
 faulted : eventLine (Event.Fault 300 (Plain 24)) ≡ 102 ∷ 97 ∷ 117 ∷ 108 ∷ 116 ∷ 32 ∷ 51 ∷ 48 ∷ 48 ∷ 32 ∷ 50 ∷ 52 ∷ 10 ∷ []

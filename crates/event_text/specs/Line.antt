@@ -7,8 +7,9 @@ use Rattle.wire.specs.Test.{if_then_else_, _<?_, _=?_}
 use Rattle.wire.specs.Buffer.{hasRoom}
 use Rattle.record_writer.specs.Written.{Placed, placed}
 use Rattle.record.specs.Names.{RESPONDER, AUTHORIZER, STDIN}
+use Rattle.connection.specs.declared.event.Measure.{Measure}
 use Rattle.connection.specs.Event.{Event}
-use Rattle.event_text.specs.Words.{atWord, openWord, readyWord, byteWord, endWord, abortWord, refuseWord, faultWord, queryWord, unknownWord, closedWord, responderWord, authorizerWord, filterWord, keepWord, dropWord, stdinWord, dataWord}
+use Rattle.event_text.specs.Words.{atWord, openWord, readyWord, byteWord, endWord, abortWord, refuseWord, faultWord, queryWord, unknownWord, closedWord, responderWord, authorizerWord, filterWord, keepWord, dropWord, stdinWord, dataWord, shortWord, exactWord, overWord, unstatedWord}
 use Rattle.machine.specs.Cause.{Cause, Plain, At}
 
 -- The most bytes of a line, that of `open 65535 authorizer keep`. The code has the same name.
@@ -56,6 +57,12 @@ abbrev pub keptWord : Bool → List ℕ
 keptWord true = keepWord
 keptWord false = dropWord
 
+abbrev pub measureWord : Measure → List ℕ
+measureWord Measure.Short = shortWord
+measureWord Measure.Exact = exactWord
+measureWord Measure.Over = overWord
+measureWord Measure.Unstated = unstatedWord
+
 -- What follows a line's first word: each field after a space, 32, and at the end a newline, 10.
 abbrev pub fieldsText : List (List ℕ) → List ℕ
 fieldsText [] = 10 ∷ []
@@ -75,7 +82,7 @@ eventLine Event.None = []
 eventLine (Event.Open id role keep) = line openWord (decimal id ∷ roleWord role ∷ keptWord keep ∷ [])
 eventLine (Event.Ready id n) = line readyWord (decimal id ∷ decimal n ∷ [])
 eventLine (Event.Data id stream n) = []
-eventLine (Event.End id stream) = line endWord (decimal id ∷ streamWord stream ∷ [])
+eventLine (Event.End id stream measure) = line endWord (decimal id ∷ streamWord stream ∷ measureWord measure ∷ [])
 eventLine (Event.Abort id) = line abortWord (decimal id ∷ [])
 eventLine (Event.Refuse id n) = line refuseWord (decimal id ∷ decimal n ∷ [])
 eventLine (Event.Fault id cause) = line faultWord (decimal id ∷ causeText cause ∷ [])
@@ -93,7 +100,7 @@ eventLines Event.None bytes = eventLine Event.None
 eventLines (Event.Open id role keep) bytes = eventLine (Event.Open id role keep)
 eventLines (Event.Ready id n) bytes = eventLine (Event.Ready id n)
 eventLines (Event.Data id stream n) bytes = flatten (map (byteLine id stream) bytes)
-eventLines (Event.End id stream) bytes = eventLine (Event.End id stream)
+eventLines (Event.End id stream measure) bytes = eventLine (Event.End id stream measure)
 eventLines (Event.Abort id) bytes = eventLine (Event.Abort id)
 eventLines (Event.Refuse id n) bytes = eventLine (Event.Refuse id n)
 eventLines (Event.Fault id n) bytes = eventLine (Event.Fault id n)

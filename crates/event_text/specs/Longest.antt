@@ -10,9 +10,10 @@ use Rattle.wire.specs.Test.{byTest, _=?_}
 use Rattle.wire.specs.Buffer.{putAt}
 use Rattle.record_writer.specs.Written.{Placed}
 use Rattle.record.specs.Names.{RESPONDER, AUTHORIZER, STDIN}
+use Rattle.connection.specs.declared.event.Measure.{Measure}
 use Rattle.connection.specs.Event.{Event}
 use Rattle.event_text.specs.Words.{openWord, readyWord, byteWord, endWord, abortWord, refuseWord, faultWord, queryWord, unknownWord, closedWord}
-use Rattle.event_text.specs.Line.{LONGEST, causeText, decimal, hex, flag, roleWord, streamWord, keptWord, line, eventLine, byteLine, linePlaced}
+use Rattle.event_text.specs.Line.{LONGEST, causeText, decimal, hex, flag, roleWord, streamWord, keptWord, measureWord, line, eventLine, byteLine, linePlaced}
 use Rattle.event_text.specs.LineLaws.{decimal-short}
 use Rattle.machine.specs.Cause.{Cause, Plain, At}
 
@@ -26,7 +27,7 @@ NumbersFit Event.None = Unit {0}
 NumbersFit (Event.Open id role keep) = id < 65536
 NumbersFit (Event.Ready id n) = (id < 65536) × (n < 65536)
 NumbersFit (Event.Data id stream n) = Unit {0}
-NumbersFit (Event.End id stream) = id < 65536
+NumbersFit (Event.End id stream measure) = id < 65536
 NumbersFit (Event.Abort id) = id < 65536
 NumbersFit (Event.Refuse id n) = (id < 65536) × (n < 65536)
 NumbersFit (Event.Fault id cause) = (id < 65536) × CauseFits cause
@@ -56,6 +57,12 @@ kept-short : (keep : Bool) → length (keptWord keep) ≤ 4
 kept-short true = omega arith
 kept-short false = omega arith
 
+measure-short : (measure : Measure) → length (measureWord measure) ≤ 8
+measure-short Measure.Short = omega arith
+measure-short Measure.Exact = omega arith
+measure-short Measure.Over = omega arith
+measure-short Measure.Unstated = omega arith
+
 cause-short : (cause : Cause) → CauseFits cause → length (causeText cause) ≤ 14
 cause-short (Plain n) h = omega (arith, decimal-short n h)
 cause-short (At n place) h = simp length-append (omega (arith, decimal-short n (h .0), decimal-short place (h .1)))
@@ -68,7 +75,8 @@ event-line-short (Event.Open id role keep) h =
     three-fields openWord (decimal id) (roleWord role) (keptWord keep) (omega (arith, decimal-short id h, role-short role, kept-short keep))
 event-line-short (Event.Ready id n) h = two-fields readyWord (decimal id) (decimal n) (omega (arith, decimal-short id (h .0), decimal-short n (h .1)))
 event-line-short (Event.Data id stream n) h = omega arith
-event-line-short (Event.End id stream) h = two-fields endWord (decimal id) (streamWord stream) (omega (arith, decimal-short id h, stream-short stream))
+event-line-short (Event.End id stream measure) h =
+    three-fields endWord (decimal id) (streamWord stream) (measureWord measure) (omega (arith, decimal-short id h, stream-short stream, measure-short measure))
 event-line-short (Event.Abort id) h = one-field abortWord (decimal id) (omega (arith, decimal-short id h))
 event-line-short (Event.Refuse id n) h = two-fields refuseWord (decimal id) (decimal n) (omega (arith, decimal-short id (h .0), decimal-short n (h .1)))
 event-line-short (Event.Fault id cause) h = two-fields faultWord (decimal id) (causeText cause) (omega (arith, decimal-short id (h .0), cause-short cause (h .1)))

@@ -78,3 +78,20 @@ stdinWord = 115 ∷ 116 ∷ 100 ∷ 105 ∷ 110 ∷ []
 -- "data"
 abbrev pub dataWord : List ℕ
 dataWord = 100 ∷ 97 ∷ 116 ∷ 97 ∷ []
+
+-- ---- what came of a stream
+-- "short"
+abbrev pub shortWord : List ℕ
+shortWord = 115 ∷ 104 ∷ 111 ∷ 114 ∷ 116 ∷ []
+
+-- "exact"
+abbrev pub exactWord : List ℕ
+exactWord = 101 ∷ 120 ∷ 97 ∷ 99 ∷ 116 ∷ []
+
+-- "over"
+abbrev pub overWord : List ℕ
+overWord = 111 ∷ 118 ∷ 101 ∷ 114 ∷ []
+
+-- "unstated"
+abbrev pub unstatedWord : List ℕ
+unstatedWord = 117 ∷ 110 ∷ 115 ∷ 116 ∷ 97 ∷ 116 ∷ 101 ∷ 100 ∷ []

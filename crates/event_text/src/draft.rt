@@ -1,5 +1,6 @@
 // A line in the making, and what is added to it.
 use codes::Place;
+use connection::event::Measure;
 use connection::event::Stream;
 use connection::request::Role;
 use wire::copy_into;
@@ -10,6 +11,7 @@ ghost use lib.ListN.{length};
 ghost use Rattle.connection.specs.Codes.{roleNumber, streamType};
 ghost use Rattle.codes.specs.Place.{causeOf};
 ghost use Rattle.event_text.specs.Line.{LONGEST, decimal, causeText, hexDigit, hex, roleWord, streamWord, keptWord};
+ghost use Rattle.event_text.specs.Line.{measureWord};
 ghost use Rattle.event_text.specs.Draft.{Says, Adds};
 
 // The most bytes of a line.
@@ -143,5 +145,17 @@ pub fn add_kept(d: Draft, keep: bool) -> Draft
         add(d, b" keep")
     } else {
         add(d, b" drop")
+    }
+}
+
+pub fn add_measure(d: Draft, measure: Measure) -> Draft
+    requires { ⌜ d .n + 9 ≤ LONGEST ⌝ }
+    ensures { λ r. ⌜ Adds d r (32 ∷ measureWord measure) 9 ⌝ }
+{
+    match measure {
+        Measure::Short => add(d, b" short"),
+        Measure::Exact => add(d, b" exact"),
+        Measure::Over => add(d, b" over"),
+        Measure::Unstated => add(d, b" unstated"),
     }
 }

@@ -4,6 +4,7 @@ use crate::draft::add;
 use crate::draft::add_cause;
 use crate::draft::add_hex;
 use crate::draft::add_kept;
+use crate::draft::add_measure;
 use crate::draft::add_number;
 use crate::draft::add_role;
 use crate::draft::add_stream;
@@ -18,6 +19,7 @@ use codes::status_number;
 use connection::event::Close;
 use connection::event::Event;
 use connection::event::Fault;
+use connection::event::Measure;
 use connection::event::Status;
 use connection::event::Stream;
 use connection::request::Role;
@@ -27,7 +29,7 @@ ghost use Prim.Native.Nat.{_≤_};
 ghost use lib.ListN.{length};
 ghost use Rattle.connection.specs.Codes.{roleNumber, streamType, statusNumber, faultCause, closeCause, eventOf};
 ghost use Rattle.event_text.specs.Line.{LONGEST, decimal, causeText, flag, roleWord, streamWord, keptWord, line};
-ghost use Rattle.event_text.specs.Line.{eventLine, byteLine};
+ghost use Rattle.event_text.specs.Line.{measureWord, eventLine, byteLine};
 ghost use Rattle.event_text.specs.Words.{openWord, readyWord, endWord, abortWord, refuseWord, faultWord};
 ghost use Rattle.event_text.specs.Words.{queryWord, unknownWord, closedWord};
 ghost use Rattle.event_text.specs.Draft.{Says};
@@ -61,10 +63,12 @@ fn ready_line(id: u16, n: u16) -> Draft
     line_of_two(b"ready", id, n)
 }
 
-fn end_line(id: u16, stream: Stream) -> Draft
-    ensures { λ r. ⌜ Says r (line endWord (decimal id ∷ streamWord (streamType stream) ∷ [])) LONGEST ⌝ }
+fn end_line(id: u16, stream: Stream, measure: Measure) -> Draft
+    ensures { λ r. ⌜ Says r
+        (line endWord (decimal id ∷ streamWord (streamType stream) ∷ measureWord measure ∷ [])) LONGEST ⌝ }
 {
-    finish(add_stream(add_number(begin(b"end"), id), stream))
+    let streamed = add_stream(add_number(begin(b"end"), id), stream);
+    finish(add_measure(streamed, measure))
 }
 
 fn abort_line(id: u16) -> Draft
@@ -134,7 +138,11 @@ pub(crate) fn event_line(e: Event) -> Draft
             stream: _,
             count: _,
         } => blank(),
-        Event::End { id, stream } => end_line(id, stream),
+        Event::End {
+            id,
+            stream,
+            measure,
+        } => end_line(id, stream, measure),
         Event::Abort { id } => abort_line(id),
         Event::Refuse { id, status } => refuse_line(id, status),
         Event::Fault { id, fault } => fault_line(id, fault),

@@ -22,6 +22,7 @@ use Rattle.connection.specs.Sizes.{CHUNK}
 use Rattle.connection.specs.Slots.{requestAt, putRequest, takeSlot, holdsId, findFrom, noRequests}
 use Rattle.connection.specs.Shape.{idFits, slotsFit, positionFits, inShape}
 use Rattle.connection.specs.Step.{openWith, noFrame, closedConn}
+use Rattle.connection.specs.Request.{unshown}
 use Rattle.connection.specs.RequestCalls.{writes, sayIn}
 use Rattle.connection.specs.Calls.{lentRefusal, callRefusal, say, valuesOf}
 
@@ -32,7 +33,7 @@ ended =
     record {
       id = 1;
       length = 0;
-      state = record { role = Role.Responder; turn = Turn.Done; life = Life.Live; keep = true; «out_ended» = true; «err_used» = false; «err_ended» = false };
+      state = record { role = Role.Responder; turn = Turn.Done; life = Life.Live; keep = true; «out_ended» = true; «err_used» = false; «err_ended» = false; shown = unshown };
     }
 
 abbrev talking : Conn

@@ -19,7 +19,7 @@ use Rattle.machine.specs.Timeline.{byteItems}
 use Rattle.connection.specs.declared.request.Turn.{Turn}
 use Rattle.connection.specs.Sizes.{AREA}
 use Rattle.connection.specs.Event.{Event}
-use Rattle.connection.specs.Request.{Held, withTurn, withLife, faulted, aborted, turned, paramsFault, paramsEnded, onParams, onStdin, onData, onInput, onLive, onHeader, grown, opened}
+use Rattle.connection.specs.Request.{Held, counted, withTurn, withLife, faulted, aborted, turned, paramsFault, paramsEnded, onParams, onStdin, onData, onInput, onLive, onHeader, grown, opened}
 use Rattle.connection.specs.RequestCalls as Of
 use Rattle.connection.specs.Slots.{requestAt, areaAt, putRequest, putArea, takeSlot, freeSlot, holdsId, findFrom}
 use Rattle.connection.specs.Shape.{idFits, slotsFit, positionFits, inShape}
@@ -58,6 +58,6 @@ pub record Premises : Type 0 where
   stops-early : seenOfOne (header 1 1 8 ∷ []) ≡ []
 
 pub premises : Premises
-unfolding copied taken lowestFree withBit withSlot withoutBit withoutSlot headerOf beginBodyOf headerBytes endBodyBytes advanced inHeader number4 fourAt lengthAt pairAt sameBytes pairsIn pairsFrom endingOf wellFormed repeatsIn repeats firstIn firstNamed paddingOf recordBytes chunksIn chunks streamBytes flatten withTurn withLife faulted aborted turned paramsFault paramsEnded onParams onStdin onData onInput onLive onHeader grown opened Of.valueIn Of.writes Of.saidOn Of.sayIn Of.owesOut Of.owesErr Of.finishBytes Of.finishIn requestAt areaAt putRequest putArea takeSlot freeSlot holdsId findFrom idFits slotsFit positionFits inShape onInactive onActive judged opens begun ofBegin ofRequest advances stepRefusal stepped started showing C.lentRefusal C.callRefusal C.value C.say C.released C.finishes C.finish byteItems requestOf called memoryAfter seenIn itemsOf finalMemory allSeen timeline startOf seenOf closes
+unfolding copied taken lowestFree withBit withSlot withoutBit withoutSlot headerOf beginBodyOf headerBytes endBodyBytes advanced inHeader number4 fourAt lengthAt pairAt sameBytes pairsIn pairsFrom endingOf wellFormed repeatsIn repeats firstIn firstNamed paddingOf recordBytes chunksIn chunks streamBytes flatten counted withTurn withLife faulted aborted turned paramsFault paramsEnded onParams onStdin onData onInput onLive onHeader grown opened Of.valueIn Of.writes Of.saidOn Of.sayIn Of.owesOut Of.owesErr Of.finishBytes Of.finishIn requestAt areaAt putRequest putArea takeSlot freeSlot holdsId findFrom idFits slotsFit positionFits inShape onInactive onActive judged opens begun ofBegin ofRequest advances stepRefusal stepped started showing C.lentRefusal C.callRefusal C.value C.say C.released C.finishes C.finish byteItems requestOf called memoryAfter seenIn itemsOf finalMemory allSeen timeline startOf seenOf closes
 premises =
     record { closed-by-another = refl; not-alone = refl; cut-in-header = refl; refused-for-others = refl; opens-alone = refl; stops-early = refl }

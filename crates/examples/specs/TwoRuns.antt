@@ -27,7 +27,7 @@ use Rattle.connection.specs.declared.request.Turn.{Turn}
 use Rattle.connection.specs.declared.request.Life.{Life}
 use Rattle.connection.specs.Sizes.{STORE, QUERY, AREA}
 use Rattle.connection.specs.Event.{Event}
-use Rattle.connection.specs.Request.{Held, withTurn, withLife, faulted, aborted, turned, paramsFault, paramsEnded, onParams, onStdin, onData, onInput, onLive, onHeader, grown, opened}
+use Rattle.connection.specs.Request.{Held, counted, withTurn, withLife, faulted, aborted, turned, paramsFault, paramsEnded, onParams, onStdin, onData, onInput, onLive, onHeader, grown, opened}
 use Rattle.connection.specs.RequestCalls as Of
 use Rattle.connection.specs.Slots.{requestAt, areaAt, putRequest, putArea, takeSlot, freeSlot, holdsId, findFrom}
 use Rattle.connection.specs.Shape.{idFits, slotsFit, positionFits, inShape}
@@ -128,11 +128,11 @@ abbrev pub B : WholeRun
 B = fromZeros alone pieces-alone
 
 -- ---- what is observed of 1 in A, written out
--- request 1 with its area: a list of so many bytes, the turn, whether STDERR was used
-abbrev one : ℕ → Turn → Bool → List ℕ → Held
-one n t used area =
+-- request 1 with its area: a list of so many bytes, the turn, whether STDERR was used, the STDIN bytes shown
+abbrev one : ℕ → Turn → Bool → ℕ → List ℕ → Held
+one n t used stdin area =
     record {
-      request = record { id = 1; length = n; state = record { role = Role.Responder; turn = t; life = Life.Live; keep = true; «out_ended» = false; «err_used» = used; «err_ended» = false } };
+      request = record { id = 1; length = n; state = record { role = Role.Responder; turn = t; life = Life.Live; keep = true; «out_ended» = false; «err_used» = used; «err_ended» = false; shown = record { stdin = stdin; «data» = 0 } } };
       area = area;
     }
 
@@ -145,36 +145,36 @@ pairArea = 1 ∷ 1 ∷ 65 ∷ 66 ∷ zeros (AREA - 4)
 pub observed-of-one : observed 1 A
     ≡ Heard (Note.Told (Event.Open 1 1 true))
     ∷ Heard (Note.Told (Event.Ready 1 4))
-    ∷ Answered 1 (ForValue (65 ∷ []) (33 ∷ [])) (ValueIs (66 ∷ [])) (some (one 4 Turn.Stdin false pairArea)) (some (one 4 Turn.Stdin false pairArea))
+    ∷ Answered 1 (ForValue (65 ∷ []) (33 ∷ [])) (ValueIs (66 ∷ [])) (some (one 4 Turn.Stdin false 0 pairArea)) (some (one 4 Turn.Stdin false 0 pairArea))
     ∷ Heard (Note.Shown 1 STDIN 45)
     ∷ Heard (Note.Shown 1 STDIN 49)
     ∷ Answered 1 (ForSay Output.Stderr (66 ∷ []) buffer)
     (Wrote 0 16 ((1 ∷ 7 ∷ 0 ∷ 1 ∷ 0 ∷ 1 ∷ 7 ∷ 0 ∷ 66 ∷ 0 ∷ 0 ∷ 0 ∷ 0 ∷ 0 ∷ 0 ∷ 0 ∷ []) ++ zeros 24))
-    (some (one 4 Turn.Stdin false pairArea)) (some (one 4 Turn.Stdin true pairArea))
+    (some (one 4 Turn.Stdin false 2 pairArea)) (some (one 4 Turn.Stdin true 2 pairArea))
     ∷ Answered 1 (ForFinish 938 buffer)
     (FinishedWith 0 32 false ((1 ∷ 6 ∷ 0 ∷ 1 ∷ 0 ∷ 0 ∷ 0 ∷ 0 ∷ 1 ∷ 7 ∷ 0 ∷ 1 ∷ 0 ∷ 0 ∷ 0 ∷ 0 ∷ 1 ∷ 3 ∷ 0 ∷ 1 ∷ 0 ∷ 8 ∷ 0 ∷ 0 ∷ 0 ∷ 0 ∷ 3 ∷ 170 ∷ 0 ∷ 0 ∷ 0 ∷ 0 ∷ []) ++ zeros 8))
-    (some (one 4 Turn.Stdin true pairArea)) none
+    (some (one 4 Turn.Stdin true 2 pairArea)) none
     ∷ Heard (Note.Told (Event.Open 1 1 true))
     ∷ []
-unfolding copied taken lowestFree withBit withSlot withoutBit withoutSlot headerOf beginBodyOf headerBytes endBodyBytes advanced inHeader number4 fourAt lengthAt pairAt sameBytes pairsIn pairsFrom endingOf wellFormed repeatsIn repeats firstIn firstNamed paddingOf recordBytes chunksIn chunks streamBytes flatten withTurn withLife faulted aborted turned paramsFault paramsEnded onParams onStdin onData onInput onLive onHeader grown opened Of.valueIn Of.writes Of.saidOn Of.sayIn Of.owesOut Of.owesErr Of.finishBytes Of.finishIn requestAt areaAt putRequest putArea takeSlot freeSlot holdsId findFrom idFits slotsFit positionFits inShape onInactive onActive judged opens begun ofBegin ofRequest advances stepRefusal stepped started showing C.lentRefusal C.callRefusal C.value C.say C.released C.finishes C.finish byteItems requestOf called memoryAfter seenIn itemsOf finalMemory allSeen timeline startOf seenOf
+unfolding copied taken lowestFree withBit withSlot withoutBit withoutSlot headerOf beginBodyOf headerBytes endBodyBytes advanced inHeader number4 fourAt lengthAt pairAt sameBytes pairsIn pairsFrom endingOf wellFormed repeatsIn repeats firstIn firstNamed paddingOf recordBytes chunksIn chunks streamBytes flatten counted withTurn withLife faulted aborted turned paramsFault paramsEnded onParams onStdin onData onInput onLive onHeader grown opened Of.valueIn Of.writes Of.saidOn Of.sayIn Of.owesOut Of.owesErr Of.finishBytes Of.finishIn requestAt areaAt putRequest putArea takeSlot freeSlot holdsId findFrom idFits slotsFit positionFits inShape onInactive onActive judged opens begun ofBegin ofRequest advances stepRefusal stepped started showing C.lentRefusal C.callRefusal C.value C.say C.released C.finishes C.finish byteItems requestOf called memoryAfter seenIn itemsOf finalMemory allSeen timeline startOf seenOf
 observed-of-one = refl
 
 -- At the end it is active anew, with an area of zeros.
-pub one-at-the-end : requestOf 1 (ending A) ≡ some (one 0 Turn.Params false (zeros AREA))
-unfolding copied taken lowestFree withBit withSlot withoutBit withoutSlot headerOf beginBodyOf headerBytes endBodyBytes advanced inHeader number4 fourAt lengthAt pairAt sameBytes pairsIn pairsFrom endingOf wellFormed repeatsIn repeats firstIn firstNamed paddingOf recordBytes chunksIn chunks streamBytes flatten withTurn withLife faulted aborted turned paramsFault paramsEnded onParams onStdin onData onInput onLive onHeader grown opened Of.valueIn Of.writes Of.saidOn Of.sayIn Of.owesOut Of.owesErr Of.finishBytes Of.finishIn requestAt areaAt putRequest putArea takeSlot freeSlot holdsId findFrom idFits slotsFit positionFits inShape onInactive onActive judged opens begun ofBegin ofRequest advances stepRefusal stepped started showing C.lentRefusal C.callRefusal C.value C.say C.released C.finishes C.finish byteItems requestOf called memoryAfter seenIn itemsOf finalMemory allSeen timeline startOf seenOf
+pub one-at-the-end : requestOf 1 (ending A) ≡ some (one 0 Turn.Params false 0 (zeros AREA))
+unfolding copied taken lowestFree withBit withSlot withoutBit withoutSlot headerOf beginBodyOf headerBytes endBodyBytes advanced inHeader number4 fourAt lengthAt pairAt sameBytes pairsIn pairsFrom endingOf wellFormed repeatsIn repeats firstIn firstNamed paddingOf recordBytes chunksIn chunks streamBytes flatten counted withTurn withLife faulted aborted turned paramsFault paramsEnded onParams onStdin onData onInput onLive onHeader grown opened Of.valueIn Of.writes Of.saidOn Of.sayIn Of.owesOut Of.owesErr Of.finishBytes Of.finishIn requestAt areaAt putRequest putArea takeSlot freeSlot holdsId findFrom idFits slotsFit positionFits inShape onInactive onActive judged opens begun ofBegin ofRequest advances stepRefusal stepped started showing C.lentRefusal C.callRefusal C.value C.say C.released C.finishes C.finish byteItems requestOf called memoryAfter seenIn itemsOf finalMemory allSeen timeline startOf seenOf
 one-at-the-end = refl
 
 -- ---- the premises
 ends-between : EndsBetweenRecords A
-unfolding copied taken lowestFree withBit withSlot withoutBit withoutSlot headerOf beginBodyOf headerBytes endBodyBytes advanced inHeader number4 fourAt lengthAt pairAt sameBytes pairsIn pairsFrom endingOf wellFormed repeatsIn repeats firstIn firstNamed paddingOf recordBytes chunksIn chunks streamBytes flatten withTurn withLife faulted aborted turned paramsFault paramsEnded onParams onStdin onData onInput onLive onHeader grown opened Of.valueIn Of.writes Of.saidOn Of.sayIn Of.owesOut Of.owesErr Of.finishBytes Of.finishIn requestAt areaAt putRequest putArea takeSlot freeSlot holdsId findFrom idFits slotsFit positionFits inShape onInactive onActive judged opens begun ofBegin ofRequest advances stepRefusal stepped started showing C.lentRefusal C.callRefusal C.value C.say C.released C.finishes C.finish byteItems requestOf called memoryAfter seenIn itemsOf finalMemory allSeen timeline startOf seenOf
+unfolding copied taken lowestFree withBit withSlot withoutBit withoutSlot headerOf beginBodyOf headerBytes endBodyBytes advanced inHeader number4 fourAt lengthAt pairAt sameBytes pairsIn pairsFrom endingOf wellFormed repeatsIn repeats firstIn firstNamed paddingOf recordBytes chunksIn chunks streamBytes flatten counted withTurn withLife faulted aborted turned paramsFault paramsEnded onParams onStdin onData onInput onLive onHeader grown opened Of.valueIn Of.writes Of.saidOn Of.sayIn Of.owesOut Of.owesErr Of.finishBytes Of.finishIn requestAt areaAt putRequest putArea takeSlot freeSlot holdsId findFrom idFits slotsFit positionFits inShape onInactive onActive judged opens begun ofBegin ofRequest advances stepRefusal stepped started showing C.lentRefusal C.callRefusal C.value C.say C.released C.finishes C.finish byteItems requestOf called memoryAfter seenIn itemsOf finalMemory allSeen timeline startOf seenOf
 ends-between = between-whole A (record { is-open = refl; no-content = refl; no-padding = refl; no-header = refl })
 
 never-overloaded : refusedIn 1 (observedIn A) ≡ false
-unfolding refusedIn copied taken lowestFree withBit withSlot withoutBit withoutSlot headerOf beginBodyOf headerBytes endBodyBytes advanced inHeader number4 fourAt lengthAt pairAt sameBytes pairsIn pairsFrom endingOf wellFormed repeatsIn repeats firstIn firstNamed paddingOf recordBytes chunksIn chunks streamBytes flatten withTurn withLife faulted aborted turned paramsFault paramsEnded onParams onStdin onData onInput onLive onHeader grown opened Of.valueIn Of.writes Of.saidOn Of.sayIn Of.owesOut Of.owesErr Of.finishBytes Of.finishIn requestAt areaAt putRequest putArea takeSlot freeSlot holdsId findFrom idFits slotsFit positionFits inShape onInactive onActive judged opens begun ofBegin ofRequest advances stepRefusal stepped started showing C.lentRefusal C.callRefusal C.value C.say C.released C.finishes C.finish byteItems requestOf called memoryAfter seenIn itemsOf finalMemory allSeen timeline startOf seenOf
+unfolding refusedIn copied taken lowestFree withBit withSlot withoutBit withoutSlot headerOf beginBodyOf headerBytes endBodyBytes advanced inHeader number4 fourAt lengthAt pairAt sameBytes pairsIn pairsFrom endingOf wellFormed repeatsIn repeats firstIn firstNamed paddingOf recordBytes chunksIn chunks streamBytes flatten counted withTurn withLife faulted aborted turned paramsFault paramsEnded onParams onStdin onData onInput onLive onHeader grown opened Of.valueIn Of.writes Of.saidOn Of.sayIn Of.owesOut Of.owesErr Of.finishBytes Of.finishIn requestAt areaAt putRequest putArea takeSlot freeSlot holdsId findFrom idFits slotsFit positionFits inShape onInactive onActive judged opens begun ofBegin ofRequest advances stepRefusal stepped started showing C.lentRefusal C.callRefusal C.value C.say C.released C.finishes C.finish byteItems requestOf called memoryAfter seenIn itemsOf finalMemory allSeen timeline startOf seenOf
 never-overloaded = refl
 
 alone-is-purged : timelineOf B ≡ purge 1 (timelineOf A)
-unfolding purgeFrom scanNext scanWhole scanLeft isOwn isOwnCall itemBytes headerId headerContent headerPadding copied taken lowestFree withBit withSlot withoutBit withoutSlot headerOf beginBodyOf headerBytes endBodyBytes advanced inHeader number4 fourAt lengthAt pairAt sameBytes pairsIn pairsFrom endingOf wellFormed repeatsIn repeats firstIn firstNamed paddingOf recordBytes chunksIn chunks streamBytes flatten withTurn withLife faulted aborted turned paramsFault paramsEnded onParams onStdin onData onInput onLive onHeader grown opened Of.valueIn Of.writes Of.saidOn Of.sayIn Of.owesOut Of.owesErr Of.finishBytes Of.finishIn requestAt areaAt putRequest putArea takeSlot freeSlot holdsId findFrom idFits slotsFit positionFits inShape onInactive onActive judged opens begun ofBegin ofRequest advances stepRefusal stepped started showing C.lentRefusal C.callRefusal C.value C.say C.released C.finishes C.finish byteItems requestOf called memoryAfter seenIn itemsOf finalMemory allSeen timeline startOf seenOf
+unfolding purgeFrom scanNext scanWhole scanLeft isOwn isOwnCall itemBytes headerId headerContent headerPadding copied taken lowestFree withBit withSlot withoutBit withoutSlot headerOf beginBodyOf headerBytes endBodyBytes advanced inHeader number4 fourAt lengthAt pairAt sameBytes pairsIn pairsFrom endingOf wellFormed repeatsIn repeats firstIn firstNamed paddingOf recordBytes chunksIn chunks streamBytes flatten counted withTurn withLife faulted aborted turned paramsFault paramsEnded onParams onStdin onData onInput onLive onHeader grown opened Of.valueIn Of.writes Of.saidOn Of.sayIn Of.owesOut Of.owesErr Of.finishBytes Of.finishIn requestAt areaAt putRequest putArea takeSlot freeSlot holdsId findFrom idFits slotsFit positionFits inShape onInactive onActive judged opens begun ofBegin ofRequest advances stepRefusal stepped started showing C.lentRefusal C.callRefusal C.value C.say C.released C.finishes C.finish byteItems requestOf called memoryAfter seenIn itemsOf finalMemory allSeen timeline startOf seenOf
 alone-is-purged = refl
 
 -- So what is observed of 1 is the same in B.

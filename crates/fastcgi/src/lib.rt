@@ -16,6 +16,7 @@ pub use connection::sizes::SLOTS;
 pub use connection::event::Close;
 pub use connection::event::Event;
 pub use connection::event::Fault;
+pub use connection::event::Measure;
 pub use connection::event::Status;
 pub use connection::event::Stream;
 pub use connection::request::Role;

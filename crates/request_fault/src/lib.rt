@@ -5,8 +5,10 @@ use connection::event::Fault;
 use connection::request::Due;
 use connection::request::Life;
 use connection::request::Request;
+use connection::request::Shown;
 use connection::request::Turn;
 use request_state::with_life;
+use request_state::with_shown;
 use request_state::with_turn;
 use wire::clear;
 ghost use mathlib.Core.Path.{_≡_};
@@ -21,14 +23,15 @@ pub struct Ruling {
     pub event: Event,
 }
 
-// A fault zeroes the area and spends the request.
+// A fault zeroes the area and the counts and spends the request.
 pub fn fault(r: Request, area: &mut [u8], f: Fault) -> Ruling
     ensures { λ x. ⌜ ruledBy x (now (area .exit)) ≡ faulted (held r (now (area .entry))) (faultCause f) ⌝ }
 {
     clear(area);
     let id = r.id;
     let old = r.state;
-    let state = with_life(old, Life::Faulted);
+    let spent = with_life(old, Life::Faulted);
+    let state = with_shown(spent, Shown { stdin: 0, data: 0 });
     Ruling {
         request: Request {
             id: id,
@@ -40,7 +43,7 @@ pub fn fault(r: Request, area: &mut [u8], f: Fault) -> Ruling
     }
 }
 
-// An abort spends the request; its area stays.
+// An abort spends the request; its area and its counts stay.
 pub fn abort(r: Request, area: &mut [u8]) -> Ruling
     ensures { λ x. ⌜ ruledBy x (now (area .exit)) ≡ aborted (held r (now (area .entry))) ⌝ }
 {

@@ -2,6 +2,7 @@
 // area, and sees no other.
 use connection::event::Event;
 use connection::event::Fault;
+use connection::event::Measure;
 use connection::event::Stream;
 use connection::request::Due;
 use connection::request::Request;
@@ -15,12 +16,19 @@ use request_fault::end_turn;
 use request_fault::fault;
 use request_state::after_params;
 use request_state::after_stdin;
+use request_state::show_more;
+use request_state::with_shown;
+use stated_length::Stated;
+use stated_length::stated_in;
 use wire::copy_into;
 use wire::least;
 ghost use mathlib.Core.Path.{_≡_};
 ghost use Prim.Native.Nat.{_≤_};
 ghost use lib.ListN.{length};
 ghost use Rattle.connection.specs.Request.{listOf, paramsFault, paramsEnded, onParams, onStdin, onData, grown};
+ghost use Rattle.connection.specs.Codes.{streamDue};
+ghost use Rattle.connection.specs.Request.{measured, countsOn};
+ghost use Rattle.stated_length.specs.Stated.{statedBy, statedIn};
 ghost use Rattle.request_fault.specs.Answer.{held, ruledBy};
 ghost use Rattle.request_input.specs.Answer.{endCause};
 
@@ -95,6 +103,32 @@ pub fn on_params(r: Request, area: &mut [u8], n: u16) -> Ruling
     }
 }
 
+// A count against a stated length.
+fn measure(count: u32, stated: Stated) -> Measure
+    ensures { λ x. ⌜ x ≡ measured count (statedBy stated) ⌝ }
+{
+    let Stated::Length(n) = stated else {
+        return Measure::Unstated;
+    };
+    if count < n {
+        return Measure::Short;
+    }
+    if n < count {
+        return Measure::Over;
+    }
+    Measure::Exact
+}
+
+// A count against the length that the request's list states under a name.
+fn own_measure<'a>(r: Request, area: &'a [u8], name: &'a [u8], count: u32) -> Measure
+    ensures { λ x. ⌜ x ≡ measured count (statedIn (listOf (held r (now (area .entry)))) (now (name .entry))) ⌝ }
+{
+    let z: usize = 0;
+    let n = least(r.length as usize, area.len());
+    let stated = stated_in(&area[z..n], name);
+    measure(count, stated)
+}
+
 // STDIN with n content bytes.
 pub fn on_stdin(r: Request, area: &mut [u8], n: u16) -> Ruling
     ensures { λ x. ⌜ ruledBy x (now (area .exit)) ≡ onStdin n (held r (now (area .entry))) ⌝ }
@@ -102,7 +136,9 @@ pub fn on_stdin(r: Request, area: &mut [u8], n: u16) -> Ruling
     if n == 0 {
         let m = r.state;
         let role = m.role;
+        let shown = m.shown;
         let t = after_stdin(role);
+        let measure = own_measure(r, area, b"CONTENT_LENGTH", shown.stdin);
         return end_turn(
             r,
             area,
@@ -110,6 +146,7 @@ pub fn on_stdin(r: Request, area: &mut [u8], n: u16) -> Ruling
             Event::End {
                 id: r.id,
                 stream: Stream::Stdin,
+                measure: measure,
             },
         );
     }
@@ -125,6 +162,9 @@ pub fn on_data(r: Request, area: &mut [u8], n: u16) -> Ruling
     ensures { λ x. ⌜ ruledBy x (now (area .exit)) ≡ onData n (held r (now (area .entry))) ⌝ }
 {
     if n == 0 {
+        let m = r.state;
+        let shown = m.shown;
+        let measure = own_measure(r, area, b"FCGI_DATA_LENGTH", shown.data);
         return end_turn(
             r,
             area,
@@ -132,6 +172,7 @@ pub fn on_data(r: Request, area: &mut [u8], n: u16) -> Ruling
             Event::End {
                 id: r.id,
                 stream: Stream::Data,
+                measure: measure,
             },
         );
     }
@@ -160,5 +201,28 @@ pub fn grow(r: Request, area: &mut [u8], bytes: &[u8]) -> Request
         id: r.id,
         length: (had + n) as u16,
         state: state,
+    }
+}
+
+// STDIN or DATA content for this request: n bytes are shown, and counted.
+pub fn count_shown(r: Request, due: Due, n: usize) -> Request
+    ensures { λ x. ⌜ x ≡ countsOn due n r ⌝ }
+{
+    let old = r.state;
+    let shown = show_more(due, n, old.shown);
+    Request {
+        id: r.id,
+        length: r.length,
+        state: with_shown(old, shown),
+    }
+}
+
+// What the content of a stream is due to.
+pub fn stream_due(stream: Stream) -> Due
+    ensures { λ x. ⌜ x ≡ streamDue stream ⌝ }
+{
+    match stream {
+        Stream::Stdin => Due::Stdin,
+        Stream::Data => Due::Data,
     }
 }

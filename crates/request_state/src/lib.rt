@@ -1,12 +1,15 @@
 // The state of one request: the turn of its streams, and whether it is spent.
+use connection::request::Due;
 use connection::request::Life;
 use connection::request::Request;
 use connection::request::RequestState;
 use connection::request::Role;
+use connection::request::Shown;
 use connection::request::Turn;
 use record::names;
 ghost use mathlib.Core.Path.{_≡_};
-ghost use Rattle.connection.specs.Request.{withTurn, withLife, isSpent, afterParams, afterStdin, turnType, opened};
+ghost use Rattle.connection.specs.Request.{withTurn, withLife, withShown, counted, shownMore, isSpent};
+ghost use Rattle.connection.specs.Request.{afterParams, afterStdin, turnType, opened};
 ghost use Rattle.connection.specs.RequestCalls.{inParams, isFaulted};
 
 pub fn with_turn(m: RequestState, t: Turn) -> RequestState
@@ -14,6 +17,7 @@ pub fn with_turn(m: RequestState, t: Turn) -> RequestState
 {
     let role = m.role;
     let life = m.life;
+    let shown = m.shown;
     RequestState {
         role: role,
         turn: t,
@@ -22,6 +26,7 @@ pub fn with_turn(m: RequestState, t: Turn) -> RequestState
         out_ended: m.out_ended,
         err_used: m.err_used,
         err_ended: m.err_ended,
+        shown: shown,
     }
 }
 
@@ -30,6 +35,7 @@ pub fn with_life(m: RequestState, l: Life) -> RequestState
 {
     let role = m.role;
     let turn = m.turn;
+    let shown = m.shown;
     RequestState {
         role: role,
         turn: turn,
@@ -38,6 +44,55 @@ pub fn with_life(m: RequestState, l: Life) -> RequestState
         out_ended: m.out_ended,
         err_used: m.err_used,
         err_ended: m.err_ended,
+        shown: shown,
+    }
+}
+
+// With what was shown of its input.
+pub fn with_shown(m: RequestState, c: Shown) -> RequestState
+    ensures { λ r. ⌜ r ≡ withShown m c ⌝ }
+{
+    let role = m.role;
+    let turn = m.turn;
+    let life = m.life;
+    RequestState {
+        role: role,
+        turn: turn,
+        life: life,
+        keep: m.keep,
+        out_ended: m.out_ended,
+        err_used: m.err_used,
+        err_ended: m.err_ended,
+        shown: c,
+    }
+}
+
+// A count, n bytes later: it stays at its largest number.
+fn count_on(count: u32, n: usize) -> u32
+    ensures { λ r. ⌜ r ≡ counted count n ⌝ }
+{
+    let left = (4294967295 - count) as usize;
+    if n < left {
+        return count + n as u32;
+    }
+    4294967295
+}
+
+// What was shown, n bytes of that content later.
+pub fn show_more(due: Due, n: usize, c: Shown) -> Shown
+    ensures { λ r. ⌜ r ≡ shownMore due n c ⌝ }
+{
+    match due {
+        Due::Skip => c,
+        Due::Params => c,
+        Due::Stdin => Shown {
+            stdin: count_on(c.stdin, n),
+            data: c.data,
+        },
+        Due::Data => Shown {
+            stdin: c.stdin,
+            data: count_on(c.data, n),
+        },
     }
 }
 
@@ -98,6 +153,7 @@ pub fn open_request(id: u16, role: Role, keep: bool) -> Request
             out_ended: false,
             err_used: false,
             err_ended: false,
+            shown: Shown { stdin: 0, data: 0 },
         },
     }
 }

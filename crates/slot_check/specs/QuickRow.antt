@@ -76,7 +76,7 @@ neither true b e = let z : _≡_ {A = ℕ} 0 1 = cc in absurd (omega arith)
 module _ (ids lengths : List ℕ) (occupied : ℕ) where
   abbrev slots : Table
   slots =
-      record { ids = ids; lengths = lengths; standings = []; keep = 0; «out_ended» = 0; «err_used» = 0; «err_ended» = 0; occupied = occupied }
+      record { ids = ids; lengths = lengths; standings = []; keep = 0; «out_ended» = 0; «err_used» = 0; «err_ended» = 0; «stdin_shown» = []; «data_shown» = []; occupied = occupied }
 
   fits-tidy : slotsFit SLOTS ids lengths occupied 0 ≡ true → Tidy slots
   unfolding inShape positionFits

@@ -28,6 +28,8 @@ put-out t i r s h =
       mark-out i (m .«out_ended») (t .«out_ended») h,
       mark-out i (m .«err_used») (t .«err_used») h,
       mark-out i (m .«err_ended») (t .«err_ended») h,
+      set-out (t .«stdin_shown») i (m .shown .stdin) (omega arith),
+      set-out (t .«data_shown») i (m .shown .«data») (omega arith),
     ))
 
 -- The words of a table have a bit for each slot, and no more.
@@ -50,6 +52,8 @@ request-out t i s n h =
       taken-out SLOTS i (t .«out_ended») (n .«out_ended») h,
       taken-out SLOTS i (t .«err_used») (n .«err_used») h,
       taken-out SLOTS i (t .«err_ended») (n .«err_ended») h,
+      List·getD-eq-default (t .«stdin_shown») 0 {n = i} (omega arith),
+      List·getD-eq-default (t .«data_shown») 0 {n = i} (omega arith),
     ))
 
 -- the length of an array of structs

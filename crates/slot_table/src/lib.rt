@@ -3,6 +3,7 @@ use connection::request::Life;
 use connection::request::Request;
 use connection::request::RequestState;
 use connection::request::Role;
+use connection::request::Shown;
 use connection::request::Standing;
 use connection::request::Turn;
 use connection::sizes::SLOTS;
@@ -30,6 +31,7 @@ pub fn no_state() -> RequestState
         out_ended: false,
         err_used: false,
         err_ended: false,
+        shown: Shown { stdin: 0, data: 0 },
     }
 }
 
@@ -78,6 +80,10 @@ pub fn request_at(t: Table, i: usize) -> Request
                 out_ended: is_taken(t.out_ended, i),
                 err_used: is_taken(t.err_used, i),
                 err_ended: is_taken(t.err_ended, i),
+                shown: Shown {
+                    stdin: t.stdin_shown[i],
+                    data: t.data_shown[i],
+                },
             },
         };
     }
@@ -98,6 +104,8 @@ pub fn put_request(t: Table, i: usize, r: Request) -> Table
         table.out_ended = mark_slot(t.out_ended, i, r.state.out_ended);
         table.err_used = mark_slot(t.err_used, i, r.state.err_used);
         table.err_ended = mark_slot(t.err_ended, i, r.state.err_ended);
+        table.stdin_shown[i] = r.state.shown.stdin;
+        table.data_shown[i] = r.state.shown.data;
     }
     table
 }
@@ -133,6 +141,8 @@ pub fn no_requests() -> Table
         out_ended: 0,
         err_used: 0,
         err_ended: 0,
+        stdin_shown: [0; SLOTS],
+        data_shown: [0; SLOTS],
         occupied: 0,
     }
 }

@@ -12,11 +12,12 @@ use Rattle.connection.specs.Laws.ShapeLaws.{shaped}
 use Rattle.connection.specs.Step.{Stepped, stateOf, stepped}
 use Rattle.conn_check.specs.Laws.{shape-of}
 use Rattle.conn_quick.specs.Quick.{isShown}
+use Rattle.conn_quick.specs.Passes.{countedAt}
 use Rattle.conn_step.specs.Answer.{toldNumber, toldEvent}
 use Rattle.call_step.specs.Check.{checkedStep, check-read, check-idle, byCheck, by-check}
 use Rattle.call_step.specs.declared.StepCheck.{StepCheck}
 use Rattle.call_step.specs.Next.{stepsBy, reached}
-use Rattle.call_step.specs.RoundLaws.{steps-stay, refused-last, reached-start, Due, ahead, Took, Kept, Round, round, connOf, quick-took, step-took, shown-took, shown-first, slot-low, shown-last}
+use Rattle.call_step.specs.RoundLaws.{steps-stay, refused-last, reached-start, Due, ahead, Took, Kept, Round, round, connOf, quick-took, step-took, shown-took, slot-low, shown-last}
 use borrow.Author.Needs.{needs}
 use Rattle.call_step.proofs.steps.Statement.{statement}
 use Rattle.call_step.proofs.steps.Tie as tie
@@ -62,9 +63,6 @@ enum-told c = search needs
 enum-told-2 : tie.Need-enum-told-2 Inv-loop μ-loop
 enum-told-2 c = search needs
 
-is-shown-requires : tie.Need-is-shown-requires Inv-loop μ-loop
-is-shown-requires c κs = search needs
-
 -- the first step is due
 first : (c : tie.After-enum-told2 Inv-loop μ-loop) → Due (c .before .before .before .before .before .before .before .before .before .before .before .args .c) (c .before .before .before .before .before .before .before .before .before .before .before .args .store .now) 0 (length (c .before .before .before .before .before .before .before .before .before .before .before .args .piece .now))
 first c =
@@ -72,18 +70,13 @@ first c =
     let r = check-read (length (a .store .now)) (inShape (a .c)) (a .c .«open») (length (a .piece .now)) (sym (checked (c .before .before)) ∙ c .enum-told2 .given .1) in
     record { fits = record { size = r .whole; shape = r .shape; is-open = r .reads }; left = r .some }
 
-show-content-requires : tie.Need-show-content-requires Inv-loop μ-loop
-show-content-requires c κs =
-    let a = c .before .before .before .before .before .before .before .before .before .before .before .before .before .before .before .args in
-    (sym (c .before .before .before .is-shown .ensures) ∙ c .before .before .if1 .taken, slot-low (a .c .frame .target) (a .c .table) _ _ (shaped _ (first (c .before .before .before .before) .fits .shape) .target))
-
 loop-holds : tie.Need-loop-holds Inv-loop μ-loop
 loop-holds c =
-    let a = c .before .before .before .before .before .before .before .before .before .before .before .before .before .args in
-    (omega arith, refl, λ e. first (c .before .before), reached-start (a .on) 0 Event.None (stateOf (a .c) (a .gathered .now)) (a .store .now) (a .piece .now))
+    let a = c .before .before .before .before .before .before .before .before .before .before .before .args in
+    (omega arith, refl, λ e. first c, reached-start (a .on) 0 Event.None (stateOf (a .c) (a .gathered .now)) (a .store .now) (a .piece .now))
 
-is-shown-requires-2 : tie.Need-is-shown-requires-2 Inv-loop μ-loop
-is-shown-requires-2 c κs = search needs
+is-shown-requires : tie.Need-is-shown-requires Inv-loop μ-loop
+is-shown-requires c κs = search needs
 
 sub-pass-header : tie.Need-sub-pass-header Inv-loop μ-loop
 sub-pass-header c = omega (arith, c .before .before .before .loop .inv .0)
@@ -100,11 +93,11 @@ pass-header-requires c κs = search needs
 add-used : tie.Need-add-used Inv-loop μ-loop
 add-used c =
     let l = c .before .before .before .before .before .before .before .before .loop in
-    let a = c .before .before .before .before .before .before .before .before .before .before .before .before .before .before .before .before .before .before .before .before .before .before .args in
+    let a = c .before .before .before .before .before .before .before .before .before .before .before .before .before .before .before .before .before .before .before .before .args in
     let p = c .before .before .before .pass-header in
     let due = l .inv .2 (c .before .before .before .before .before .before .before .loop-test .taken) in
-    let k = quick-took (l .used) (l .t) (l .f) (l .«open») (l .gathered) (l .store) (a .piece .now) (p .result) due (p .ensures (c .before .if3 .taken)) refl refl refl refl refl refl refl .0 in
-    omega (arith, round (a .on) _ _ _ _ _ _ _ _ _ due k .inside, c .before .before .before .before .before .before .before .before .before .before .before .before .before .before .before .before .before .before .before .before .before .before .good .1 .1 .1 .0)
+    let k = quick-took (l .used) (l .t) (l .f) (l .«open») (l .gathered) (l .store) (a .piece .now) (p .result) due (p .ensures (c .before .if2 .taken)) refl refl refl refl refl refl refl .0 in
+    omega (arith, round (a .on) _ _ _ _ _ _ _ _ _ due k .inside, c .before .before .before .before .before .before .before .before .before .before .before .before .before .before .before .before .before .before .before .before .good .1 .1 .1 .0)
 
 sub-take-step : tie.Need-sub-take-step Inv-loop μ-loop
 sub-take-step c = omega (arith, c .before .before .before .before .before .before .before .before .before .loop .inv .0)
@@ -124,29 +117,29 @@ take-step-requires c κs =
 add-used-2 : tie.Need-add-used-2 Inv-loop μ-loop
 add-used-2 c =
     let l = c .before .before .before .before .before .before .before .before .before .before .before .before .before .before .before .loop in
-    let a = c .before .before .before .before .before .before .before .before .before .before .before .before .before .before .before .before .before .before .before .before .before .before .before .before .before .before .before .before .before .args in
+    let a = c .before .before .before .before .before .before .before .before .before .before .before .before .before .before .before .before .before .before .before .before .before .before .before .before .before .before .before .args in
     let m = c .before .before .before .before .take-step in
     let due = l .inv .2 (c .before .before .before .before .before .before .before .before .before .before .before .before .before .before .loop-test .taken) in
     let k = step-took (l .used) (l .t) (l .f) (l .«open») (l .gathered) (l .store) (a .piece .now) (m .result) (m .last .1 .1 .0) (m .last .1 .0) (m .ensures .0) (m .ensures .1) (search needs) refl refl refl refl refl refl refl .0 in
-    omega (arith, round (a .on) _ _ _ _ _ _ _ _ _ due k .inside, c .before .before .before .before .before .before .before .before .before .before .before .before .before .before .before .before .before .before .before .before .before .before .before .before .before .before .before .before .before .good .1 .1 .1 .0)
+    omega (arith, round (a .on) _ _ _ _ _ _ _ _ _ due k .inside, c .before .before .before .before .before .before .before .before .before .before .before .before .before .before .before .before .before .before .before .before .before .before .before .before .before .before .before .good .1 .1 .1 .0)
 
 -- what one turn of the loop does
-took : (c : tie.Joined3 Inv-loop μ-loop)
-    → (let l = c .before .before .before .before .before .before .before .loop in (Took (l .used) (stateOf (connOf (l .t) (l .f) (l .«open»)) (l .gathered)) (l .store) (c .before .before .before .before .before .before .before .before .before .before .before .before .before .before .before .before .before .before .before .before .before .args .piece .now) (toldNumber (c .if3 .result)) (toldEvent (c .if3 .result)) (c .if3 .used)
-    (stateOf (connOf (c .if3 .t) (c .if3 .f) (c .if3 .«open»)) (c .if3 .gathered)) (c .if3 .store)) × (Kept (l .store) (stateOf (connOf (c .if3 .t) (c .if3 .f) (c .if3 .«open»)) (c .if3 .gathered)) (c .if3 .store)))
+took : (c : tie.Joined2 Inv-loop μ-loop)
+    → (let l = c .before .before .before .before .before .before .before .loop in (Took (l .used) (stateOf (connOf (l .t) (l .f) (l .«open»)) (l .gathered)) (l .store) (c .before .before .before .before .before .before .before .before .before .before .before .before .before .before .before .before .before .before .before .args .piece .now) (toldNumber (c .if2 .result)) (toldEvent (c .if2 .result)) (c .if2 .used)
+    (stateOf (connOf (c .if2 .t) (c .if2 .f) (c .if2 .«open»)) (c .if2 .gathered)) (c .if2 .store)) × (Kept (l .store) (stateOf (connOf (c .if2 .t) (c .if2 .f) (c .if2 .«open»)) (c .if2 .gathered)) (c .if2 .store)))
 took c =
     let l = c .before .before .before .before .before .before .before .loop in
-    let a = c .before .before .before .before .before .before .before .before .before .before .before .before .before .before .before .before .before .before .before .before .before .args in
+    let a = c .before .before .before .before .before .before .before .before .before .before .before .before .before .before .before .before .before .before .before .args in
     let due = l .inv .2 (c .before .before .before .before .before .before .loop-test .taken) in
     ⊎-elim
     (λ w. quick-took (l .used) (l .t) (l .f) (l .«open») (l .gathered) (l .store) (a .piece .now) (c .before .before .pass-header .result) due (c .before .before .pass-header .ensures (w .0 .taken)) (w .3) (w .4) (w .5) (w .6) (w .7) (w .8) (w .9))
     (λ w. let m = w .4 in step-took (l .used) (l .t) (l .f) (l .«open») (l .gathered) (l .store) (a .piece .now) (m .result) (m .last .1 .1 .0) (m .last .1 .0) (m .ensures .0) (m .ensures .1) (search needs) (w .11) (w .12) (w .13) (w .14) (w .15) (w .16) (w .17))
-    (c .if3 .came)
+    (c .if2 .came)
 
 -- and what it comes to
-rounded : (c : tie.Joined3 Inv-loop μ-loop)
-    → (let l = c .before .before .before .before .before .before .before .loop in Round (c .before .before .before .before .before .before .before .before .before .before .before .before .before .before .before .before .before .before .before .before .before .args .on) (l .used) (stateOf (connOf (l .t) (l .f) (l .«open»)) (l .gathered)) (l .store) (c .before .before .before .before .before .before .before .before .before .before .before .before .before .before .before .before .before .before .before .before .before .args .piece .now) (toldNumber (c .if3 .result)) (toldEvent (c .if3 .result)) (c .if3 .used)
-    (stateOf (connOf (c .if3 .t) (c .if3 .f) (c .if3 .«open»)) (c .if3 .gathered)) (c .if3 .store))
+rounded : (c : tie.Joined2 Inv-loop μ-loop)
+    → (let l = c .before .before .before .before .before .before .before .loop in Round (c .before .before .before .before .before .before .before .before .before .before .before .before .before .before .before .before .before .before .before .args .on) (l .used) (stateOf (connOf (l .t) (l .f) (l .«open»)) (l .gathered)) (l .store) (c .before .before .before .before .before .before .before .before .before .before .before .before .before .before .before .before .before .before .before .args .piece .now) (toldNumber (c .if2 .result)) (toldEvent (c .if2 .result)) (c .if2 .used)
+    (stateOf (connOf (c .if2 .t) (c .if2 .f) (c .if2 .«open»)) (c .if2 .gathered)) (c .if2 .store))
 rounded c = round _ _ _ _ _ _ _ _ _ _ (c .before .before .before .before .before .before .before .loop .inv .2 (c .before .before .before .before .before .before .loop-test .taken)) (took c .0)
 
 is-due-requires : tie.Need-is-due-requires Inv-loop μ-loop
@@ -156,9 +149,9 @@ loop-less : tie.Need-loop-less Inv-loop μ-loop
 loop-less c =
     let x = c .before in
     let l = x .before .before .before .before .before .before .before .loop in
-    let n = length (x .before .before .before .before .before .before .before .before .before .before .before .before .before .before .before .before .before .before .before .before .before .args .piece .now) in
+    let n = length (x .before .before .before .before .before .before .before .before .before .before .before .before .before .before .before .before .before .before .before .args .piece .now) in
     let from : Bool → ℕ = λ d. ahead d (l .used) n in
-    let to : Bool → ℕ = λ d. ahead d (x .if3 .used) n in
+    let to : Bool → ℕ = λ d. ahead d (x .if2 .used) n in
     omega (arith, rounded x .less, ap from (x .before .before .before .before .before .before .loop-test .taken), ap to (c .is-due .ensures))
 
 loop-again : tie.Need-loop-again Inv-loop μ-loop
@@ -167,9 +160,9 @@ loop-again c =
     let x = c .before in
     let r = rounded x in
     let k = took x .1 in
-    let a = x .before .before .before .before .before .before .before .before .before .before .before .before .before .before .before .before .before .before .before .before .before .args in
+    let a = x .before .before .before .before .before .before .before .before .before .before .before .before .before .before .before .before .before .before .before .args in
     let from : Bool → Stepped = λ d. reached (a .on) d (toldNumber (l .result)) (toldEvent (l .result)) (l .used) (stateOf (connOf (l .t) (l .f) (l .«open»)) (l .gathered)) (l .store) (a .piece .now) in
-    let to : Bool → Stepped = λ d. reached (a .on) d (toldNumber (x .if3 .result)) (toldEvent (x .if3 .result)) (x .if3 .used) (stateOf (connOf (x .if3 .t) (x .if3 .f) (x .if3 .«open»)) (x .if3 .gathered)) (x .if3 .store) (a .piece .now) in (
+    let to : Bool → Stepped = λ d. reached (a .on) d (toldNumber (x .if2 .result)) (toldEvent (x .if2 .result)) (x .if2 .used) (stateOf (connOf (x .if2 .t) (x .if2 .f) (x .if2 .«open»)) (x .if2 .gathered)) (x .if2 .store) (a .piece .now) in (
       r .inside,
       k .size ∙ l .inv .1,
       λ e. r .next k (sym (c .is-due .ensures) ∙ e),
@@ -177,11 +170,11 @@ loop-again c =
     )
 
 -- out of the loop with a step due, content is shown
-shown : (c : tie.Then4 Inv-loop μ-loop) → isShown (c .before .before .loop .f .position .content) (c .before .before .loop .f .target) ≡ true
+shown : (c : tie.Then3 Inv-loop μ-loop) → isShown (c .before .before .loop .f .position .content) (c .before .before .loop .f .target) ≡ true
 shown c =
     ⊎-elim
     (λ w. sym (w .1 .ensures) ∙ not-false _ (w .2 .left))
-    (λ w. let z : _≡_ {A = ℕ} 0 1 = cc (sym (c .if4 .taken) ∙ w .left) in absurd (omega arith))
+    (λ w. let z : _≡_ {A = ℕ} 0 1 = cc (sym (c .if3 .taken) ∙ w .left) in absurd (omega arith))
     (c .before .loop-test .came)
 
 sub-show-content : tie.Need-sub-show-content Inv-loop μ-loop
@@ -193,24 +186,51 @@ part-show-content-start c = omega (arith, c .before .before .before .before .loo
 part-show-content-end : tie.Need-part-show-content-end Inv-loop μ-loop
 part-show-content-end c = omega arith
 
-show-content-requires-2 : tie.Need-show-content-requires-2 Inv-loop μ-loop
-show-content-requires-2 c κs =
+show-content-requires : tie.Need-show-content-requires Inv-loop μ-loop
+show-content-requires c κs =
     let x = c .before .before .before in
     let l = x .before .before .loop in
-    (shown x, slot-low (l .f .target) (l .t) _ _ (shaped _ (l .inv .2 (x .if4 .taken) .fits .shape) .target))
+    (shown x, slot-low (l .f .target) (l .t) _ _ (shaped _ (l .inv .2 (x .if3 .taken) .fits .shape) .target))
 
 -- what the step comes to that shows it
-last : (c : tie.After-show-content2 Inv-loop μ-loop)
-    → (let l = c .before .before .before .before .before .before .loop in Round (c .before .before .before .before .before .before .before .before .before .before .before .before .before .before .before .before .before .before .before .before .args .on) (l .used) (stateOf (connOf (l .t) (l .f) (l .«open»)) (l .gathered)) (l .store) (c .before .before .before .before .before .before .before .before .before .before .before .before .before .before .before .before .before .before .before .before .args .piece .now) 0 (eventOf (c .show-content2 .result .event)) (l .used + c .show-content2 .result .used)
-    (stateOf (connOf (l .t) (c .show-content2 .result .frame) (l .«open»)) (l .gathered)) (l .store))
+last : (c : tie.After-show-content Inv-loop μ-loop)
+    → (let l = c .before .before .before .before .before .before .loop in Round (c .before .before .before .before .before .before .before .before .before .before .before .before .before .before .before .before .before .before .args .on) (l .used) (stateOf (connOf (l .t) (l .f) (l .«open»)) (l .gathered)) (l .store) (c .before .before .before .before .before .before .before .before .before .before .before .before .before .before .before .before .before .before .args .piece .now) 0 (eventOf (c .show-content .result .event)) (l .used + c .show-content .result .used)
+    (stateOf (connOf (countedAt (l .t) (c .show-content .result .slot) (c .show-content .result .due) (c .show-content .result .used)) (c .show-content .result .frame) (l .«open»)) (l .gathered)) (l .store))
 last c =
     let l = c .before .before .before .before .before .before .loop in
-    let a = c .before .before .before .before .before .before .before .before .before .before .before .before .before .before .before .before .before .before .before .before .args in
-    let due = l .inv .2 (c .before .before .before .before .if4 .taken) in
-    round _ _ _ _ _ _ _ _ _ _ due (shown-took (l .used) (l .t) (l .f) (l .«open») (l .gathered) (l .store) (a .piece .now) (c .show-content2 .result) due (c .show-content2 .ensures (l .t) (l .gathered) (l .store) refl))
+    let a = c .before .before .before .before .before .before .before .before .before .before .before .before .before .before .before .before .before .before .args in
+    let due = l .inv .2 (c .before .before .before .before .if3 .taken) in
+    round _ _ _ _ _ _ _ _ _ _ due (shown-took (l .used) (l .t) (l .f) (l .«open») (l .gathered) (l .store) (a .piece .now) (c .show-content .result) due (c .show-content .ensures .1 (l .t) (l .gathered) (l .store) refl))
+
+mul-t52 : tie.Need-mul-t52 Inv-loop μ-loop
+mul-t52 c = omega (arith, c .show-content .ensures .0)
+
+element-copy-out-t57 : tie.Need-element-copy-out-t57 Inv-loop μ-loop
+element-copy-out-t57 c = omega (arith, c .show-content .ensures .0)
+
+mul-t58 : tie.Need-mul-t58 Inv-loop μ-loop
+mul-t58 c = omega (arith, c .before .show-content .ensures .0)
+
+element-copy-out-t61 : tie.Need-element-copy-out-t61 Inv-loop μ-loop
+element-copy-out-t61 c = omega (arith, c .before .show-content .ensures .0)
+
+show-more-requires : tie.Need-show-more-requires Inv-loop μ-loop
+show-more-requires c κs = search needs
 
 add-used-3 : tie.Need-add-used-3 Inv-loop μ-loop
-add-used-3 c = omega (arith, last (c .before) .inside, c .before .before .before .before .before .before .before .before .before .before .before .before .before .before .before .before .before .before .before .before .before .good .1 .1 .1 .0)
+add-used-3 c = omega (arith, last (c .before .before .before .before) .inside, c .before .before .before .before .before .before .before .before .before .before .before .before .before .before .before .before .before .before .before .before .before .before .good .1 .1 .1 .0)
+
+mul-t : tie.Need-mul-t Inv-loop μ-loop
+mul-t c = omega (arith, c .before .before .before .before .before .show-content .ensures .0)
+
+element-write-t : tie.Need-element-write-t Inv-loop μ-loop
+element-write-t c = omega (arith, c .before .before .before .before .before .show-content .ensures .0)
+
+mul-t-2 : tie.Need-mul-t-2 Inv-loop μ-loop
+mul-t-2 c = omega (arith, c .before .before .before .before .before .show-content .ensures .0)
+
+element-write-t-2 : tie.Need-element-write-t-2 Inv-loop μ-loop
+element-write-t-2 c = omega (arith, c .before .before .before .before .before .show-content .ensures .0)
 
 returns : tie.Need-returns Inv-loop μ-loop
 returns c =
@@ -223,39 +243,33 @@ returns-2 c =
     let none = check-idle (length (a .store .now)) (inShape (a .c)) (a .c .«open») (length (a .piece .now)) (sym (checked (c .before .before)) ∙ c .enum-told .given .1) in
     steps-stay (a .on) (stateOf (a .c) (a .gathered .now)) (a .store .now) (a .piece .now) 0 (stepped-by (c .before .before) (c .enum-told .given .1)) (le-ltb 0 (length (a .piece .now)) (omega arith))
 
+same-length : tie.Need-same-length Inv-loop μ-loop
+same-length c = search (needs, c .before .before .before .before .before .before .before .before .before .before .before .loop .inv .1)
+
 returns-3 : tie.Need-returns-3 Inv-loop μ-loop
 returns-3 c =
-    let x = c .before in
-    let a = c .before .before .before .before .before .before .before .before .before .before .before .before .before .before .before .before .before .args in
-    shown-first (a .on) (a .c .table) (a .c .frame) (a .c .«open») (a .gathered .now) (a .store .now) (a .piece .now) (x .show-content .result) (first (c .before .before .before .before .before .before)) (sym (c .before .before .before .before .before .is-shown .ensures) ∙ c .before .before .before .before .if1 .taken)
-    (x .show-content .ensures (a .c .table) (a .gathered .now) (a .store .now) refl)
-
-same-length : tie.Need-same-length Inv-loop μ-loop
-same-length c = search (needs, c .before .before .before .before .before .before .before .before .loop .inv .1)
-
-returns-4 : tie.Need-returns-4 Inv-loop μ-loop
-returns-4 c =
-    let x = c .before .before in
+    let x = c .before .before .before .before .before in
     let l = x .before .before .before .before .before .before .loop in
-    let a = x .before .before .before .before .before .before .before .before .before .before .before .before .before .before .before .before .before .before .before .before .args in
-    let m = x .show-content2 in
+    let a = x .before .before .before .before .before .before .before .before .before .before .before .before .before .before .before .before .before .before .args in
+    let m = x .show-content in
     let st = stateOf (connOf (l .t) (l .f) (l .«open»)) (l .gathered) in
     let from : Bool → Stepped = λ d. reached (a .on) d (toldNumber (l .result)) (toldEvent (l .result)) (l .used) st (l .store) (a .piece .now) in
-    let to : Bool → Stepped = λ d. reached (a .on) d 0 (eventOf (m .result .event)) (l .used + m .result .used) (stateOf (connOf (l .t) (m .result .frame) (l .«open»)) (l .gathered)) (l .store) (a .piece .now) in
+    let to : Bool → Stepped = λ d. reached (a .on) d 0 (eventOf (m .result .event)) (l .used + m .result .used) (stateOf (connOf (countedAt (l .t) (m .result .slot) (m .result .due) (m .result .used)) (m .result .frame) (l .«open»)) (l .gathered)) (l .store) (a .piece .now) in
     let rest = take (length (a .piece .now) - l .used) (drop (l .used) (a .piece .now)) in
-    let is = m .ensures (l .t) (l .gathered) (l .store) refl in
+    let is = m .ensures .1 (l .t) (l .gathered) (l .store) refl in
     let none = shown-last (a .on) (l .t) (l .f) (l .gathered) (l .store) rest (eventOf (m .result .event)) (l .used + m .result .used) (length (a .piece .now)) (shown (x .before .before .before .before)) (ap (λ (s : Stepped). s .event) (sym is)) in
-    sym (l .inv .3 ∙ ap from (x .before .before .before .before .if4 .taken) ∙ last x .same (toldNumber (l .result)) (toldEvent (l .result)) ∙ ap to none)
+    simp (c .before .before .show-more .ensures)
+    (sym (l .inv .3 ∙ ap from (x .before .before .before .before .if3 .taken) ∙ last x .same (toldNumber (l .result)) (toldEvent (l .result)) ∙ ap to none))
 
 same-length-2 : tie.Need-same-length-2 Inv-loop μ-loop
 same-length-2 c = search (needs, c .before .before .loop .inv .1)
 
-returns-5 : tie.Need-returns-5 Inv-loop μ-loop
-returns-5 c =
+returns-4 : tie.Need-returns-4 Inv-loop μ-loop
+returns-4 c =
     let l = c .before .before .loop in
-    let a = c .before .before .before .before .before .before .before .before .before .before .before .before .before .before .before .before .args in
+    let a = c .before .before .before .before .before .before .before .before .before .before .before .before .before .before .args in
     let from : Bool → Stepped = λ d. reached (a .on) d (toldNumber (l .result)) (toldEvent (l .result)) (l .used) (stateOf (connOf (l .t) (l .f) (l .«open»)) (l .gathered)) (l .store) (a .piece .now) in
-    sym (l .inv .3 ∙ ap from (c .if4 .left))
+    sym (l .inv .3 ∙ ap from (c .if3 .left))
 
 pub steps-spec : {M : Type 1} → statement M
 steps-spec =
@@ -268,10 +282,8 @@ steps-spec =
     enum-known-check
     enum-told
     enum-told-2
-    is-shown-requires
-    show-content-requires
     loop-holds
-    is-shown-requires-2
+    is-shown-requires
     sub-pass-header
     part-pass-header-start
     part-pass-header-end
@@ -288,12 +300,20 @@ steps-spec =
     sub-show-content
     part-show-content-start
     part-show-content-end
-    show-content-requires-2
+    show-content-requires
+    mul-t52
+    element-copy-out-t57
+    mul-t58
+    element-copy-out-t61
+    show-more-requires
     add-used-3
+    mul-t
+    element-write-t
+    mul-t-2
+    element-write-t-2
     returns
     returns-2
-    returns-3
     same-length
-    returns-4
+    returns-3
     same-length-2
-    returns-5)
+    returns-4)

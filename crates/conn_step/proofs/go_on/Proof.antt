@@ -47,9 +47,11 @@ arrays c =
     let ids : length (a .t .ids) ≡ SLOTS = search needs in
     let lengths : length (a .t .lengths) ≡ SLOTS = search needs in
     let standings : length (a .t .standings) ≡ SLOTS = search mapped-length in
+    let stdin : length (a .t .«stdin_shown») ≡ SLOTS = search needs in
+    let «data» : length (a .t .«data_shown») ≡ SLOTS = search needs in
     let header : length (a .f .position .header) ≡ 8 = search needs in
     let body : length (a .f .body) ≡ 8 = search needs in
-    record { table = record { ids = ids; lengths = lengths; standings = standings }; header = header; bytes = own; body = body }
+    record { table = record { ids = ids; lengths = lengths; standings = standings; stdin = stdin; «data» = «data» }; header = header; bytes = own; body = body }
 
 held : (c : tie.After-advance) → AllBytes (c .advance .result .position .header)
 held c i = let f : Fits w8 (getD (c .advance .result .position .header) i 0) = search needs in f .fits

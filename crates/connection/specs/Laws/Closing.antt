@@ -26,7 +26,7 @@ isClosing Event.None = false
 isClosing (Event.Open id role keep) = false
 isClosing (Event.Ready id n) = false
 isClosing (Event.Data id stream n) = false
-isClosing (Event.End id stream) = false
+isClosing (Event.End id stream measure) = false
 isClosing (Event.Abort id) = false
 isClosing (Event.Refuse id status) = false
 isClosing (Event.Fault id n) = false
@@ -52,7 +52,7 @@ not-final Event.None f = refl
 not-final (Event.Open id role keep) f = refl
 not-final (Event.Ready id n) f = refl
 not-final (Event.Data id stream n) f = refl
-not-final (Event.End id stream) f = refl
+not-final (Event.End id stream measure) f = refl
 not-final (Event.Abort id) f = refl
 not-final (Event.Refuse id status) f = refl
 not-final (Event.Fault id n) f = refl
@@ -63,7 +63,7 @@ not-final (Event.Closed n) f = f
 -- What a header does to its request closes nothing.
 pub header-goes-on : (kind n : ℕ) (h : Held) → isClosing (onHeader kind n h .event) ≡ false
 unfolding faulted aborted turned
-header-goes-on kind n h = by-rule (λ (r : Ruled). isClosing (r .event) ≡ false) h (λ d. refl) (λ cause fault. refl) refl (λ t. refl) (λ t s. refl) kind n
+header-goes-on kind n h = by-rule (λ (r : Ruled). isClosing (r .event) ≡ false) h (λ d. refl) (λ cause fault. refl) refl (λ t. refl) (λ t s m. refl) kind n
 
 -- nor does its content
 content-goes-on : (due : Due) (bytes : List ℕ) (h : Held) → isClosing (onContent due bytes h .event) ≡ false

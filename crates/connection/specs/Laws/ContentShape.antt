@@ -15,12 +15,13 @@ use Rattle.record_reader.specs.PositionLaws.{at}
 use Rattle.record_reader.specs.declared.Position.{Position}
 use Rattle.connection.specs.declared.request.Role.{Role}
 use Rattle.connection.specs.declared.request.Due.{Due}
+use Rattle.connection.specs.declared.request.RequestState.{RequestState}
 use Rattle.connection.specs.declared.state.Table.{Table}
 use Rattle.connection.specs.declared.state.Slot.{Slot}
 use Rattle.connection.specs.declared.state.Target.{Target}
 use Rattle.connection.specs.declared.state.Frame.{Frame}
 use Rattle.connection.specs.Sizes.{SLOTS, AREA, QUERY}
-use Rattle.connection.specs.Request.{opened, grown}
+use Rattle.connection.specs.Request.{withState, opened, grown}
 use Rattle.connection.specs.Slots.{requestAt, heldAt, putRequest, freeSlotOf, find}
 use Rattle.connection.specs.Laws.SlotsLaws.{take-sized}
 use Rattle.connection.specs.Laws.ShapeLaws.{InUse, Begins, Grows, Aimed}
@@ -94,11 +95,11 @@ module _ (st : State) (store : List ℕ) (before : Good (st .conn)) where
         (λ z. good-queried (st .conn) before _ store _ _ (good-within _ 0 (st .conn .frame .body) (before .frame .body) (λ more. absurd (omega (arith, eqb-true left 0 z)))))
         (λ z. good-reads (st .conn) before _ (good-within _ (st .conn .frame .gathered + length bytes) (st .conn .frame .body) (before .frame .body) (λ more. rw e (omega arith))))
 
-    -- content that is shown: the request stays as it is
-    good-shown : (i : ℕ) → InUse (st .conn .table) i → ((t : Table) → InUse t i → Aimed (st .conn .frame .target) t (st .conn .frame .gathered) left)
-        → Good (openWith (putRequest (st .conn .table) i (requestAt (st .conn .table) i)) (frameWithin (st .conn .frame) (used-up st left) (st .conn .frame .gathered) (st .conn .frame .body)))
-    good-shown i u f =
-        good-back (st .conn) before i (requestAt (st .conn .table) i) _ refl (rw (length-of (st .conn .table) i) (before .tidy .lengths i (u .low)))
+    -- content that is shown: the request keeps its id and its length
+    good-shown : (i : ℕ) (m : RequestState) → InUse (st .conn .table) i → ((t : Table) → InUse t i → Aimed (st .conn .frame .target) t (st .conn .frame .gathered) left)
+        → Good (openWith (putRequest (st .conn .table) i (withState (requestAt (st .conn .table) i) m)) (frameWithin (st .conn .frame) (used-up st left) (st .conn .frame .gathered) (st .conn .frame .body)))
+    good-shown i m u f =
+        good-back (st .conn) before i (withState (requestAt (st .conn .table) i) m) _ refl (rw (length-of (st .conn .table) i) (before .tidy .lengths i (u .low)))
         (good-within _ (st .conn .frame .gathered) (st .conn .frame .body) (before .frame .body) (λ more. f _ (use-put (st .conn .table) i i _ u)))
 
     good-params : (i : ℕ) → st .conn .frame .target ≡ Target.Params i → Grows (st .conn .table) i (st .conn .frame .position .content)
@@ -122,5 +123,5 @@ module _ (st : State) (store : List ℕ) (before : Good (st .conn)) where
     good-target (Target.Begin id) e a = good-begin id e a
     good-target Target.Query e a = good-query e a
     good-target (Target.Params i) e a = good-params i e a
-    good-target (Target.Stdin i) e a = good-shown i a (λ t u. rw e u)
-    good-target (Target.Data i) e a = good-shown i a (λ t u. rw e u)
+    good-target (Target.Stdin i) e a = good-shown i _ a (λ t u. rw e u)
+    good-target (Target.Data i) e a = good-shown i _ a (λ t u. rw e u)

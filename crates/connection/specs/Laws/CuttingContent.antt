@@ -94,6 +94,8 @@ put-twice t i r q =
       mark-twice i (m .«out_ended») (n .«out_ended») (t .«out_ended»),
       mark-twice i (m .«err_used») (n .«err_used») (t .«err_used»),
       mark-twice i (m .«err_ended») (n .«err_ended») (t .«err_ended»),
+      set-set (t .«stdin_shown») i (m .shown .stdin) (n .shown .stdin),
+      set-set (t .«data_shown») i (m .shown .«data») (n .shown .«data»),
     )
 
 -- an area put twice

@@ -22,6 +22,7 @@ use Rattle.connection.specs.Step.{State, Left, openWith, putsBack, targe
 use Rattle.connection.specs.Bytewise.{showing, notes}
 use Rattle.connection.specs.Laws.Progress.{Fits, lessContent}
 use Rattle.connection.specs.Laws.StepSizes.{Sizes, content-area}
+use Rattle.connection.specs.Laws.Counting.{showed-twice}
 use Rattle.connection.specs.Laws.CuttingContent.{Cuts, stateOf, standing, keeps-target, grown-room, grown-grown, put-twice, area-twice, cut-by, cut-skip, cut-begin, cut-query}
 
 -- ---- a request that content is due to
@@ -43,8 +44,8 @@ content-twice : (due : Due) (x y : List ℕ) (h : Held) → Room due (h .request
     → onContent due y (onContent due x h .held) .held ≡ onContent due (x ++ y) h .held
 content-twice Due.Skip x y h r a = refl
 content-twice Due.Params x y h r a = grown-grown h x y r a
-content-twice Due.Stdin x y h r a = refl
-content-twice Due.Data x y h r a = refl
+content-twice Due.Stdin x y h r a = showed-twice Due.Stdin x y h
+content-twice Due.Data x y h r a = showed-twice Due.Data x y h
 
 told-twice : (due : Due) (b : ℕ) (x : List ℕ) (h : Held)
     → notes (onContent due (b ∷ x) h .event) (b ∷ x) ≡ notes (onContent due (b ∷ []) h .event) (b ∷ []) ++ notes (onContent due x (onContent due (b ∷ []) h .held) .event) x
@@ -124,12 +125,12 @@ cut-standing (Target.Stdin i) t gathered p n body store b x fits sizes some room
     let s = shaped (standing t gathered p (Target.Stdin i) n body .conn) (fits .shape) in
     let u : InUse t i = s .target in
     cut-request (Target.Stdin i) Due.Stdin i t gathered p n body store b x (λ st u y q. refl) fits some room (sizes .table) (u .low) tt tt
-    (s .table .lengths i (u .low)) (use-put t i i (requestAt t i) u)
+    (s .table .lengths i (u .low)) (use-put t i i _ u)
 cut-standing (Target.Data i) t gathered p n body store b x fits sizes some room =
     let s = shaped (standing t gathered p (Target.Data i) n body .conn) (fits .shape) in
     let u : InUse t i = s .target in
     cut-request (Target.Data i) Due.Data i t gathered p n body store b x (λ st u y q. refl) fits some room (sizes .table) (u .low) tt tt
-    (s .table .lengths i (u .low)) (use-put t i i (requestAt t i) u)
+    (s .table .lengths i (u .low)) (use-put t i i _ u)
 
 -- A step within content, over a byte and more.
 pub cut-content : (st : State) (store : List ℕ) (b : ℕ) (x : List ℕ) → Fits (st .conn) store → Sizes st store → 0 < length x → suc (length x) ≤ st .conn .frame .position .content

@@ -22,7 +22,7 @@ use Rattle.connection.specs.declared.state.Target.{Target}
 use Rattle.connection.specs.declared.state.Frame.{Frame}
 use Rattle.connection.specs.Sizes.{SLOTS, AREA, STORE}
 use Rattle.connection.specs.Event.{Event}
-use Rattle.connection.specs.Request.{Held, listOf, Ruled, withLife, faulted, aborted, turned, onHeader, onContent}
+use Rattle.connection.specs.Request.{Held, listOf, Ruled, withLife, withShown, unshown, faulted, aborted, turned, onHeader, onContent}
 use Rattle.connection.specs.Slots.{requestAt, areaAt, heldAt, find}
 use Rattle.connection.specs.Laws.SlotsLaws.{Sized, request-of-put, request-of-other, put-occupied, other-of-take, taken-of-take-other, area-length, area-of-put, area-of-other, find-at}
 use Rattle.connection.specs.Step.{State, Left, putsBack, closes, onActive, ofRequest, Stepped, leaves, stepped}
@@ -135,7 +135,7 @@ fault-rule kind m h id cause =
     (λ k fault e. let q : k ≡ cause = cc in (rw q at fault, cc, ap (faulted h) q))
     (λ e. let z : _≡_ {A = ℕ} 0 1 = cc in absurd (omega arith))
     (λ t e. let z : _≡_ {A = ℕ} 0 1 = cc in absurd (omega arith))
-    (λ t s e. let z : _≡_ {A = ℕ} 0 1 = cc in absurd (omega arith))
+    (λ t s m e. let z : _≡_ {A = ℕ} 0 1 = cc in absurd (omega arith))
     kind m
 
 -- A fault that tells a place: PARAMS ended with a malformed list, and the place is where it is malformed.
@@ -170,22 +170,22 @@ abort-rule kind m h id =
     (λ k fault e. let z : _≡_ {A = ℕ} 0 1 = cc in absurd (omega arith))
     (λ e. (cc, refl))
     (λ t e. let z : _≡_ {A = ℕ} 0 1 = cc in absurd (omega arith))
-    (λ t s e. let z : _≡_ {A = ℕ} 0 1 = cc in absurd (omega arith))
+    (λ t s m e. let z : _≡_ {A = ℕ} 0 1 = cc in absurd (omega arith))
     kind m
 
--- Of a request's state its life changes alone: role, turn, flag and outputs stay.
+-- Of a request's state its life changes alone: role, turn, flag, outputs and counts stay.
 pub life-alone : (m : RequestState) (l : Life)
     → (withLife m l .life ≡ l) × (withLife m l .role ≡ m .role) × (withLife m l .turn ≡ m .turn) × (withLife m l .keep ≡ m .keep)
-    × (withLife m l .«out_ended» ≡ m .«out_ended») × (withLife m l .«err_used» ≡ m .«err_used») × (withLife m l .«err_ended» ≡ m .«err_ended»)
+    × (withLife m l .«out_ended» ≡ m .«out_ended») × (withLife m l .«err_used» ≡ m .«err_used») × (withLife m l .«err_ended» ≡ m .«err_ended») × (withLife m l .shown ≡ m .shown)
 unfolding withLife
-life-alone m l = (refl, refl, refl, refl, refl, refl, refl)
+life-alone m l = (refl, refl, refl, refl, refl, refl, refl, refl)
 
 -- A fault of its own request alone: the cause is that of a fault, the request keeps its id and all marks but its
--- life, its length is 0 and its area zeros.
+-- life, its length and its counts are 0 and its area zeros.
 abbrev pub FaultAlone : State → List ℕ → ℕ → Cause → Stepped → Type 0
 FaultAlone st store id cause s =
     (i : ℕ) × (find (st .conn .table) id ≡ Slot.At i) × (isFault cause ≡ true)
-    × Only st store i (record { id = id; length = 0; state = withLife (requestAt (st .conn .table) i .state) Life.Faulted }) (zeros AREA) s
+    × Only st store i (record { id = id; length = 0; state = withShown (withLife (requestAt (st .conn .table) i .state) Life.Faulted) unshown }) (zeros AREA) s
 
 -- Where a step tells a fault, it is one of its own request alone.
 pub fault-own-request : (st : State) (store piece : List ℕ) (id : ℕ) (cause : Cause) → Sized (st .conn .table) → stepped st store piece .event ≡ Event.Fault id cause
@@ -203,7 +203,7 @@ fault-own-request st store piece id cause sized e =
       rw same at found,
       r .0,
       only-rules st store h i used sized full found (faulted held cause) (r .2) refl (length-replicate (length (held .area)) 0 ∙ size) _ _
-          (ap (λ (k : ℕ). record { id = k; length = 0; state = withLife (requestAt t i .state) Life.Faulted }) (r .1)) (ap zeros size),
+          (ap (λ (k : ℕ). record { id = k; length = 0; state = withShown (withLife (requestAt t i .state) Life.Faulted) unshown }) (r .1)) (ap zeros size),
     ))
     (rw e refl) (rw e refl) e
 

@@ -29,7 +29,7 @@ Plain e = (x y : List ℕ) → notes e x ≡ notes e y
 plain-header : (kind n : ℕ) (h : Held) → Plain (onHeader kind n h .event)
 unfolding faulted aborted turned
 plain-header kind n h =
-    by-rule (λ (r : Ruled). Plain (r .event)) h (λ d x y. refl) (λ cause fault x y. refl) (λ x y. refl) (λ t x y. refl) (λ t s x y. refl) kind n
+    by-rule (λ (r : Ruled). Plain (r .event)) h (λ d x y. refl) (λ cause fault x y. refl) (λ x y. refl) (λ t x y. refl) (λ t s m x y. refl) kind n
 
 -- ---- queries, headers, BEGIN bodies
 plain-queried : (st : State) (store list : List ℕ) (f : Frame) → Plain (queried st store list f .event)

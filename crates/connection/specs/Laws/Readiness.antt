@@ -22,7 +22,7 @@ ready-rule kind m h id n =
     (λ cause fault e. let z : _≡_ {A = ℕ} 0 1 = cc in absurd (omega arith))
     (λ e. let z : _≡_ {A = ℕ} 0 1 = cc in absurd (omega arith))
     (λ t e. (cc, cc))
-    (λ t s e. let z : _≡_ {A = ℕ} 0 1 = cc in absurd (omega arith))
+    (λ t s m e. let z : _≡_ {A = ℕ} 0 1 = cc in absurd (omega arith))
     kind m
 
 -- The connection is open, and the id has a slot whose list has n bytes.

@@ -13,9 +13,10 @@ use Rattle.machine.specs.Cause.{Cause, Plain, At}
 use Rattle.pair_repeats.specs.Repeats.{repeats}
 use Rattle.connection.specs.declared.request.Turn.{Turn}
 use Rattle.connection.specs.declared.request.Due.{Due}
+use Rattle.connection.specs.declared.event.Measure.{Measure}
 use Rattle.connection.specs.Sizes.{AREA}
 use Rattle.connection.specs.Event.{Event}
-use Rattle.connection.specs.Request.{Held, Ruled, ruled, listOf, isSpent, afterParams, afterStdin, turnType, skipped, faulted, aborted, turned, paramsFault, paramsEnded, onParams, onStdin, onData, inTurn, isInput, onInput, onLive, onHeader}
+use Rattle.connection.specs.Request.{Held, Ruled, ruled, listOf, isSpent, afterParams, afterStdin, turnType, skipped, faulted, aborted, turned, stdinMeasure, dataMeasure, paramsFault, paramsEnded, onParams, onStdin, onData, inTurn, isInput, onInput, onLive, onHeader}
 
 -- The record is of the stream whose turn it is, and the request is live.
 pub record OnTurn (kind : ℕ) (h : Held) (t : Turn) : Type 0 where
@@ -44,9 +45,9 @@ pub data Rule (kind n : ℕ) (h : Held) : Ruled → Type 0 where
       → Rule kind n h (turned h (afterParams (h .request .state .role)) (Event.Ready (h .request .id) (h .request .length)))
   Stdin : OnTurn kind h Turn.Stdin → Rule kind n h (ruled h Due.Stdin Event.None)
   StdinEnds : OnTurn kind h Turn.Stdin → n ≡ 0
-      → Rule kind n h (turned h (afterStdin (h .request .state .role)) (Event.End (h .request .id) STDIN))
+      → Rule kind n h (turned h (afterStdin (h .request .state .role)) (Event.End (h .request .id) STDIN (stdinMeasure h)))
   Data : OnTurn kind h Turn.Data → Rule kind n h (ruled h Due.Data Event.None)
-  DataEnds : OnTurn kind h Turn.Data → n ≡ 0 → Rule kind n h (turned h Turn.Done (Event.End (h .request .id) DATA))
+  DataEnds : OnTurn kind h Turn.Data → n ≡ 0 → Rule kind n h (turned h Turn.Done (Event.End (h .request .id) DATA (dataMeasure h)))
 
 -- by the two outcomes of a test
 fork : {kind n : ℕ} {h : Held} (b : Bool) {x y : Ruled} → (b ≡ true → Rule kind n h x) → (b ≡ false → Rule kind n h y) → Rule kind n h (if b then x else y)
@@ -99,7 +100,7 @@ module _ (kind n : ℕ) (h : Held) where
 -- What holds of a request left alone, of faults 21 to 26, of an abort and of a stream's end holds of what any header
 -- does to it.
 pub by-rule : (P : Ruled → Type 0) (h : Held) → ((d : Due) → P (ruled h d Event.None)) → ((cause : Cause) → isFault cause ≡ true → P (faulted h cause)) → P (aborted h)
-    → ((t : Turn) → P (turned h t (Event.Ready (h .request .id) (h .request .length)))) → ((t : Turn) (s : ℕ) → P (turned h t (Event.End (h .request .id) s)))
+    → ((t : Turn) → P (turned h t (Event.Ready (h .request .id) (h .request .length)))) → ((t : Turn) (s : ℕ) (m : Measure) → P (turned h t (Event.End (h .request .id) s m)))
     → (kind n : ℕ) → P (onHeader kind n h)
 by-rule P h waits faults aborts readies ends kind n = of (onHeader kind n h) (header-rule kind n h)
   where
@@ -111,6 +112,6 @@ by-rule P h waits faults aborts readies ends kind n = of (onHeader kind n h) (he
     of r (Rule.Params t room) = waits Due.Params
     of r (Rule.Readies t z f) = readies _
     of r (Rule.Stdin t) = waits Due.Stdin
-    of r (Rule.StdinEnds t z) = ends _ STDIN
+    of r (Rule.StdinEnds t z) = ends _ STDIN _
     of r (Rule.Data t) = waits Due.Data
-    of r (Rule.DataEnds t z) = ends _ DATA
+    of r (Rule.DataEnds t z) = ends _ DATA _

@@ -22,6 +22,8 @@ pub record Sized (t : Table) : Type 0 where
   pub ids : length (t .ids) ≡ SLOTS
   pub lengths : length (t .lengths) ≡ SLOTS
   pub standings : length (t .standings) ≡ SLOTS
+  pub stdin : length (t .«stdin_shown») ≡ SLOTS
+  pub «data» : length (t .«data_shown») ≡ SLOTS
 
 -- ---- requests
 -- A request put back where it came from changes nothing.
@@ -36,6 +38,8 @@ put-same t i =
       mark-same i (t .«out_ended»),
       mark-same i (t .«err_used»),
       mark-same i (t .«err_ended»),
+      set-getD (t .«stdin_shown») i 0,
+      set-getD (t .«data_shown») i 0,
     )
 
 -- The request put is read back.
@@ -45,6 +49,8 @@ request-of-put t i r s h =
     let a : i < length (t .ids) = omega arith in
     let b : i < length (t .lengths) = omega arith in
     let c : i < length (t .standings) = omega arith in
+    let d : i < length (t .«stdin_shown») = omega arith in
+    let e : i < length (t .«data_shown») = omega arith in
     let m = r .state in
     rw (
       getD-set-same (t .ids) i (r .id) 0 a,
@@ -54,6 +60,8 @@ request-of-put t i r s h =
       mark-read i (m .«out_ended») (t .«out_ended») h,
       mark-read i (m .«err_used») (t .«err_used») h,
       mark-read i (m .«err_ended») (t .«err_ended») h,
+      getD-set-same (t .«stdin_shown») i (m .shown .stdin) 0 d,
+      getD-set-same (t .«data_shown») i (m .shown .«data») 0 e,
     )
 
 -- Another slot's request stays.
@@ -69,6 +77,8 @@ request-of-other t i j r h =
       mark-other i j (m .«out_ended») (t .«out_ended») h,
       mark-other i j (m .«err_used») (t .«err_used») h,
       mark-other i j (m .«err_ended») (t .«err_ended») h,
+      getD-set-other (t .«stdin_shown») i j (m .shown .stdin) 0 h,
+      getD-set-other (t .«data_shown») i j (m .shown .«data») 0 h,
     )
 
 -- The arrays keep their lengths.
@@ -79,6 +89,8 @@ put-sized t i r s =
       ids = length-set (t .ids) i (r .id) ∙ s .ids;
       lengths = length-set (t .lengths) i (r .length) ∙ s .lengths;
       standings = length-set (t .standings) i (standingOf (r .state)) ∙ s .standings;
+      stdin = length-set (t .«stdin_shown») i (r .state .shown .stdin) ∙ s .stdin;
+      «data» = length-set (t .«data_shown») i (r .state .shown .«data») ∙ s .«data»;
     }
 
 -- No slot is taken or freed by a request that is put.
@@ -119,7 +131,7 @@ taken-of-take-other t i j r h = byTest (ltb i SLOTS) (λ e. simp e (with-other i
 -- The arrays keep their lengths.
 pub take-sized : (t : Table) (i : ℕ) (r : Request) → Sized t → Sized (takeSlot t i r)
 unfolding takeSlot
-take-sized t i r s = let p = put-sized t i r s in record { ids = p .ids; lengths = p .lengths; standings = p .standings }
+take-sized t i r s = let p = put-sized t i r s in record { ids = p .ids; lengths = p .lengths; standings = p .standings; stdin = p .stdin; «data» = p .«data» }
 
 -- A slot freed holds no request.
 pub request-of-free : (t : Table) (i : ℕ) → Sized t → i < SLOTS → requestAt (freeSlot t i) i ≡ noRequest
@@ -144,7 +156,7 @@ taken-of-free-other t i j h = byTest (ltb i SLOTS) (λ e. simp e (without-other 
 -- The arrays keep their lengths.
 pub free-sized : (t : Table) (i : ℕ) → Sized t → Sized (freeSlot t i)
 unfolding freeSlot
-free-sized t i s = let p = put-sized t i noRequest s in record { ids = p .ids; lengths = p .lengths; standings = p .standings }
+free-sized t i s = let p = put-sized t i noRequest s in record { ids = p .ids; lengths = p .lengths; standings = p .standings; stdin = p .stdin; «data» = p .«data» }
 
 -- ---- areas
 -- An area put back where it came from changes nothing.

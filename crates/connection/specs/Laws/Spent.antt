@@ -29,7 +29,7 @@ nameless-inactive t (Event.Unknown kind) R r q d = absurd (omega arith)
 rule-names : (kind n : ℕ) (h : Held) (R : ℕ) → 0 < R → eventId (onHeader kind n h .event) ≡ R → h .request .id ≡ R
 unfolding faulted aborted turned
 rule-names kind n h R r =
-    by-rule (λ (x : Ruled). eventId (x .event) ≡ R → h .request .id ≡ R) h (λ d e. absurd (omega arith)) (λ cause fault e. e) (λ e. e) (λ t e. e) (λ t s e. e) kind n
+    by-rule (λ (x : Ruled). eventId (x .event) ≡ R → h .request .id ≡ R) h (λ d e. absurd (omega arith)) (λ cause fault e. e) (λ e. e) (λ t e. e) (λ t s m e. e) kind n
 
 -- and of a spent one it tells nothing
 spent-rule : (kind n : ℕ) (h : Held) → isSpent (h .request .state .life) ≡ true → onHeader kind n h .event ≡ Event.None
@@ -37,7 +37,7 @@ unfolding onHeader
 spent-rule kind n h e = simp e
 
 -- content that is due to a slot: the slot is taken
-due-use : (due : Due) (i : ℕ) (t : Table) (n left : ℕ) → (due ≡ Due.Skip → ⊥) → Aimed (dueTo due i) t n left → InUse t i
+pub due-use : (due : Due) (i : ℕ) (t : Table) (n left : ℕ) → (due ≡ Due.Skip → ⊥) → Aimed (dueTo due i) t n left → InUse t i
 due-use Due.Skip i t n left f a = absurd (f refl)
 due-use Due.Params i t n left f a = a .slot
 due-use Due.Stdin i t n left f a = a

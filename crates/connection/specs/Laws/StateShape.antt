@@ -64,7 +64,7 @@ good-shape c g = in-shape c (record { table = g .tidy; position = g .frame .posi
 
 -- The arrays of a connection with no requests, open or closed.
 pub fresh-arrays : (is-open : Bool) → Arrays (record { table = noRequests; frame = noFrame; «open» = is-open })
-fresh-arrays is-open = record { table = record { ids = refl; lengths = refl; standings = refl }; header = refl; bytes = zeros-bytes 8; body = refl }
+fresh-arrays is-open = record { table = record { ids = refl; lengths = refl; standings = refl; stdin = refl; «data» = refl }; header = refl; bytes = zeros-bytes 8; body = refl }
 
 -- The closed one is good.
 pub good-closed : Good closedConn

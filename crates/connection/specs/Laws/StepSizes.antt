@@ -56,7 +56,7 @@ copied-length l at x =
 pub header-area : (kind n : ℕ) (h : Held) → length (onHeader kind n h .held .area) ≡ length (h .area)
 unfolding faulted aborted turned
 header-area kind n h =
-    by-rule (λ (r : Ruled). length (r .held .area) ≡ length (h .area)) h (λ d. refl) (λ cause fault. length-replicate (length (h .area)) 0) refl (λ t. refl) (λ t s. refl) kind n
+    by-rule (λ (r : Ruled). length (r .held .area) ≡ length (h .area)) h (λ d. refl) (λ cause fault. length-replicate (length (h .area)) 0) refl (λ t. refl) (λ t s m. refl) kind n
 
 -- content: grown or as it was
 pub content-area : (due : Due) (x : List ℕ) (h : Held) → length (onContent due x h .held .area) ≡ length (h .area)
@@ -76,7 +76,7 @@ module _ (st : State) (store : List ℕ) (s : Sizes st store) where
   unfolding closes
   closes-keeps n =
       record {
-        table = record { ids = refl; lengths = refl; standings = refl };
+        table = record { ids = refl; lengths = refl; standings = refl; stdin = refl; «data» = refl };
         header = refl;
         body = refl;
         gathered = s .gathered;
@@ -206,7 +206,7 @@ unfolding started
 start-sizes gathered store g f =
     simp (eq-eqb (length store) STORE f)
     (record {
-      table = record { ids = refl; lengths = refl; standings = refl };
+      table = record { ids = refl; lengths = refl; standings = refl; stdin = refl; «data» = refl };
       header = refl;
       body = refl;
       gathered = length-replicate (length gathered) 0 ∙ g;

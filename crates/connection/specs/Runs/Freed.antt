@@ -121,7 +121,8 @@ freed-nowhere : (t : Table) (i id : ℕ) → Distinct t → find t id ≡ Slot.A
 freed-nowhere t i id distinct e =
     nowhere-find (freeSlot t i) id (λ j h. let w = free-holds t i id j h in w .other (distinct id j i (w .held) (find-at t id i e)))
 
-empty-nowhere : (id : ℕ) → find noRequests id ≡ Slot.Nowhere
+-- A table with no requests.
+pub empty-nowhere : (id : ℕ) → find noRequests id ≡ Slot.Nowhere
 unfolding findFrom holdsId taken
 empty-nowhere id = refl
 

@@ -36,7 +36,7 @@ KeepsList h r = listOf (r .held) ≡ (if opensOrFaults (r .event) then [] else l
 
 pub list-header : (n : ℕ) (h : Held) (kind : ℕ) → KeepsList h (onHeader kind n h)
 unfolding faulted aborted turned
-list-header n h kind = by-rule (KeepsList h) h (λ d. refl) (λ cause fault. refl) refl (λ t. refl) (λ t s. refl) kind n
+list-header n h kind = by-rule (KeepsList h) h (λ d. refl) (λ cause fault. refl) refl (λ t. refl) (λ t s m. refl) kind n
 
 -- PARAMS content is added to the list
 pub list-grown : (h : Held) (b : ℕ) → h .request .length + 1 ≤ AREA → length (h .area) ≡ AREA → listOf (grown h (b ∷ [])) ≡ listOf h ++ b ∷ []

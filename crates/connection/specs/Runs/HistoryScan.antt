@@ -14,7 +14,7 @@ use Rattle.machine.specs.Timeline.{headerVersion, headerType, headerId, headerC
 use Rattle.machine.specs.Machine.{QueryOutcome, Asks, Breaks, BeginOutcome, Declined, Accepted, Target, Skip, ToBegin, ToQuery, ToSlot, Reading, AtHeader, PastHeader, Slots, Connection, Open, Closed, InactiveOutcome, WrongBegin, NewBegin, PassedOver, ManagementOutcome, QueryTooLong, Notices, Gathers, Effect, eventFrom, withLeft, queryWhole, queryHeader, managementHeader, inactiveHeader, headerDecided, headerFound, headerRouted, headerVersioned, headerByte, requestSeated, beginWhole, streamByte, contentByte, recordByte, requestFound, targetAt}
 use Rattle.connection.specs.declared.request.Due.{Due}
 use Rattle.connection.specs.Event.{Event}
-use Rattle.connection.specs.Request.{Held, onHeader, grown}
+use Rattle.connection.specs.Request.{Held, onHeader, grown, showed}
 use Rattle.connection.specs.Bytewise.{Note}
 use borrow.Author.Tests.{eqb-true, eq-eqb, eqb-false}
 use Rattle.machine.specs.Shape.{SlotOk, SlotsOk, TargetOk, ReadingOk, EffectOk}
@@ -129,7 +129,7 @@ module _ (R : ℕ) where
   event-takes (Event.Open id role keep) b k = rw (eq-eqb R R refl)
   event-takes (Event.Ready id n) b k = rw (eq-eqb R R refl)
   event-takes (Event.Data id stream n) b k = rw (eq-eqb R R refl)
-  event-takes (Event.End id stream) b k = rw (eq-eqb R R refl)
+  event-takes (Event.End id stream measure) b k = rw (eq-eqb R R refl)
   event-takes (Event.Abort id) b k = rw (eq-eqb R R refl)
   event-takes (Event.Refuse id n) b k = rw (eq-eqb R R refl)
   event-takes (Event.Fault id n) b k = rw (eq-eqb R R refl)
@@ -277,9 +277,9 @@ module _ (R : ℕ) where
   tracks-stream Due.Skip i c p b id h T own t d o w = tracks-put Due.Skip i c p b id h h Event.None T own t (w .0) d refl (λ k. refl) (silent id) o
   tracks-stream Due.Params i c p b id h T own t d o w = tracks-put Due.Params i c p b id h (grown h (b ∷ [])) Event.None T own t (w .0) d (takes-grown h (b ∷ [])) (λ k. refl) (silent id) o
   tracks-stream Due.Stdin i c p b id h T own t d o w =
-      tracks-put Due.Stdin i c p b id h h (Event.Data (h .request .id) STDIN 1) T own t (w .0) d refl (λ k. refl) (shown id (h .request .id) STDIN b) o
+      tracks-put Due.Stdin i c p b id h (showed Due.Stdin 1 h) (Event.Data (h .request .id) STDIN 1) T own t (w .0) d refl (λ k. refl) (shown id (h .request .id) STDIN b) o
   tracks-stream Due.Data i c p b id h T own t d o w =
-      tracks-put Due.Data i c p b id h h (Event.Data (h .request .id) DATA 1) T own t (w .0) d refl (λ k. refl) (shown id (h .request .id) DATA b) o
+      tracks-put Due.Data i c p b id h (showed Due.Data 1 h) (Event.Data (h .request .id) DATA 1) T own t (w .0) d refl (λ k. refl) (shown id (h .request .id) DATA b) o
 
   tracks-content : (s : Target receiver) (c p b : ℕ) (T : Slots receiver) (own : Bool) → SlotsOk receiver receiver-laws T → TargetOk receiver receiver-laws T s (suc c)
       → (if own then takesAmong T else false) ≡ dueFor T s → EffectOk receiver receiver-laws (contentByte receiver s c p b T)

@@ -78,7 +78,7 @@ module _ (R : ℕ) where
   event-seen (Event.Open id role keep) x = then-keeps _
   event-seen (Event.Ready id n) x = then-keeps _
   event-seen (Event.Data id stream n) x = shown-keeps id stream (take n x)
-  event-seen (Event.End id stream) x = then-keeps _
+  event-seen (Event.End id stream measure) x = then-keeps _
   event-seen (Event.Abort id) x = then-keeps _
   event-seen (Event.Refuse id n) x = then-keeps _
   event-seen (Event.Fault id n) x = then-keeps _
@@ -115,7 +115,7 @@ module _ (R : ℕ) where
   takes-told id (Event.Open j role keep) h = byTest (eqb id R) (λ w. rw w) (λ w. rw w)
   takes-told id (Event.Ready j n) h = byTest (eqb id R) (λ w. rw w) (λ w. rw w)
   takes-told id (Event.Data j stream n) h = byTest (eqb id R) (λ w. rw w) (λ w. rw w)
-  takes-told id (Event.End j stream) h = byTest (eqb id R) (λ w. rw w) (λ w. rw w)
+  takes-told id (Event.End j stream measure) h = byTest (eqb id R) (λ w. rw w) (λ w. rw w)
   takes-told id (Event.Abort j) h = byTest (eqb id R) (λ w. rw w) (λ w. rw w)
   takes-told id (Event.Refuse j n) h = byTest (eqb id R) (λ w. rw w) (λ w. rw w)
   takes-told id (Event.Fault j n) h = byTest (eqb id R) (λ w. rw w) (λ w. rw w)
@@ -130,7 +130,7 @@ module _ (R : ℕ) where
   list-told id (Event.Open j role keep) h = byTest (eqb id R) (λ w. rw w) (λ w. rw w)
   list-told id (Event.Ready j n) h = byTest (eqb id R) (λ w. rw w) (λ w. rw w)
   list-told id (Event.Data j stream n) h = byTest (eqb id R) (λ w. rw w) (λ w. rw w)
-  list-told id (Event.End j stream) h = byTest (eqb id R) (λ w. rw w) (λ w. rw w)
+  list-told id (Event.End j stream measure) h = byTest (eqb id R) (λ w. rw w) (λ w. rw w)
   list-told id (Event.Abort j) h = byTest (eqb id R) (λ w. rw w) (λ w. rw w)
   list-told id (Event.Refuse j n) h = byTest (eqb id R) (λ w. rw w) (λ w. rw w)
   list-told id (Event.Fault j n) h = byTest (eqb id R) (λ w. rw w) (λ w. rw w)

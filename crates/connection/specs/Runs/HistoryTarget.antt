@@ -14,7 +14,7 @@ use Rattle.machine.specs.Timeline.{RequestCall, CountCall, Item, ByteItem, Call
 use Rattle.machine.specs.Machine.{QueryOutcome, Asks, Breaks, BeginOutcome, Declined, Accepted, CallOutcome, Stays, Leaves, Closes, Target, Skip, ToBegin, ToQuery, ToSlot, Reading, AtHeader, PastHeader, Slots, Connection, Open, Closed, Observation, RequestEvent, NoticeEvent, CloseEvent, CountAnswer, CallAnswer, onItem, InactiveOutcome, WrongBegin, NewBegin, PassedOver, ManagementOutcome, QueryTooLong, Notices, Gathers, Effect, eventFrom, withLeft, queryWhole, queryHeader, managementHeader, inactiveHeader, headerDecided, headerFound, headerRouted, headerVersioned, headerByte, requestSeated, beginWhole, streamByte, contentByte, recordByte, readingWithout, callDecided, requestCalled, requestFound, requestIn}
 use Rattle.connection.specs.declared.request.Due.{Due}
 use Rattle.connection.specs.Event.{Event}
-use Rattle.connection.specs.Request.{Held, listOf, onHeader, grown}
+use Rattle.connection.specs.Request.{Held, listOf, onHeader, grown, showed}
 use Rattle.connection.specs.Bytewise.{Note}
 use borrow.Author.Tests.{eqb-true, eq-eqb, eqb-false}
 use mathlib.Core.Logic.{_⊎_, inl, inr}
@@ -143,7 +143,7 @@ module _ (R : ℕ) where
   event-own (Event.Open id role keep) b = rw (eq-eqb R R refl)
   event-own (Event.Ready id n) b = rw (eq-eqb R R refl)
   event-own (Event.Data id stream n) b = rw (eq-eqb R R refl)
-  event-own (Event.End id stream) b = rw (eq-eqb R R refl)
+  event-own (Event.End id stream measure) b = rw (eq-eqb R R refl)
   event-own (Event.Abort id) b = rw (eq-eqb R R refl)
   event-own (Event.Refuse id n) b = rw (eq-eqb R R refl)
   event-own (Event.Fault id n) b = rw (eq-eqb R R refl)
@@ -259,8 +259,8 @@ module _ (R : ℕ) where
       let f : SlotOk receiver receiver-laws (HeldBy id h) = rw d at (t .fits i) in
       follows-decided T _ i id h (grown h (b ∷ [])) Event.None b (if eqb id R then b ∷ [] else []) t (w .0) d
       (λ k. rw (eq-eqb id R k) (list-grown h b (omega (arith, s)) (f .1 .sized))) (λ k. rw k)
-  follows-stream Due.Stdin i c p b id h T t d s w = follows-decided T _ i id h h (Event.Data (h .request .id) _ 1) b [] t (w .0) d (λ k. sym (append-nil (listOf h))) (λ k. refl)
-  follows-stream Due.Data i c p b id h T t d s w = follows-decided T _ i id h h (Event.Data (h .request .id) _ 1) b [] t (w .0) d (λ k. sym (append-nil (listOf h))) (λ k. refl)
+  follows-stream Due.Stdin i c p b id h T t d s w = follows-decided T _ i id h (showed Due.Stdin 1 h) (Event.Data (h .request .id) _ 1) b [] t (w .0) d (λ k. sym (append-nil (listOf h))) (λ k. refl)
+  follows-stream Due.Data i c p b id h T t d s w = follows-decided T _ i id h (showed Due.Data 1 h) (Event.Data (h .request .id) _ 1) b [] t (w .0) d (λ k. sym (append-nil (listOf h))) (λ k. refl)
 
   follows-content : (s : Target receiver) (c p b : ℕ) (T : Slots receiver) → SlotsOk receiver receiver-laws T → TargetOk receiver receiver-laws T s (suc c)
       → EffectOk receiver receiver-laws (contentByte receiver s c p b T)

@@ -41,7 +41,7 @@ KeepsOrZeroes h q =
 pub area-header : (n : ℕ) (h : Held) (kind : ℕ) → KeepsOrZeroes h (onHeader kind n h .held)
 unfolding faulted aborted turned
 area-header n h kind =
-    by-rule (λ (r : Ruled). KeepsOrZeroes h (r .held)) h (λ d. inl (refl, refl)) (λ cause fault. inr (refl, refl)) (inl (refl, refl)) (λ t. inl (refl, refl)) (λ t s. inl (refl, refl)) kind n
+    by-rule (λ (r : Ruled). KeepsOrZeroes h (r .held)) h (λ d. inl (refl, refl)) (λ cause fault. inr (refl, refl)) (inl (refl, refl)) (λ t. inl (refl, refl)) (λ t s m. inl (refl, refl)) kind n
 
 -- An area keeps its length.
 pub same-length : (h q : Held) → KeepsOrZeroes h q → length (q .area) ≡ length (h .area)
@@ -115,8 +115,8 @@ pub byte-ok : (due : Due) (b n : ℕ) (h : Held) → b < 256 → RequestOk h →
 unfolding receiveByte
 byte-ok Due.Skip b n h w f r = (f, tt)
 byte-ok Due.Params b n h w f r = (grown-ok h b (omega arith) f, room-less h b n r)
-byte-ok Due.Stdin b n h w f r = (f, tt)
-byte-ok Due.Data b n h w f r = (f, tt)
+byte-ok Due.Stdin b n h w f r = (ok-same h _ refl refl f, tt)
+byte-ok Due.Data b n h w f r = (ok-same h _ refl refl f, tt)
 
 -- ---- a BEGIN body
 begin-as-ok : (id : ℕ) (body : List ℕ) (role : Role) → BeginOutcomeOk RequestOk (λ x. x ≡ cleanArea) (beginAs id (beginBodyOf body) role)

@@ -38,14 +38,17 @@ oneParam id b = header 4 id 1 ∷ StepOver (b ∷ []) ∷ []
 abbrev pub finish : ℕ → List Operation
 finish id = CallFor id (ForFinish 0 (zeros 32)) ∷ []
 
--- request 1: the length of its list, its turn, its area
-abbrev pub one : ℕ → Turn → List ℕ → Option Held
-one n t area =
+-- request 1: the STDIN bytes shown, the length of its list, its turn, its area
+abbrev pub one-shown : ℕ → ℕ → Turn → List ℕ → Option Held
+one-shown stdin n t area =
     some
     (record {
-      request = record { id = 1; length = n; state = record { role = Role.Responder; turn = t; life = Life.Live; keep = true; «out_ended» = false; «err_used» = false; «err_ended» = false } };
+      request = record { id = 1; length = n; state = record { role = Role.Responder; turn = t; life = Life.Live; keep = true; «out_ended» = false; «err_used» = false; «err_ended» = false; shown = record { stdin = stdin; «data» = 0 } } };
       area = area;
     })
+
+abbrev pub one : ℕ → Turn → List ℕ → Option Held
+one n t area = one-shown 0 n t area
 
 -- 1 opens
 abbrev pub opened-one : Observed

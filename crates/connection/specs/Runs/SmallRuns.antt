@@ -24,7 +24,7 @@ use Rattle.connection.specs.declared.answer.Output.{Output}
 use Rattle.connection.specs.declared.request.Turn.{Turn}
 use Rattle.connection.specs.Sizes.{AREA}
 use Rattle.connection.specs.Event.{Event}
-use Rattle.connection.specs.Request.{Held, withTurn, withLife, faulted, aborted, turned, paramsFault, paramsEnded, onParams, onStdin, onData, onInput, onLive, onHeader, grown, opened}
+use Rattle.connection.specs.Request.{Held, withTurn, withLife, counted, faulted, aborted, turned, paramsFault, paramsEnded, onParams, onStdin, onData, onInput, onLive, onHeader, grown, opened}
 use Rattle.connection.specs.RequestCalls as Of
 use Rattle.connection.specs.Slots.{requestAt, areaAt, putRequest, putArea, takeSlot, freeSlot, holdsId, findFrom}
 use Rattle.connection.specs.Shape.{idFits, slotsFit, positionFits, inShape}
@@ -33,7 +33,7 @@ use Rattle.connection.specs.Calls as C
 use Rattle.connection.specs.Bytewise.{Note, showing}
 use Rattle.connection.specs.Arguments.{ForValue, ForPair, ForSay, ForFinish, ValueIs, PairAnswer, FinishedWith}
 use Rattle.connection.specs.Run.{Operation, StepOver, CallFor, Observed, Heard, Answered, requestOf, called, memoryAfter, seenIn, itemsOf, finalMemory, allSeen, timeline, startOf, seenOf}
-use Rattle.connection.specs.Runs.RunParts.{fresh, header, begin, paramsEnd, oneParam, finish, one, opened-one}
+use Rattle.connection.specs.Runs.RunParts.{fresh, header, begin, paramsEnd, oneParam, finish, one, one-shown, opened-one}
 
 -- Both runs show this of 1, and leave 1 so.
 record Alike (whole alone : List Operation) (seen : List Observed) (left : Option Held) : Type 0 where
@@ -58,14 +58,14 @@ pub record SmallRuns : Type 0 where
   rest-skipped : Alike (begin 2 ++ (header 4 2 1 ∷ finish 2) ++ (StepOver (7 ∷ []) ∷ begin 1)) (begin 1) (opened-one ∷ []) (one 0 Turn.Params (zeros AREA))
   -- 2 is finished inside a STDIN record of 1. (anyones_rest_skipped: the byte of 1 is not shown.)
   others-rest-read : Alike (begin 2 ++ begin 1 ++ paramsEnd 1 ++ (header 5 1 1 ∷ finish 2) ++ (StepOver (9 ∷ []) ∷ [])) (begin 1 ++ paramsEnd 1 ++ (header 5 1 1 ∷ StepOver (9 ∷ []) ∷ []))
-      (opened-one ∷ Heard (Note.Told (Event.Ready 1 0)) ∷ Heard (Note.Shown 1 STDIN 9) ∷ []) (one 0 Turn.Stdin (zeros AREA))
+      (opened-one ∷ Heard (Note.Told (Event.Ready 1 0)) ∷ Heard (Note.Shown 1 STDIN 9) ∷ []) (one-shown 1 0 Turn.Stdin (zeros AREA))
   -- 2 is finished when seven header bytes of 1 are in; the eighth, which is reserved, is 1. (held_bytes_dropped: it
   -- is taken for a version, the content of 1 for the rest of a header, and nothing of 1 is shown.)
   held-bytes-stay : Alike
       (begin 2 ++ begin 1 ++ paramsEnd 1 ++ (StepOver (1 ∷ 5 ∷ 0 ∷ 1 ∷ 0 ∷ 7 ∷ 0 ∷ []) ∷ finish 2) ++ (StepOver (1 ∷ []) ∷ StepOver (0 ∷ 0 ∷ 0 ∷ 0 ∷ 0 ∷ 0 ∷ 0 ∷ []) ∷ []))
       (begin 1 ++ paramsEnd 1 ++ (StepOver (1 ∷ 5 ∷ 0 ∷ 1 ∷ 0 ∷ 7 ∷ 0 ∷ 1 ∷ []) ∷ StepOver (0 ∷ 0 ∷ 0 ∷ 0 ∷ 0 ∷ 0 ∷ 0 ∷ []) ∷ []))
       (opened-one ∷ Heard (Note.Told (Event.Ready 1 0)) ∷ Heard (Note.Shown 1 STDIN 0) ∷ Heard (Note.Shown 1 STDIN 0) ∷ Heard (Note.Shown 1 STDIN 0) ∷ Heard (Note.Shown 1 STDIN 0) ∷ Heard (Note.Shown 1 STDIN 0) ∷ Heard (Note.Shown 1 STDIN 0) ∷ Heard (Note.Shown 1 STDIN 0) ∷ [])
-      (one 0 Turn.Stdin (zeros AREA))
+      (one-shown 7 0 Turn.Stdin (zeros AREA))
   -- 2 is begun again, which is a fault; 1 has a byte of its list. (fault_zeroes_next_area: the byte of 1 is gone.)
   faults-stay-home : Alike (begin 2 ++ begin 1 ++ oneParam 1 7 ++ begin 2) (begin 1 ++ oneParam 1 7) (opened-one ∷ []) (one 1 Turn.Params (7 ∷ zeros (AREA - 1)))
   -- 1 opens, then 2. (taken_slot_opened: 1 is gone.)
@@ -93,7 +93,7 @@ pub record SmallRuns : Type 0 where
       (opened-one ∷ Heard (Note.Told (Event.Ready 1 0))
       ∷ Answered 1 (ForPair 0) (PairAnswer (Of.PairRefused 7)) (one 0 Turn.Stdin (zeros AREA)) (one 0 Turn.Stdin (zeros AREA))
       ∷ Heard (Note.Shown 1 STDIN 9) ∷ [])
-      (one 0 Turn.Stdin (zeros AREA))
+      (one-shown 1 0 Turn.Stdin (zeros AREA))
   -- A query comes in between, cut by a call of 1: its bytes are no parameters of 1.
   query-in-between : Alike
       (begin 1 ++ (header 9 0 2 ∷ StepOver (0 ∷ []) ∷ CallFor 1 (ForPair 0) ∷ StepOver (0 ∷ []) ∷ []) ++ oneParam 1 7) (begin 1 ++ (CallFor 1 (ForPair 0) ∷ []) ++ oneParam 1 7)
@@ -110,7 +110,7 @@ pub record SmallRuns : Type 0 where
   last-slot : Alike (fifteen ++ begin 1 ++ oneParam 1 7) (begin 1 ++ oneParam 1 7) (opened-one ∷ []) (one 1 Turn.Params (7 ∷ zeros (AREA - 1)))
 
 pub small-runs : SmallRuns
-unfolding names queryOf queried onManagement ofQuery copied taken lowestFree withBit withSlot withoutBit withoutSlot headerOf beginBodyOf headerBytes endBodyBytes advanced inHeader number4 fourAt lengthAt pairAt sameBytes pairsIn pairsFrom endingOf wellFormed repeatsIn repeats firstIn firstNamed paddingOf recordBytes chunksIn chunks streamBytes flatten withTurn withLife faulted aborted turned paramsFault paramsEnded onParams onStdin onData onInput onLive onHeader grown opened Of.valueIn Of.writes Of.saidOn Of.sayIn Of.owesOut Of.owesErr Of.finishBytes Of.finishIn requestAt areaAt putRequest putArea takeSlot freeSlot holdsId findFrom idFits slotsFit positionFits inShape onInactive onActive judged opens begun ofBegin ofRequest advances stepRefusal stepped started showing C.lentRefusal C.callRefusal C.value C.pairAtNumber Of.pairIn pairNumber numberIn C.say C.released C.finishes C.finish byteItems requestOf called memoryAfter seenIn itemsOf finalMemory allSeen timeline startOf seenOf
+unfolding names queryOf queried onManagement ofQuery copied taken lowestFree withBit withSlot withoutBit withoutSlot headerOf beginBodyOf headerBytes endBodyBytes advanced inHeader number4 fourAt lengthAt pairAt sameBytes pairsIn pairsFrom endingOf wellFormed repeatsIn repeats firstIn firstNamed paddingOf recordBytes chunksIn chunks streamBytes flatten withTurn withLife counted faulted aborted turned paramsFault paramsEnded onParams onStdin onData onInput onLive onHeader grown opened Of.valueIn Of.writes Of.saidOn Of.sayIn Of.owesOut Of.owesErr Of.finishBytes Of.finishIn requestAt areaAt putRequest putArea takeSlot freeSlot holdsId findFrom idFits slotsFit positionFits inShape onInactive onActive judged opens begun ofBegin ofRequest advances stepRefusal stepped started showing C.lentRefusal C.callRefusal C.value C.pairAtNumber Of.pairIn pairNumber numberIn C.say C.released C.finishes C.finish byteItems requestOf called memoryAfter seenIn itemsOf finalMemory allSeen timeline startOf seenOf
 small-runs =
     record {
       rest-skipped = record { whole-seen = refl; whole-left = refl; alone-seen = refl; alone-left = refl };

@@ -9,6 +9,7 @@ use borrow.Author.Tests.{ne-eqb}
 use Rattle.wire.specs.Test.{if_then_else_}
 use Rattle.machine.specs.Machine.{Observation, RequestEvent, NoticeEvent, CloseEvent, CountAnswer, CallAnswer, eventFrom, asList, concerns, observed}
 use Rattle.connection.specs.declared.request.Due.{Due}
+use Rattle.connection.specs.declared.event.Measure.{Measure}
 use Rattle.connection.specs.Event.{Event}
 use Rattle.connection.specs.Request.{Held, Ruled, faulted, aborted, turned, onHeader, onContent}
 use Rattle.connection.specs.Step.{queryOf}
@@ -20,17 +21,17 @@ use Rattle.connection.specs.Laws.Rules.{by-rule}
 -- ---- observations
 -- an event of a request, with this id (the four that name no request are never one of a request)
 abbrev pub withId : ℕ → Event → Event
-withId id Event.None = Event.End id 0
+withId id Event.None = Event.End id 0 Measure.Unstated
 withId id (Event.Open j role keep) = Event.Open id role keep
 withId id (Event.Ready j n) = Event.Ready id n
 withId id (Event.Data j stream n) = Event.Data id stream n
-withId id (Event.End j stream) = Event.End id stream
+withId id (Event.End j stream measure) = Event.End id stream measure
 withId id (Event.Abort j) = Event.Abort id
 withId id (Event.Refuse j n) = Event.Refuse id n
 withId id (Event.Fault j n) = Event.Fault id n
-withId id (Event.Query conns reqs mpxs) = Event.End id 0
-withId id (Event.Unknown kind) = Event.End id 0
-withId id (Event.Closed n) = Event.End id 0
+withId id (Event.Query conns reqs mpxs) = Event.End id 0 Measure.Unstated
+withId id (Event.Unknown kind) = Event.End id 0 Measure.Unstated
+withId id (Event.Closed n) = Event.End id 0 Measure.Unstated
 
 -- what is told of a request, with this id
 abbrev pub noteWithId : ℕ → Note → Note
@@ -63,7 +64,7 @@ Names id Event.None = Unit {0}
 Names id (Event.Open j role keep) = j ≡ id
 Names id (Event.Ready j n) = j ≡ id
 Names id (Event.Data j stream n) = ⊥
-Names id (Event.End j stream) = j ≡ id
+Names id (Event.End j stream measure) = j ≡ id
 Names id (Event.Abort j) = j ≡ id
 Names id (Event.Refuse j n) = j ≡ id
 Names id (Event.Fault j n) = j ≡ id
@@ -75,7 +76,7 @@ Names id (Event.Closed n) = ⊥
 pub names-header : (n : ℕ) (h : Held) (kind : ℕ) → Names (h .request .id) (onHeader kind n h .event)
 unfolding faulted aborted turned
 names-header n h kind =
-    by-rule (λ (r : Ruled). Names (h .request .id) (r .event)) h (λ d. tt) (λ cause fault. refl) refl (λ t. refl) (λ t s. refl) kind n
+    by-rule (λ (r : Ruled). Names (h .request .id) (r .event)) h (λ d. tt) (λ cause fault. refl) refl (λ t. refl) (λ t s m. refl) kind n
 
 -- what the machine tells of it is what the step tells
 pub header-told : (id : ℕ) (e : Event) (x : List ℕ) → Names id e → map Heard (notes e x) ≡ toldAll (asList receiver (eventFrom receiver id (noteOf e 0)))
@@ -84,7 +85,7 @@ header-told id Event.None x h = refl
 header-told id (Event.Open j role keep) x h = rw h
 header-told id (Event.Ready j n) x h = rw h
 header-told id (Event.Data j stream n) x h = absurd h
-header-told id (Event.End j stream) x h = rw h
+header-told id (Event.End j stream measure) x h = rw h
 header-told id (Event.Abort j) x h = rw h
 header-told id (Event.Refuse j n) x h = rw h
 header-told id (Event.Fault j n) x h = rw h
@@ -108,7 +109,7 @@ names-id id (Note.Told Event.None) = refl
 names-id id (Note.Told (Event.Open j role keep)) = refl
 names-id id (Note.Told (Event.Ready j n)) = refl
 names-id id (Note.Told (Event.Data j stream n)) = refl
-names-id id (Note.Told (Event.End j stream)) = refl
+names-id id (Note.Told (Event.End j stream measure)) = refl
 names-id id (Note.Told (Event.Abort j)) = refl
 names-id id (Note.Told (Event.Refuse j n)) = refl
 names-id id (Note.Told (Event.Fault j n)) = refl

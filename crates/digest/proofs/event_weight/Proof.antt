@@ -48,6 +48,9 @@ enum-known-e-4 c = search needs
 stream-type-requires-2 : tie.Need-stream-type-requires-2
 stream-type-requires-2 c κs = search needs
 
+measure-number-requires : tie.Need-measure-number-requires
+measure-number-requires c κs = search needs
+
 pack-requires-5 : tie.Need-pack-requires-5
 pack-requires-5 c κs = search needs
 
@@ -118,7 +121,7 @@ returns-4 : tie.Need-returns-4
 returns-4 c = (c .pack4 .ensures .0 ∙ simp (c .before .stream-type .ensures, c .before .before .before .e3 .given .1), c .pack4 .ensures .1)
 
 returns-5 : tie.Need-returns-5
-returns-5 c = (c .pack5 .ensures .0 ∙ simp (c .before .stream-type2 .ensures, c .before .before .before .e4 .given .1), c .pack5 .ensures .1)
+returns-5 c = (c .pack5 .ensures .0 ∙ simp (c .before .measure-number .ensures, c .before .before .stream-type2 .ensures, c .before .before .before .before .e4 .given .1), c .pack5 .ensures .1)
 
 returns-6 : tie.Need-returns-6
 returns-6 c = (c .pack6 .ensures .0 ∙ simp (c .before .before .e5 .given .1), c .pack6 .ensures .1)
@@ -157,6 +160,7 @@ event-weight-spec =
     pack-requires-4
     enum-known-e-4
     stream-type-requires-2
+    measure-number-requires
     pack-requires-5
     enum-known-e-5
     pack-requires-6

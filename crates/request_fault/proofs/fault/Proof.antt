@@ -9,13 +9,16 @@ clear-requires c κs = search needs
 with-life-requires : tie.Need-with-life-requires
 with-life-requires c κs = search needs
 
+with-shown-requires : tie.Need-with-shown-requires
+with-shown-requires c κs = search needs
+
 same-length : tie.Need-same-length
 same-length c = search needs
 
 returns : tie.Need-returns
 unfolding faulted
 returns c =
-    simp (c .with-life .ensures, c .before .before .before .before .clear .ensures)
+    simp (c .with-shown .ensures, c .before .with-life .ensures, c .before .before .before .before .before .clear .ensures)
 
 pub fault-spec : {M : Type 1} → statement M
-fault-spec = tie.close (tie.spec clear-requires with-life-requires same-length returns)
+fault-spec = tie.close (tie.spec clear-requires with-life-requires with-shown-requires same-length returns)

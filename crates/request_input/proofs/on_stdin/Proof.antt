@@ -10,6 +10,12 @@ after-stdin-requires c κs = search needs
 end-turn-requires : tie.Need-end-turn-requires
 end-turn-requires c κs = search needs
 
+slice-aggregate-own-measure : tie.Need-slice-aggregate-own-measure
+slice-aggregate-own-measure c = search needs
+
+own-measure-requires : tie.Need-own-measure-requires
+own-measure-requires c κs = search needs
+
 same-length : tie.Need-same-length
 same-length c = search needs
 
@@ -17,7 +23,8 @@ returns : tie.Need-returns
 unfolding onStdin
 returns c =
     let w = c .before .before .before .before in
-    simp (c .before .before .end-turn .ensures, w .after-stdin .ensures, eq-eqb _ _ (w .before .before .if1 .taken))
+    let v = w .before .before .before in
+    simp (c .before .before .end-turn .ensures, w .own-measure .ensures, v .after-stdin .ensures, eq-eqb _ _ (v .before .before .before .if1 .taken))
 
 returns-2 : tie.Need-returns-2
 unfolding onStdin
@@ -26,4 +33,4 @@ returns-2 c =
 
 pub on-stdin-spec : {M : Type 1} → statement M
 on-stdin-spec =
-    tie.close (tie.spec after-stdin-requires end-turn-requires same-length returns returns-2)
+    tie.close (tie.spec after-stdin-requires slice-aggregate-own-measure own-measure-requires end-turn-requires same-length returns returns-2)

@@ -2,6 +2,7 @@ use mathlib.Core.Path.{_≡_}
 use lib.ListN.{length}
 use Rattle.connection.specs.Sizes.{SLOTS}
 use Rattle.connection.specs.Slots.{putRequest}
+use Rattle.connection.specs.Laws.SlotsLaws.{Sized}
 use Rattle.slot_table.specs.Laws.{put-out, mapped-length}
 use borrow.Author.Needs.{needs}
 use Rattle.slot_table.proofs.put_request.Statement.{statement}
@@ -40,6 +41,18 @@ mark-slot-requires-3 c κs = search needs
 mark-slot-requires-4 : tie.Need-mark-slot-requires-4
 mark-slot-requires-4 c κs = search needs
 
+mul-table-3 : tie.Need-mul-table-3
+mul-table-3 c = search needs
+
+element-write-table-3 : tie.Need-element-write-table-3
+element-write-table-3 c = search needs
+
+mul-table-4 : tie.Need-mul-table-4
+mul-table-4 c = search needs
+
+element-write-table-4 : tie.Need-element-write-table-4
+element-write-table-4 c = search needs
+
 returns : tie.Need-returns
 unfolding putRequest
 returns c =
@@ -54,7 +67,10 @@ returns-2 c =
     let ids : length (a .t .ids) ≡ SLOTS = search needs in
     let lengths : length (a .t .lengths) ≡ SLOTS = search needs in
     let standings : length (a .t .standings) ≡ SLOTS = search mapped-length in
-    put-out (a .t) (a .i) (a .r) (record { ids = ids; lengths = lengths; standings = standings }) (c .if1 .left)
+    let stdin : length (a .t .«stdin_shown») ≡ SLOTS = search needs in
+    let «data» : length (a .t .«data_shown») ≡ SLOTS = search needs in
+    let sized : Sized (a .t) = record { ids = ids; lengths = lengths; standings = standings; stdin = stdin; «data» = «data» } in
+    put-out (a .t) (a .i) (a .r) sized (c .if1 .left)
 
 pub put-request-spec : {M : Type 1} → statement M
 put-request-spec =
@@ -71,5 +87,9 @@ put-request-spec =
     mark-slot-requires-2
     mark-slot-requires-3
     mark-slot-requires-4
+    mul-table-3
+    element-write-table-3
+    mul-table-4
+    element-write-table-4
     returns
     returns-2)

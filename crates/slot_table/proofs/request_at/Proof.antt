@@ -40,12 +40,25 @@ is-taken-requires-3 c κs = search needs
 is-taken-requires-4 : tie.Need-is-taken-requires-4
 is-taken-requires-4 c κs = search needs
 
+mul-t28 : tie.Need-mul-t28
+mul-t28 c = search needs
+
+element-copy-out-t31 : tie.Need-element-copy-out-t31
+element-copy-out-t31 c = search needs
+
+mul-t32 : tie.Need-mul-t32
+mul-t32 c = search needs
+
+element-copy-out-t35 : tie.Need-element-copy-out-t35
+element-copy-out-t35 c = search needs
+
 returns : tie.Need-returns
 unfolding requestAt
 returns c =
-    let third = c .before in
+    let fourth = c .before .before in
+    let third = fourth .before in
     let second = third .before in
-    simp (second .before .is-taken .ensures, second .is-taken2 .ensures, third .is-taken3 .ensures, c .is-taken4 .ensures)
+    simp (second .before .is-taken .ensures, second .is-taken2 .ensures, third .is-taken3 .ensures, fourth .is-taken4 .ensures)
 
 no-request-requires : tie.Need-no-request-requires
 no-request-requires c κs = search needs
@@ -60,7 +73,9 @@ returns-2 c =
     let outEnded : Fits w16 (t .«out_ended») = search needs in
     let errUsed : Fits w16 (t .«err_used») = search needs in
     let errEnded : Fits w16 (t .«err_ended») = search needs in
-    let sized : Sized t = record { ids = ids; lengths = lengths; standings = standings } in
+    let stdin : length (t .«stdin_shown») ≡ SLOTS = search needs in
+    let «data» : length (t .«data_shown») ≡ SLOTS = search needs in
+    let sized : Sized t = record { ids = ids; lengths = lengths; standings = standings; stdin = stdin; «data» = «data» } in
     let narrow : Narrow t = record { keep = keep .fits; «out_ended» = outEnded .fits; «err_used» = errUsed .fits; «err_ended» = errEnded .fits } in
     c .no-request .ensures ∙ request-out t (c .before .before .args .i) sized narrow (c .before .if1 .left)
 
@@ -78,6 +93,10 @@ request-at-spec =
     is-taken-requires-2
     is-taken-requires-3
     is-taken-requires-4
+    mul-t28
+    element-copy-out-t31
+    mul-t32
+    element-copy-out-t35
     returns
     no-request-requires
     returns-2)

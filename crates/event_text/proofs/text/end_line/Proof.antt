@@ -1,4 +1,4 @@
-use Rattle.event_text.specs.DraftLaws.{line-of-2}
+use Rattle.event_text.specs.DraftLaws.{line-of-3}
 use native.Mathlib.Omega.{arith}
 use borrow.Author.Needs.{needs}
 use Rattle.event_text.proofs.text.end_line.Statement.{statement}
@@ -16,11 +16,14 @@ add-number-requires c κs = search needs
 add-stream-requires : tie.Need-add-stream-requires
 add-stream-requires c κs = search needs
 
+add-measure-requires : tie.Need-add-measure-requires
+add-measure-requires c κs = search needs
+
 finish-requires : tie.Need-finish-requires
 finish-requires c κs = search needs
 
 returns : tie.Need-returns
-returns c = line-of-2 (c .before .before .before .begin .ensures) (c .before .before .add-number .ensures) (c .before .add-stream .ensures) (c .finish .ensures) (omega arith)
+returns c = line-of-3 (c .before .before .before .before .begin .ensures) (c .before .before .before .add-number .ensures) (c .before .before .add-stream .ensures) (c .before .add-measure .ensures) (c .finish .ensures) (omega arith)
 
 pub end-line-spec : {M : Type 1} → statement M
 end-line-spec =
@@ -30,5 +33,6 @@ end-line-spec =
     begin-requires
     add-number-requires
     add-stream-requires
+    add-measure-requires
     finish-requires
     returns)

@@ -1,6 +1,6 @@
 use borrow.Author.Needs.{needs}
-use Rattle.conn_content.proofs.passed.Statement.{statement}
-use Rattle.conn_content.proofs.passed.Tie as tie
+use Rattle.conn_content.proofs.skipped.Statement.{statement}
+use Rattle.conn_content.proofs.skipped.Tie as tie
 
 frame-within-requires : tie.Need-frame-within-requires
 frame-within-requires c κs = search needs
@@ -11,5 +11,5 @@ only-frame-requires c κs = search needs
 returns : tie.Need-returns
 returns c = λ t g s. simp (c .only-frame .ensures, c .before .frame-within .ensures)
 
-pub passed-spec : {M : Type 1} → statement M
-passed-spec = tie.close (tie.spec frame-within-requires only-frame-requires returns)
+pub skipped-spec : {M : Type 1} → statement M
+skipped-spec = tie.close (tie.spec frame-within-requires only-frame-requires returns)
