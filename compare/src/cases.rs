@@ -38,7 +38,10 @@ struct Item {
 
 enum What {
     Command(String),
+    /// What a web server sends, in pieces.
     Sent(Vec<u8>),
+    /// The next bytes of a body of readings, at once.
+    Read(Vec<u8>),
 }
 
 /// A line for the console, the answer that has to come, and where both are from.
@@ -106,8 +109,12 @@ pub fn expand(cases: &[Case]) -> Result<Vec<Asked>, Error> {
             vec![None]
         };
         for size in sizes {
-            let lend = format!("lend {STORE}");
-            for (command, answer) in [(lend, "ok"), ("start".into(), "open")] {
+            let mut before = vec![(format!("lend {STORE}"), "ok"), ("start".into(), "open")];
+            // Nothing else gives a new reader.
+            if case.items.iter().any(Item::reads) {
+                before.push(("body new".into(), "ok"));
+            }
+            for (command, answer) in before {
                 all.push(case.asked(size, case.line, &[], command, answer.into()));
             }
             for item in &case.items {
@@ -151,6 +158,15 @@ impl Case {
 }
 
 impl Item {
+    /// Whether it is for the reader.
+    fn reads(&self) -> bool {
+        match &self.asked {
+            What::Read(_) => true,
+            What::Command(command) => command.starts_with("body "),
+            What::Sent(_) => false,
+        }
+    }
+
     fn line_for(&self, size: usize) -> Result<(String, String), String> {
         let (command, answer) = match &self.asked {
             What::Command(command) => (command.clone(), self.answer_of(command)?),
@@ -158,6 +174,7 @@ impl Item {
                 format!("feed {size} {}", hex(bytes)),
                 self.told_by(bytes.len()),
             ),
+            What::Read(bytes) => (format!("read {}", hex(bytes)), self.told_by(bytes.len())),
         };
         if command.len() > LONGEST_LINE {
             return Err("the console's line for this would be too long".into());
@@ -168,15 +185,16 @@ impl Item {
     /// Commands that set something are answered by `ok`, which need not be written.
     fn answer_of(&self, command: &str) -> Result<String, String> {
         let word = command.split(' ').next();
+        let sets = matches!(word, Some("lend" | "poke")) || command == "body new";
         match &self.answers[..] {
             [answer] => Ok(answer.clone()),
-            [] if matches!(word, Some("lend" | "poke")) => Ok("ok".into()),
+            [] if sets => Ok("ok".into()),
             [] => Err("no answer follows: a line that begins with > is missing".into()),
-            _ => Err("a command has one answer: only records may tell more".into()),
+            _ => Err("a command has one answer: only records and `read` may tell more".into()),
         }
     }
 
-    /// Events, and then the bytes used: all of them where nothing else is said.
+    /// Events or readings, and then the bytes used: all of them where nothing else is said.
     fn told_by(&self, sent: usize) -> String {
         let mut told = self.answers.clone();
         if !told.last().is_some_and(|last| ends_feed(last)) {
@@ -191,9 +209,9 @@ fn ends_feed(answer: &str) -> bool {
 }
 
 /// What the console's commands begin with.
-const COMMANDS: [&str; 18] = [
+const COMMANDS: [&str; 20] = [
     "start", "lend", "step", "next", "feed", "value", "pair", "walk", "say", "end", "owed", "put",
-    "finish", "active", "area", "counts", "store", "poke",
+    "finish", "active", "area", "counts", "store", "reading", "body", "poke",
 ];
 const EVENTS: [&str; 10] = [
     "open", "ready", "data", "end", "abort", "refuse", "fault", "query", "unknown", "closed",
@@ -237,14 +255,20 @@ impl Reader<'_> {
 
 fn add_answer(item: &mut Item, line: &str) -> Result<(), String> {
     let answer = answer_text(line)?;
-    if let What::Sent(_) = item.asked {
-        if item.answers.last().is_some_and(|last| ends_feed(last)) {
-            return Err("nothing is told after `used` or `refused`".into());
+    let (known, kind): (&[&str], _) = match item.asked {
+        What::Command(_) => {
+            item.answers.push(answer);
+            return Ok(());
         }
-        let first = answer.split(' ').next().unwrap_or_default();
-        if !EVENTS.contains(&first) && !ends_feed(&answer) {
-            return Err(format!("`{first}` is no event"));
-        }
+        What::Sent(_) => (&EVENTS, "event"),
+        What::Read(_) => (&["reading"], "reading"),
+    };
+    if item.answers.last().is_some_and(|last| ends_feed(last)) {
+        return Err("nothing is told after `used` or `refused`".into());
+    }
+    let first = answer.split(' ').next().unwrap_or_default();
+    if !known.contains(&first) && !ends_feed(&answer) {
+        return Err(format!("`{first}` is no {kind}"));
     }
     item.answers.push(answer);
     Ok(())
@@ -252,9 +276,10 @@ fn add_answer(item: &mut Item, line: &str) -> Result<(), String> {
 
 fn add_asked(case: &mut Case, number: usize, line: &str) -> Result<(), String> {
     let words = words(line)?;
-    let asked = match records::record(&words)? {
-        Some(bytes) => What::Sent(bytes),
-        None => What::Command(command_text(&words)?),
+    let asked = match (words[0], records::record(&words)?) {
+        ("read", _) => What::Read(bytes_behind(&words, 1)?),
+        (_, Some(bytes)) => What::Sent(bytes),
+        _ => What::Command(command_text(&words)?),
     };
     // Records that follow each other are sent together.
     if let (What::Sent(more), Some(item)) = (&asked, case.items.last_mut()) {
@@ -287,11 +312,15 @@ fn command_text(words: &[&str]) -> Result<String, String> {
 
 /// Words up to a place, and behind it bytes in one or more parts.
 fn with_bytes(words: &[&str], from: usize) -> Result<String, String> {
+    let bytes = bytes_behind(words, from)?;
+    Ok(format!("{} {}", words[..from].join(" "), hex(&bytes)))
+}
+
+fn bytes_behind(words: &[&str], from: usize) -> Result<Vec<u8>, String> {
     if words.len() <= from {
         return Err("bytes are missing at the end (`-` stands for none)".into());
     }
-    let bytes = joined(&words[from..])?;
-    Ok(format!("{} {}", words[..from].join(" "), hex(&bytes)))
+    joined(&words[from..])
 }
 
 fn answer_text(line: &str) -> Result<String, String> {

@@ -2,11 +2,13 @@
 
 mod feed;
 pub mod poke;
+mod readings;
 pub mod text;
 pub mod words;
 
 use crate::answer::{Event, Output, Refusal, Source, Step};
 use crate::pairs::{write_pair, Pair, Reading};
+use crate::readings::Reader;
 use crate::reply::reply;
 use crate::state::{area, Connection, AREA, STORE};
 use std::fmt::Write;
@@ -27,6 +29,8 @@ pub struct Console {
     pub lent: usize,
     /// The event that `owed` replies to.
     pub event: Option<Event>,
+    /// What reads a body of readings. It has nothing to do with the connection.
+    pub reader: Reader,
     /// State and store before a call that must not change them where it is refused.
     before: (Connection, Vec<u8>),
 }
@@ -38,6 +42,7 @@ impl Default for Console {
             store: vec![0; WHOLE_STORE],
             lent: STORE,
             event: None,
+            reader: Reader::new(),
             before: (Connection::closed(), vec![0; WHOLE_STORE]),
         }
     }
@@ -108,7 +113,7 @@ impl Console {
                 poke::poke(&mut self.connection, &mut self.store, field)?;
                 "ok".into()
             }
-            _ => return None,
+            _ => return self.reading_command(words),
         })
     }
 

@@ -1,7 +1,8 @@
 //! A whole input fed to a fresh connection in pieces of one size, and all that its calls tell mixed into one number, by
-//! which two receivers can be compared and the cost of a call be measured.
+//! which two receivers can be compared and the cost of a call be measured. And the same for a reader of readings.
 
 use crate::answer::{Event, Refusal, Step};
+use crate::readings::{Reader, Reading, ReadingResult, COLDEST};
 use crate::state::Connection;
 use std::io::Read;
 
@@ -109,6 +110,38 @@ pub fn reading_digest(
             break;
         }
         (sum, onward) = feed(&call, &mut connection, store, &buffer[..n], sum);
+    }
+    sum
+}
+
+/// A log number, a temperature counted from the coldest on, and a raw count in one number.
+fn reading_weight(told: &ReadingResult) -> u64 {
+    match *told {
+        ReadingResult::Nothing => 0,
+        ReadingResult::Reading(Reading { log, tenths, raw }) => {
+            let above = (tenths - COLDEST) as u64 % 1024;
+            (u64::from(log) + (above << 32) + u64::from(raw) * 7) % (1 << 48)
+        }
+        ReadingResult::Refused(fault) => fault as u64,
+    }
+}
+
+/// The digest of a body of readings in pieces of `piece` bytes. As above, a call that uses nothing ends it and does not
+/// count.
+pub fn readings_digest(input: &[u8], piece: usize) -> u64 {
+    if piece == 0 {
+        return 0;
+    }
+    let (mut reader, mut sum) = (Reader::new(), 0);
+    for mut rest in input.chunks(piece) {
+        while !rest.is_empty() {
+            let (used, told) = reader.read(rest);
+            if used == 0 {
+                return sum;
+            }
+            sum = (sum * 33 + reading_weight(&told)) % MODULUS;
+            rest = &rest[used..];
+        }
     }
     sum
 }

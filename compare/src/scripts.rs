@@ -10,6 +10,7 @@ mod calls;
 mod lists;
 mod odd;
 mod pokes;
+mod readings;
 mod records;
 mod row_nine;
 mod traffic;
@@ -68,6 +69,11 @@ pub fn stream(seed: u64) -> Vec<u8> {
     draft.sent
 }
 
+/// A body of readings, whole or damaged.
+pub fn body(seed: u64) -> Vec<u8> {
+    readings::any_body(&mut Random::new(seed), 40)
+}
+
 /// A script of about so many lines.
 pub fn generate(seed: u64, lines: usize) -> Script {
     let mut draft = Draft::new(seed);
@@ -76,7 +82,7 @@ pub fn generate(seed: u64, lines: usize) -> Script {
         draft.every_call();
     }
     while draft.script.lines.len() < lines {
-        match draft.random.below(100) {
+        match draft.random.below(108) {
             0..=19 => draft.traffic(false),
             20..=31 => draft.bodies(),
             32..=49 => draft.traffic(true),
@@ -84,6 +90,7 @@ pub fn generate(seed: u64, lines: usize) -> Script {
             58..=60 => draft.whole_connection(),
             61..=75 => draft.row_nine(),
             76..=89 => draft.poked_state(),
+            90..=97 => draft.readings(),
             _ => draft.odd_lines(),
         }
     }

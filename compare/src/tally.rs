@@ -37,6 +37,11 @@ impl Tally {
             );
         }
         wanted.extend(PLACES.map(|place| format!("walk: malformed {place}")));
+        // The end of a body has no byte in it, so 34 is never new to a read.
+        for n in [31, 32, 33] {
+            wanted.extend([ANEW, AGAIN].map(|at| format!("read: refused {n} {at}")));
+        }
+        wanted.push(format!("read: refused 34 {AGAIN}"));
         wanted.extend(OTHERS.map(String::from));
         wanted.retain(|kind| !self.0.contains_key(kind));
         wanted
@@ -56,8 +61,12 @@ fn place_kind(place: &str) -> &'static str {
     }
 }
 
+/// The refusal of a body: at the byte that shows it, or at 0 where it was refused before.
+const ANEW: &str = "over 0";
+const AGAIN: &str = "at 0";
+
 /// Answers of calls that tell no event.
-const OTHERS: [&str; 11] = [
+const OTHERS: [&str; 17] = [
     "walk: end",
     "finish: open",
     "finish: closed",
@@ -67,6 +76,12 @@ const OTHERS: [&str; 11] = [
     "counts: zeros",
     "counts: some",
     "counts: full",
+    "reading: wrote",
+    "read: reading below zero",
+    "read: reading from zero up",
+    "read: used",
+    "body: clean",
+    "body: ok",
     "what",
     "long",
 ];
@@ -75,7 +90,7 @@ const OTHERS: [&str; 11] = [
 const FULL: &str = "4294967295";
 
 /// The numbers that each call can give.
-const REFUSALS: [(&str, &[u8]); 13] = [
+const REFUSALS: [(&str, &[u8]); 15] = [
     ("start", &[2]),
     ("step", &[2, 9, 1]),
     ("next", &[2, 9, 1]),
@@ -89,6 +104,8 @@ const REFUSALS: [(&str, &[u8]); 13] = [
     ("owed", &[6]),
     ("put", &[8, 6]),
     ("active", &[9, 1]),
+    ("reading", &[33, 6]),
+    ("body", &[31, 32, 33, 34]),
 ];
 
 /// The call, and the answer without what differs from request to request.
@@ -103,6 +120,10 @@ fn kind(line: &[u8], answer: &str) -> String {
         ["store", "0"] | ["counts", "0", "0"] => "zeros".into(),
         ["counts", FULL, _] | ["counts", _, FULL] => "full".into(),
         ["counts", _, _] => "some".into(),
+        ["refused", n, "at", "0"] => format!("refused {n} {AGAIN}"),
+        ["refused", n, "at", _] => format!("refused {n} {ANEW}"),
+        ["reading", _, tenths, _] if tenths.starts_with('-') => "reading below zero".into(),
+        ["reading", ..] => "reading from zero up".into(),
         ["refused", n, ..] => format!("refused {n}"),
         ["wrote", _, _, end] => end.into(),
         _ => event_kind(&words),
@@ -132,5 +153,46 @@ impl fmt::Display for Tally {
             writeln!(out, "{n:>9}  {kind}")?;
         }
         Ok(())
+    }
+}
+
+#[cfg(test)]
+mod tests {
+    use super::*;
+
+    #[test]
+    fn kinds_of_readings() {
+        let mut tally = Tally::default();
+        for (line, answer) in [
+            (
+                "read 00",
+                "reading 1 -184 5; reading 1 0 5; refused 32 at 9",
+            ),
+            ("read 00", "refused 32 at 0"),
+            ("read 00", "used 1"),
+            ("body end", "clean"),
+            ("body end", "refused 34"),
+            ("body new", "ok"),
+            ("reading 1 2 3 4", "wrote 3 010403"),
+            ("reading 1 2 3 0", "refused 6"),
+        ] {
+            tally.count(line.as_bytes(), answer);
+        }
+        let kinds: Vec<&str> = tally.0.keys().map(String::as_str).collect();
+        assert_eq!(
+            kinds,
+            [
+                "body: clean",
+                "body: ok",
+                "body: refused 34",
+                "read: reading below zero",
+                "read: reading from zero up",
+                "read: refused 32 at 0",
+                "read: refused 32 over 0",
+                "read: used",
+                "reading: refused 6",
+                "reading: wrote",
+            ]
+        );
     }
 }

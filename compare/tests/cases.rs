@@ -186,6 +186,44 @@ fn answers() {
 }
 
 #[test]
+fn readings() {
+    let told = |answers: &str| {
+        let all = first_run(&format!("case one\nread 01 02 \"A\"\n{answers}"));
+        // Behind the line that gives a new reader.
+        all[1].clone()
+    };
+    let line = |answer: &str| ("read 010241".into(), answer.into());
+    assert_eq!(told(""), line("used 3"));
+    assert_eq!(told("> reading 1 1 65\n"), line("reading 1 1 65; used 3"));
+    assert_eq!(
+        told("> reading 1 1 3\n> reading 1 1 3\n> refused 32 at 2\n"),
+        line("reading 1 1 3; reading 1 1 3; refused 32 at 2")
+    );
+    // It is one line, whatever the size of pieces.
+    let all =
+        expanded("case one\nread -\nbody end\n> clean\nreading 1 -2 3 9\n> wrote 3 01 03 03\n");
+    let lines: Vec<(&str, &str)> = all.iter().map(|a| (&*a.command, &*a.answer)).collect();
+    assert_eq!(
+        lines[1..],
+        [
+            ("start", "open"),
+            ("body new", "ok"),
+            ("read -", "used 0"),
+            ("body end", "clean"),
+            ("reading 1 -2 3 9", "wrote 3 010303"),
+        ]
+    );
+    // The answer to a new body need not be written; a case that does not read has none before it.
+    let all = first_run("case one\nbody new\nbody new\n> what\n");
+    let answers: Vec<&str> = all.iter().map(|(_, answer)| answer.as_str()).collect();
+    assert_eq!(answers, ["ok", "ok", "what"]);
+    assert_eq!(
+        first_run("case one\nreading 1 2 3 2\n> refused 6\n").len(),
+        1
+    );
+}
+
+#[test]
 fn what_is_wrong_and_where() {
     for (text, wanted) in [
         ("active\n", "one.txt:1: no case has begun"),
@@ -263,6 +301,16 @@ fn what_is_wrong_and_where() {
         ),
         ("case a\nstep\n", "one.txt:2: bytes are missing at the end"),
         ("case a\nnext\n", "one.txt:2: bytes are missing at the end"),
+        ("case a\nread\n", "one.txt:2: bytes are missing at the end"),
+        (
+            "case a\nread 01\n> ready 1 0\n",
+            "one.txt:3: `ready` is no reading",
+        ),
+        (
+            "case a\nread 01\n> used 1\n> reading 1 1 1\n",
+            "one.txt:4: nothing is told after",
+        ),
+        ("case a\nbody end\n", "one.txt:2: no answer follows"),
         (
             "case a\nbytes \"\\{70000}x\"\n",
             "one.txt:2: the console's line for this would be too long",

@@ -3,7 +3,7 @@
 mod common;
 
 use common::{record, KEEP, PORT};
-use compare::digest::{digest, reading_digest};
+use compare::digest::{digest, reading_digest, readings_digest};
 use compare::scripts::stream;
 use compare::state::{Connection, STORE};
 use compare::wire::kind::*;
@@ -79,4 +79,36 @@ fn no_store_and_no_buffer() {
     assert_ne!(read(STORE, 8), 0);
     assert_eq!(read(STORE, 0), 0);
     assert_eq!(read(STORE - 1, 8), 0);
+}
+
+/// What a reading adds: its log number, its temperature from -600 on, seven times its raw count.
+#[test]
+fn readings_in_a_body() {
+    let one = |log: u64, tenths: u64, raw: u64| log + (tenths << 32) + 7 * raw;
+    let mix = |all: &[u64]| all.iter().fold(0, |sum, w| (sum * 33 + w) % (1 << 56));
+    let body = [
+        0x01, 0xef, 0x02, 0x05, 0x07, 0xa0, 0x06, 0x00, 0x80, 0x00, 0x01,
+    ];
+    let (first, second) = (one(1, 416, 5), one(7, 1_000, 0));
+    assert_eq!(readings_digest(&body[..8], 64), mix(&[first, second]));
+    // A call that tells nothing counts too, as does the refusal once; the call behind it uses nothing.
+    assert_eq!(readings_digest(&body, 64), mix(&[first, second, 32]));
+    assert_eq!(
+        readings_digest(&body, 3),
+        mix(&[0, first, 0, second, 0, 32])
+    );
+    assert_eq!(readings_digest(&body[..6], 64), mix(&[first, 0]));
+    assert_eq!(readings_digest(&[], 64), 0);
+    assert_eq!(readings_digest(&body, 0), 0);
+    for (end, refusal) in [(&[0xff; 5][..], 31), (&[0x01, 0xa2, 0x06], 33)] {
+        let body = [&body[..4], end].concat();
+        assert_eq!(readings_digest(&body, 64), mix(&[first, refusal]));
+    }
+    let most = [
+        &[0xff, 0xff, 0xff, 0xff, 0x0f, 0x00][..],
+        &[0xff, 0xff, 0xff, 0xff, 0x0f],
+    ]
+    .concat();
+    let large = u64::from(u32::MAX);
+    assert_eq!(readings_digest(&most, 64), one(large, 600, large));
 }

@@ -4,11 +4,16 @@
 //!     bench read SYMBOL PIECE            one receiver that reads standard input, a file: nanoseconds and what it told
 //!     bench count SYMBOL PIECE TOTAL     one receiver once, for callgrind; prints the numbers of steps and of events
 //!     bench params SYMBOL LIST 0|1       one request's parameters once, 1: with the record that ends them
-//!     bench agree STREAMS                random connections: what is told, and the store that is left
+//!     bench agree STREAMS                random connections: what is told, and the store that is left; and random bodies
+//!                                        of readings
+//!     bench readings ROUNDS              times of the readers of readings
+//!     bench readings count SYMBOL TOTAL  one of them once, for callgrind; prints the numbers of readings and of bytes
+//!     bench readings symbols             what they are called, and by callgrind
 
 mod input;
 mod lists;
 mod reading;
+mod readings;
 mod receivers;
 mod tables;
 mod timing;
@@ -37,7 +42,10 @@ fn main() -> ExitCode {
             _ => false,
         },
         ["params", symbol, list, ended] => params(symbol, list, ended == "1"),
-        ["agree", streams] => streams.parse().is_ok_and(agree),
+        ["agree", streams] => streams
+            .parse()
+            .is_ok_and(|streams| agree(streams) && readings::agree(streams)),
+        ["readings", ref words @ ..] => of_readings(words),
         _ => false,
     };
     if done {
@@ -45,9 +53,25 @@ fn main() -> ExitCode {
     } else {
         eprintln!(
             "bench time ROUNDS FILE | bench read SYMBOL PIECE | bench count SYMBOL PIECE TOTAL \
-             | bench params SYMBOL LIST 0|1 | bench agree STREAMS"
+             | bench params SYMBOL LIST 0|1 | bench agree STREAMS \
+             | bench readings ROUNDS | bench readings count SYMBOL TOTAL | bench readings symbols"
         );
         ExitCode::FAILURE
+    }
+}
+
+fn of_readings(words: &[&str]) -> bool {
+    match *words {
+        ["count", symbol, total] => {
+            let total = total.parse();
+            total.is_ok_and(|total| readings::count(symbol, total))
+        }
+        ["symbols"] => readings::symbols(),
+        [rounds] => {
+            let rounds = rounds.parse();
+            rounds.is_ok_and(|rounds| worked(readings::table(rounds)))
+        }
+        _ => false,
     }
 }
 

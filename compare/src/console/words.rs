@@ -9,6 +9,18 @@ pub fn number(word: &str, most: u64) -> Option<u64> {
     word.parse::<u64>().ok().filter(|&n| n <= most)
 }
 
+/// A number of 32 bits with a sign. A minus sign stands directly before the digits; `-0` is 0.
+pub fn signed(word: &str) -> Option<i32> {
+    let (digits, sign) = match word.strip_prefix('-') {
+        Some(digits) => (digits, -1),
+        None => (word, 1),
+    };
+    let most = i32::MIN.unsigned_abs();
+    let n = number(digits, most.into())? as i64;
+    // The greatest is one less than that.
+    i32::try_from(sign * n).ok()
+}
+
 pub fn id(word: &str) -> Option<u16> {
     number(word, u16::MAX.into()).map(|n| n as u16)
 }

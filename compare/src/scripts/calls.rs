@@ -33,7 +33,7 @@ impl Draft {
 
     pub(super) fn any_call(&mut self) {
         let id = self.some_id();
-        match self.random.below(100) {
+        match self.random.below(104) {
             0..=19 => self.value(id),
             20..=33 => self.pair(id),
             34..=43 => {
@@ -57,6 +57,7 @@ impl Draft {
                 let line = self.random.pick(&["step -", "next -", "feed 8 -"]);
                 self.line(line);
             }
+            97..=100 => self.reading_call(),
             _ => {
                 self.line("store");
             }
@@ -93,7 +94,7 @@ impl Draft {
     }
 
     /// Just enough, one less, none, or plenty.
-    fn room(&mut self, needed: usize) -> usize {
+    pub(super) fn room(&mut self, needed: usize) -> usize {
         match self.random.below(10) {
             0..=2 => needed,
             3 => needed.saturating_sub(1),

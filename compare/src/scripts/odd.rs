@@ -5,7 +5,7 @@ use crate::console::{LONGEST_LINE, WHOLE_STORE};
 use crate::state::STORE;
 
 /// Whole lines: what is almost a command, and commands at the limits of their numbers.
-const LINES: [&str; 97] = [
+const LINES: [&str; 127] = [
     "",
     " ",
     "-",
@@ -98,6 +98,36 @@ const LINES: [&str; 97] = [
     "counts -",
     "count 1",
     "store 0",
+    "reading",
+    "reading 1 2 3",
+    "reading 1 2 3 12 12",
+    "reading 4294967295 0 4294967295 12",
+    "reading 4294967296 0 0 12",
+    "reading 0 0 4294967296 12",
+    "reading 18446744073709551616 0 0 12",
+    "reading -1 0 0 12",
+    "reading 0 0 -1 12",
+    "reading 0 0 0 70000",
+    "reading 0 0 0 70001",
+    "reading 0 0 0 -",
+    "read",
+    "read ",
+    "read 0",
+    "read 0A",
+    "read - -",
+    "read  -",
+    "read 8 00",
+    "reads 00",
+    "body",
+    "body ",
+    "body end ",
+    "body  end",
+    "body new 1",
+    "body New",
+    "body ends",
+    "body start",
+    "bodyend",
+    "new",
     "poke",
     "poke ",
     "# a remark",
@@ -177,6 +207,7 @@ impl Draft {
                 }
                 48 | 49 => self.store_limit(),
                 50..=57 => self.damaged_line(),
+                _ if self.random.one_in(10) => self.greatest_read(),
                 _ => self.greatest_line(),
             }
         }
@@ -231,15 +262,26 @@ impl Draft {
         self.line(line);
     }
 
+    /// The most bytes that can be read at once, as readings whose text is the longest for their bytes.
+    fn greatest_read(&mut self) {
+        self.line("body new");
+        let bytes = (LONGEST_LINE - "read ".len()) / 2;
+        self.line(format!("read {}", "7f".repeat(bytes)));
+        self.line("body end");
+    }
+
     /// A line of the greatest length, one that passes it by a character, and one that passes it by much.
     fn greatest_line(&mut self) {
         let length = LONGEST_LINE + self.random.pick(&[0, 0, 1, 1, 2, 140_000]);
         let (before, after) = match self.random.below(4) {
             0 => ("value 1 ", " -"),
             1 => ("put - ", " 70000"),
-            2 => self
-                .random
-                .pick(&[("step ", ""), ("next ", ""), ("feed 4096 ", "")]),
+            2 => self.random.pick(&[
+                ("step ", ""),
+                ("next ", ""),
+                ("feed 4096 ", ""),
+                ("read ", ""),
+            ]),
             _ => ("say 10 stdout ", " 70000"),
         };
         let middle = length - before.len() - after.len();

@@ -1,8 +1,10 @@
 // A line answered.
 use crate::ask::ask;
+use crate::command::BODY;
 use crate::command::FEED;
 use crate::command::LEND;
 use crate::command::NEXT;
+use crate::command::READ;
 use crate::command::START;
 use crate::command::STEP;
 use crate::command::end_of;
@@ -17,8 +19,11 @@ use crate::page::put;
 use crate::poke::POKE;
 use crate::poke::poke_bytes;
 use crate::poke::poked;
+use crate::readings::body_turn;
+use crate::readings::read_body;
 use crate::state::State;
 use crate::state::with_conn;
+use crate::state::with_reader;
 use crate::words::part;
 use crate::write::kept_call;
 use crate::write::put_effect;
@@ -52,11 +57,13 @@ fn start_anew(s: State, lent: &mut [u8], gathered: &mut [u8; QUERY], page: &mut 
     let started = start(lent, gathered);
     let told = started.result;
     let conn = started.conn;
+    let reader = s.reader;
     tell_start(page, told);
     State {
         conn: conn,
         event: Event::Nothing,
         lent: s.lent,
+        reader: reader,
     }
 }
 
@@ -64,11 +71,13 @@ fn start_anew(s: State, lent: &mut [u8], gathered: &mut [u8; QUERY], page: &mut 
 fn lend(s: State, n: usize, page: &mut [u8]) -> State {
     let c = s.conn;
     let e = s.event;
+    let reader = s.reader;
     tell(page, b"ok");
     State {
         conn: c,
         event: e,
         lent: n,
+        reader: reader,
     }
 }
 
@@ -117,6 +126,8 @@ fn perform(
             kept,
             page,
         ),
+        READ => with_reader(s, read_body(s.reader, part(bytes, 0, n), page)),
+        BODY => with_reader(s, body_turn(s.reader, n, page)),
         _ => write_on(s, f, lent, gathered, kept, bytes, &mut out[z..e], page),
     }
 }

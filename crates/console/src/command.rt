@@ -35,16 +35,23 @@ pub const NEXT: u64 = 10;
 
 pub const FEED: u64 = 11;
 
+// Bytes of a body, and its end.
+pub const READ: u64 = 12;
+
+pub const BODY: u64 = 13;
+
 // Commands that write into a lent room.
-pub const OWED: u64 = 12;
+pub const OWED: u64 = 14;
 
-pub const END: u64 = 13;
+pub const END: u64 = 15;
 
-pub const PUT: u64 = 14;
+pub const PUT: u64 = 16;
 
-pub const FINISH: u64 = 15;
+pub const FINISH: u64 = 17;
 
-pub const SAY: u64 = 16;
+pub const SAY: u64 = 18;
+
+pub const READING: u64 = 19;
 
 // A line that is too long.
 pub const LONG: u64 = 98;
@@ -86,7 +93,7 @@ pub fn room_of(f: Form) -> usize {
     let values = f.values;
     match kind {
         OWED => values[0] as usize,
-        SAY => values[3] as usize,
+        SAY | READING => values[3] as usize,
         _ => values[2] as usize,
     }
 }
@@ -95,8 +102,8 @@ pub fn room_of(f: Form) -> usize {
 fn read_command(line: &[u8], bytes: &mut [u8]) -> Form {
     read_form(
         line,
-        b"active store walk area counts pair value start lend step next feed owed end put finish say",
-        b"- - i i i ik ihh - l h h nh m iom hhm ium iohm",
+        b"active store walk area counts pair value start lend step next feed read body owed end put finish say reading",
+        b"- - i i i ik ihh - l h h nh h e m iom hhm ium iohm uzum",
         bytes,
     )
 }

@@ -41,7 +41,7 @@ struct Fed {
 }
 
 // A sum, or the largest number where it is larger.
-fn plus(a: usize, b: usize) -> usize {
+pub fn plus(a: usize, b: usize) -> usize {
     if usize::MAX - a < b {
         return usize::MAX;
     }
@@ -314,10 +314,12 @@ fn last_told(before: Event, t: Tale) -> Event {
 fn behind_feed(s: State, f: Fed) -> State {
     let before = s.event;
     let conn = f.conn;
+    let reader = s.reader;
     State {
         conn: conn,
         event: last_told(before, f.tale),
         lent: s.lent,
+        reader: reader,
     }
 }
 

@@ -4,6 +4,7 @@
 use crate::hex::decode;
 use crate::number::Number;
 use crate::number::number_of;
+use crate::number::signed_of;
 use crate::state::WHOLE;
 use crate::words::choice;
 use crate::words::count_of;
@@ -72,6 +73,8 @@ fn argument(kind: u8, w: &[u8], bytes: &mut [u8], at: usize) -> Number {
         b't' => choice(b"params stdin data done", w),
         b'v' => choice(b"live faulted aborted", w),
         b'd' => choice(b"stdin data", w),
+        b'e' => choice(b"end new", w),
+        b'z' => signed_of(w),
         _ => numeral(kind, w),
     }
 }

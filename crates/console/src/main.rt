@@ -11,6 +11,7 @@ mod kept;
 mod number;
 mod page;
 mod poke;
+mod readings;
 mod room;
 mod state;
 mod told;

@@ -65,3 +65,51 @@ pub fn low16(n: u64) -> u16 {
 pub fn low32(n: u64) -> u32 {
     (n % 4294967296) as u32
 }
+
+// What stands after the first character.
+fn behind_first(word: &[u8]) -> &[u8] {
+    let e = word.len();
+    let one: usize = 1;
+    if one <= e {
+        return &word[one..e];
+    }
+    word
+}
+
+// A number below zero, by the number after its minus sign: -1 is 1, -2 is 3, and so on.
+fn below_zero(n: u64) -> u64 {
+    if n == 0 {
+        return 0;
+    }
+    if 2147483648 < n {
+        return 0;
+    }
+    n * 2 - 1
+}
+
+// A number from zero up: 1 is 2, 2 is 4, and so on.
+fn above_zero(n: u64) -> u64 {
+    if 2147483648 < n {
+        return 0;
+    }
+    n * 2
+}
+
+// A signed number of 32 bits, as readings send one: even from zero up, odd below.
+pub fn signed_of(word: &[u8]) -> Number {
+    if word.len() == 0 {
+        return Number::Not;
+    }
+    if word[0] == b'-' {
+        let read = number_of(behind_first(word), 2147483648);
+        let Number::Is(n) = read else {
+            return Number::Not;
+        };
+        return Number::Is(below_zero(n));
+    }
+    let read = number_of(word, 2147483647);
+    let Number::Is(n) = read else {
+        return Number::Not;
+    };
+    Number::Is(above_zero(n))
+}

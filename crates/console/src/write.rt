@@ -2,6 +2,7 @@
 use crate::command::END;
 use crate::command::FINISH;
 use crate::command::PUT;
+use crate::command::READING;
 use crate::command::SAY;
 use crate::form::Form;
 use crate::kept::is_changed;
@@ -22,15 +23,21 @@ use fastcgi::FinishResult;
 use fastcgi::Output;
 use fastcgi::PairWrote;
 use fastcgi::QUERY;
+use fastcgi::Reading;
+use fastcgi::ReadingFault;
+use fastcgi::ReadingWrote;
 use fastcgi::Refusal;
 use fastcgi::Written;
 use fastcgi::Wrote;
 use fastcgi::end_output;
 use fastcgi::finish;
 use fastcgi::owed_reply;
+use fastcgi::reading_fault_number;
 use fastcgi::refusal_number;
 use fastcgi::write_output;
 use fastcgi::write_pair;
+use fastcgi::write_reading;
+use reading::tenths_of;
 
 // The bytes written, of a finish with the connection left open or closed; or the number of the refusal.
 pub enum Effect {
@@ -51,6 +58,31 @@ fn of_wrote(wrote: Wrote) -> Effect {
     match wrote {
         Wrote::Bytes(n) => Effect::Bytes(n),
         Wrote::Refused(why) => Effect::Refused(refusal_number(why)),
+    }
+}
+
+// What a reading came to.
+fn of_reading(wrote: ReadingWrote) -> Effect {
+    match wrote {
+        ReadingWrote::Bytes(n) => Effect::Bytes(n),
+        ReadingWrote::OutOfRange => Effect::Refused(reading_fault_number(ReadingFault::OutOfRange)),
+        ReadingWrote::NoRoom => Effect::Refused(refusal_number(Refusal::NoRoom)),
+    }
+}
+
+// A reading.
+fn reading(c: Conn, log: u32, tenths: i32, raw: u32, room: &mut [u8]) -> Called {
+    let wrote = write_reading(
+        room,
+        Reading {
+            log: log,
+            tenths: tenths,
+            raw: raw,
+        },
+    );
+    Called {
+        effect: of_reading(wrote),
+        conn: c,
     }
 }
 
@@ -148,6 +180,13 @@ fn call(
         END => end_stream(c, id, output_of(b), room),
         PUT => pair(c, part(bytes, 0, a), part(bytes, a, b as usize), room),
         FINISH => finish_one(c, store, id, low32(b), room),
+        READING => reading(
+            c,
+            low32(values[0]),
+            tenths_of(low32(b)),
+            low32(values[2]),
+            room,
+        ),
         _ => owed(c, e, room),
     }
 }

@@ -80,3 +80,19 @@ pub use codes::refusal_number;
 pub use codes::role_number;
 pub use codes::status_number;
 pub use codes::stream_type;
+
+// ---- Readings in a body, beside the receiver: a reading is written into a buffer, and read from the bytes that data
+// events show. A reader is a value that goes from call to call; `new_reader` makes one for each body.
+pub use reading::Reading;
+pub use reading_reader::BodyEnd;
+pub use reading_reader::Ended;
+pub use reading_reader::ReadOn;
+pub use reading_reader::Reader;
+pub use reading_reader::ReadingFault;
+pub use reading_reader::ReadingResult;
+pub use reading_reader::end_body;
+pub use reading_reader::new_reader;
+pub use reading_reader::read_reading;
+pub use reading_reader::reading_fault_number;
+pub use reading_writer::ReadingWrote;
+pub use reading_writer::write_reading;
