@@ -1,0 +1,4 @@
+pub mod Correction
+pub mod Rows
+pub mod FloatSize
+pub mod CorrectionLaws
