@@ -96,3 +96,12 @@ pub use reading_reader::read_reading;
 pub use reading_reader::reading_fault_number;
 pub use reading_writer::ReadingWrote;
 pub use reading_writer::write_reading;
+
+// ---- Ice correction, beside the receiver: a raw count corrected by a thawed and a frozen calibration card.
+pub use ice_correction::Calibration;
+pub use ice_correction::Card;
+pub use ice_correction::Corrected;
+pub use ice_correction::CorrectionFault;
+pub use ice_correction::Curve;
+pub use ice_correction::correct;
+pub use ice_correction::correction_fault_number;
