@@ -1,0 +1,2 @@
+-- The plain receiver's definition.
+pub mod Plain

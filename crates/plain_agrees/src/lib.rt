@@ -1,0 +1,1 @@
+// Theorems only: the plain receiver and the stepping one agree, in specs/.
