@@ -1,14 +1,17 @@
 // The questions: they change nothing.
 use crate::command::ACTIVE;
 use crate::command::AREA_OF;
+use crate::command::CORRECT;
 use crate::command::COUNTS;
 use crate::command::LONG;
 use crate::command::PAIR;
 use crate::command::STORE;
 use crate::command::VALUE;
 use crate::command::WALK;
+use crate::correction::ask_correct;
 use crate::form::Form;
 use crate::number::low16;
+use crate::number::low32;
 use crate::page::end_line;
 use crate::page::put;
 use crate::page::put_hex;
@@ -35,6 +38,7 @@ use fastcgi::pair_from;
 use fastcgi::refusal_number;
 use fastcgi::value;
 use fastcgi::value_source;
+use reading::tenths_of;
 use slot_table::request_at;
 use slot_word::is_taken;
 use wire::least;
@@ -262,6 +266,7 @@ fn put_answer<'a>(
 ) -> usize {
     let values = f.values;
     let id = low16(values[0]);
+    let k = values[0] as usize;
     let n = values[1] as usize;
     let m = values[2] as usize;
     let kind = f.kind;
@@ -273,6 +278,13 @@ fn put_answer<'a>(
         COUNTS => ask_counts(page, c, id),
         PAIR => ask_pair(page, c, seen, id, n),
         VALUE => ask_value(page, c, seen, id, part(bytes, 0, n), part(bytes, n, m)),
+        CORRECT => ask_correct(
+            page,
+            part(bytes, 0, k),
+            part(bytes, k, n),
+            tenths_of(low32(values[2])),
+            low32(values[3]),
+        ),
         LONG => put(page, 0, b"long"),
         _ => put(page, 0, b"what"),
     }

@@ -24,34 +24,36 @@ pub const PAIR: u64 = 5;
 
 pub const VALUE: u64 = 6;
 
+pub const CORRECT: u64 = 7;
+
 // Commands that change the state.
-pub const START: u64 = 7;
+pub const START: u64 = 8;
 
-pub const LEND: u64 = 8;
+pub const LEND: u64 = 9;
 
-pub const STEP: u64 = 9;
+pub const STEP: u64 = 10;
 
-pub const NEXT: u64 = 10;
+pub const NEXT: u64 = 11;
 
-pub const FEED: u64 = 11;
+pub const FEED: u64 = 12;
 
 // Bytes of a body, and its end.
-pub const READ: u64 = 12;
+pub const READ: u64 = 13;
 
-pub const BODY: u64 = 13;
+pub const BODY: u64 = 14;
 
 // Commands that write into a lent room.
-pub const OWED: u64 = 14;
+pub const OWED: u64 = 15;
 
-pub const END: u64 = 15;
+pub const END: u64 = 16;
 
-pub const PUT: u64 = 16;
+pub const PUT: u64 = 17;
 
-pub const FINISH: u64 = 17;
+pub const FINISH: u64 = 18;
 
-pub const SAY: u64 = 18;
+pub const SAY: u64 = 19;
 
-pub const READING: u64 = 19;
+pub const READING: u64 = 20;
 
 // A line that is too long.
 pub const LONG: u64 = 98;
@@ -102,8 +104,8 @@ pub fn room_of(f: Form) -> usize {
 fn read_command(line: &[u8], bytes: &mut [u8]) -> Form {
     read_form(
         line,
-        b"active store walk area counts pair value start lend step next feed read body owed end put finish say reading",
-        b"- - i i i ik ihh - l h h nh h e m iom hhm ium iohm uzum",
+        b"active store walk area counts pair value correct start lend step next feed read body owed end put finish say reading",
+        b"- - i i i ik ihh hhzu - l h h nh h e m iom hhm ium iohm uzum",
         bytes,
     )
 }

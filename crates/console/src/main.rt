@@ -2,6 +2,7 @@
 mod answer;
 mod ask;
 mod command;
+mod correction;
 mod feeding;
 mod form;
 mod hex;
