@@ -1,5 +1,7 @@
-//! The proved receiver as static libraries, which `rt staticlib` writes: by step, by next_event, and with the reads. The
-//! reader of readings is linked where its library is there; otherwise only the ordinary one is measured.
+//! The proved code as static libraries, which `rt staticlib` writes: the receiver by step, by next_event and with the
+//! reads, the reader of readings, and the correction. Each program names in its sources what it links, so that one can
+//! be built without the libraries of the other. The last two are linked where they are there; otherwise only the
+//! ordinary reader is measured, and no correction is compared.
 
 use std::path::Path;
 
@@ -7,17 +9,20 @@ fn main() {
     let folder = std::env::var("CARGO_MANIFEST_DIR").expect("cargo sets it");
     let library = format!("{folder}/../../target/staticlib");
     println!("cargo:rustc-link-search=native={library}");
+    // The folder too: a library that comes later may be older than the last build.
+    println!("cargo:rerun-if-changed={library}");
     for name in ["export", "export_next", "export_reading"] {
-        println!("cargo:rustc-link-lib=static={name}");
         println!("cargo:rerun-if-changed={library}/lib{name}.a");
     }
-    let readings = format!("{library}/libexport_readings.a");
-    println!("cargo::rustc-check-cfg=cfg(proved_readings)");
-    // The folder too: a library that comes later may be older than the last build.
-    println!("cargo:rerun-if-changed={readings}");
-    println!("cargo:rerun-if-changed={library}");
-    if Path::new(&readings).exists() {
-        println!("cargo:rustc-link-lib=static=export_readings");
-        println!("cargo:rustc-cfg=proved_readings");
+    for (name, there) in [
+        ("export_readings", "proved_readings"),
+        ("export_correction", "proved_correction"),
+    ] {
+        let path = format!("{library}/lib{name}.a");
+        println!("cargo::rustc-check-cfg=cfg({there})");
+        println!("cargo:rerun-if-changed={path}");
+        if Path::new(&path).exists() {
+            println!("cargo:rustc-cfg={there}");
+        }
     }
 }

@@ -209,9 +209,9 @@ fn ends_feed(answer: &str) -> bool {
 }
 
 /// What the console's commands begin with.
-const COMMANDS: [&str; 20] = [
+const COMMANDS: [&str; 21] = [
     "start", "lend", "step", "next", "feed", "value", "pair", "walk", "say", "end", "owed", "put",
-    "finish", "active", "area", "counts", "store", "reading", "body", "poke",
+    "finish", "active", "area", "counts", "store", "reading", "body", "correct", "poke",
 ];
 const EVENTS: [&str; 10] = [
     "open", "ready", "data", "end", "abort", "refuse", "fault", "query", "unknown", "closed",

@@ -1,5 +1,6 @@
 //! The twin of the console: every call by a line of text, and its answer as a line. `docs/CONSOLE.md` says which.
 
+pub mod correction;
 mod feed;
 pub mod poke;
 mod readings;
@@ -113,6 +114,7 @@ impl Console {
                 poke::poke(&mut self.connection, &mut self.store, field)?;
                 "ok".into()
             }
+            ["correct", ..] => return correction::correction_command(words),
             _ => return self.reading_command(words),
         })
     }

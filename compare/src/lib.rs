@@ -5,6 +5,7 @@ pub mod answer;
 pub mod calls;
 pub mod cases;
 pub mod console;
+pub mod correction;
 pub mod digest;
 pub mod drive;
 pub mod output;

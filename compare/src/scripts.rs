@@ -7,6 +7,8 @@
 mod bodies;
 mod broken;
 mod calls;
+mod cards;
+mod correction;
 mod lists;
 mod odd;
 mod pokes;
@@ -17,6 +19,7 @@ mod traffic;
 
 use crate::console::words::hex;
 use crate::console::Console;
+use crate::correction::Calibration;
 use crate::random::Random;
 use crate::state::SLOTS;
 use std::collections::BTreeMap;
@@ -74,6 +77,11 @@ pub fn body(seed: u64) -> Vec<u8> {
     readings::any_body(&mut Random::new(seed), 40)
 }
 
+/// Cards, a temperature and a raw count, to be corrected or refused.
+pub fn correction(seed: u64) -> (Calibration, i32, u32) {
+    cards::any_correction(&mut Random::new(seed))
+}
+
 /// A script of about so many lines.
 pub fn generate(seed: u64, lines: usize) -> Script {
     let mut draft = Draft::new(seed);
@@ -82,7 +90,7 @@ pub fn generate(seed: u64, lines: usize) -> Script {
         draft.every_call();
     }
     while draft.script.lines.len() < lines {
-        match draft.random.below(108) {
+        match draft.random.below(114) {
             0..=19 => draft.traffic(false),
             20..=31 => draft.bodies(),
             32..=49 => draft.traffic(true),
@@ -91,6 +99,7 @@ pub fn generate(seed: u64, lines: usize) -> Script {
             61..=75 => draft.row_nine(),
             76..=89 => draft.poked_state(),
             90..=97 => draft.readings(),
+            98..=103 => draft.corrections(),
             _ => draft.odd_lines(),
         }
     }

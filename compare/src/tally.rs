@@ -1,5 +1,7 @@
 //! How often each kind of answer came, so that one can see that all of them did.
 
+mod correction;
+
 use std::collections::BTreeMap;
 use std::fmt;
 
@@ -11,6 +13,9 @@ impl Tally {
     pub fn count(&mut self, line: &[u8], answer: &str) {
         for part in answer.split("; ") {
             *self.0.entry(kind(line, part)).or_default() += 1;
+        }
+        for kind in correction::kinds(line, answer) {
+            *self.0.entry(kind.into()).or_default() += 1;
         }
     }
 
@@ -43,6 +48,7 @@ impl Tally {
         }
         wanted.push(format!("read: refused 34 {AGAIN}"));
         wanted.extend(OTHERS.map(String::from));
+        wanted.extend(correction::WANTED.map(String::from));
         wanted.retain(|kind| !self.0.contains_key(kind));
         wanted
     }
@@ -90,7 +96,7 @@ const OTHERS: [&str; 17] = [
 const FULL: &str = "4294967295";
 
 /// The numbers that each call can give.
-const REFUSALS: [(&str, &[u8]); 15] = [
+const REFUSALS: [(&str, &[u8]); 16] = [
     ("start", &[2]),
     ("step", &[2, 9, 1]),
     ("next", &[2, 9, 1]),
@@ -106,6 +112,7 @@ const REFUSALS: [(&str, &[u8]); 15] = [
     ("active", &[9, 1]),
     ("reading", &[33, 6]),
     ("body", &[31, 32, 33, 34]),
+    ("correct", &[41, 42, 43, 44]),
 ];
 
 /// The call, and the answer without what differs from request to request.

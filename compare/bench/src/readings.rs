@@ -14,6 +14,7 @@ const TOTAL: usize = 64 << 20;
 const PIECE: usize = 65_536;
 
 #[cfg(proved_readings)]
+#[link(name = "export_readings", kind = "static")]
 extern "C" {
     fn fastcgi_readings_digest(input: *const u8, input_length: usize, piece: usize) -> u64;
 }

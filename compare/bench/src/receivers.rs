@@ -4,6 +4,8 @@
 use compare::digest::digest;
 use compare::state::Connection;
 
+#[link(name = "export", kind = "static")]
+#[link(name = "export_next", kind = "static")]
 extern "C" {
     fn fastcgi_digest(
         store: *mut u8,

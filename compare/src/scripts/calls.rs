@@ -33,7 +33,7 @@ impl Draft {
 
     pub(super) fn any_call(&mut self) {
         let id = self.some_id();
-        match self.random.below(104) {
+        match self.random.below(107) {
             0..=19 => self.value(id),
             20..=33 => self.pair(id),
             34..=43 => {
@@ -58,6 +58,7 @@ impl Draft {
                 self.line(line);
             }
             97..=100 => self.reading_call(),
+            101..=103 => self.correct_call(),
             _ => {
                 self.line("store");
             }

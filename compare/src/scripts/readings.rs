@@ -313,7 +313,7 @@ impl Draft {
     }
 
     /// Zeros before the digits count for nothing, and neither does the sign of 0.
-    fn tenths_word(&mut self, tenths: i32) -> String {
+    pub(super) fn tenths_word(&mut self, tenths: i32) -> String {
         if self.random.one_in(4) {
             return self.random.pick(&WORDS).into();
         }
