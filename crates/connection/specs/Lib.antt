@@ -13,6 +13,7 @@ pub mod Decision
 pub mod Arguments
 pub mod Run
 pub mod Isolation
+pub mod Shuffle
 pub mod History
 pub mod Counts
 pub mod Laws

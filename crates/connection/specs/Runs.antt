@@ -19,6 +19,7 @@ pub mod Theorem
 pub mod Hygiene
 pub mod SecondRun
 pub mod Whole
+pub mod Shuffled
 pub mod RunParts
 pub mod SmallRuns
 pub mod WellFormedLists

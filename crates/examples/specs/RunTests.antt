@@ -7,11 +7,14 @@ use native.Mathlib.Omega.{arith}
 use lib.Dec.{eqb, ltb}
 use borrow.Author.Tests.{eq-eqb, ltb-true}
 use Rattle.wire.specs.Test.{if_then_else_, _<?_, _=?_}
+use Rattle.machine.specs.Timeline.{Item, ByteItem, CallItem, isOwnCall}
+use Rattle.machine.specs.Interleaving.{Part, RecordPart, CallPart, ownIn, ownOf}
 use Rattle.connection.specs.Event.{Event}
 use Rattle.connection.specs.RequestCalls as Of
 use Rattle.connection.specs.Calls as C
 use Rattle.connection.specs.Bytewise.{Note}
 use Rattle.connection.specs.Laws.PieceLaws.{AllBytes}
+use Rattle.connection.specs.Arguments.{Argument}
 use Rattle.connection.specs.Run.{Operation, StepOver, CallFor, CountActive, Observed, Heard, Answered, PiecesOk}
 use Rattle.connection.specs.Isolation.{overloadedFor}
 
@@ -93,3 +96,36 @@ never-refused R (o ∷ os) e (List·Memᴰ·tail m) = go (tellsRefusal R o) e (�
     go : (w : Bool) → (if w then true else refusedIn R os) ≡ false → (refusedIn R os ≡ false → ⊥) → ⊥
     go true d f = let z : _≡_ {A = ℕ} 0 1 = cc in omega arith
     go false d f = f d
+
+-- a call among these items names R
+unfoldable pub namesIn : ℕ → List (Item Argument) → Bool
+namesIn R [] = false
+namesIn R (ByteItem b ∷ t) = namesIn R t
+namesIn R (CallItem c ∷ t) = if isOwnCall R c then true else namesIn R t
+
+-- a record or a call of these parts does
+unfoldable pub names : ℕ → List (Part Argument) → Bool
+names R [] = false
+names R (RecordPart id t ∷ ps) = if id =? R then true else if namesIn R t then true else names R ps
+names R (CallPart c ∷ ps) = if isOwnCall R c then true else names R ps
+
+-- both tests fail
+neither : (a b : Bool) → (if a then true else b) ≡ false → (a ≡ false) × (b ≡ false)
+neither true b e = let z : _≡_ {A = ℕ} 0 1 = cc in absurd (omega arith)
+neither false b e = (refl, e)
+
+nothing-in : (R : ℕ) (t : List (Item Argument)) → namesIn R t ≡ false → ownIn false R t ≡ []
+unfolding namesIn ownIn
+nothing-in R [] e = refl
+nothing-in R (ByteItem b ∷ t) e = nothing-in R t e
+nothing-in R (CallItem c ∷ t) e = let n = neither (isOwnCall R c) (namesIn R t) e in rw (n .0) (nothing-in R t (n .1))
+
+-- Where none does, nothing is R's.
+pub nothing-of : (R : ℕ) (ps : List (Part Argument)) → names R ps ≡ false → ownOf R ps ≡ []
+unfolding names ownOf
+nothing-of R [] e = refl
+nothing-of R (RecordPart id t ∷ ps) e =
+    let n = neither (eqb id R) (if namesIn R t then true else names R ps) e in
+    let m = neither (namesIn R t) (names R ps) (n .1) in
+    rw (n .0, nothing-in R t (m .0)) (nothing-of R ps (m .1))
+nothing-of R (CallPart c ∷ ps) e = let n = neither (isOwnCall R c) (names R ps) e in rw (n .0) (nothing-of R ps (n .1))

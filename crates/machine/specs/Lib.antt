@@ -4,6 +4,8 @@ pub mod TimelineLaws
 pub mod Cause
 pub mod Machine
 pub mod Purge
+pub mod Interleaving
+pub mod InterleavingLaws
 pub mod RunLaws
 pub mod SimulationRelation
 pub mod SimulationHeader

@@ -19,6 +19,7 @@ use Rattle.connection.specs.Runs.Receiver.{receiver}
 use Rattle.connection.specs.Arguments.{Argument}
 use Rattle.connection.specs.Run.{Memory, Observed, requestOf, WholeRun, beginning, ending, timelineOf, observedIn, seenOf, observed}
 use Rattle.connection.specs.Isolation.{EndsBetweenRecords, overloadedFor, NeverOverloaded, RunsFor, Isolated}
+use Rattle.connection.specs.Shuffle.{SameOf}
 use Rattle.connection.specs.Runs.Telling.{told, toldAll, seen-observed}
 use Rattle.connection.specs.Runs.LinkingStep.{loadedOf, closed-loaded, Steady}
 use Rattle.connection.specs.Runs.LinkingRuns.{run-linked, start-loaded, start-steady, request-loaded, BetweenRecords, between-loaded, loaded-between}
@@ -92,11 +93,6 @@ any-run R A B r b room runs =
       same-observed = same-observed R A B r (i .isolated .same-observed);
       same-request = same-request R A B (i .isolated .same-request);
     }
-
--- What of R is the same in two runs.
-pub record SameOf (R : ℕ) (A B : WholeRun) : Type 0 where
-  pub same-observed : observed R A ≡ observed R B
-  pub same-request : requestOf R (ending A) ≡ requestOf R (ending B)
 
 -- Two runs with the same items of R, mixed differently among those of others: what is observed of R is the same, and
 -- so is R's request at the end.
