@@ -17,6 +17,7 @@ pub mod replay;
 pub mod reply;
 pub mod scripts;
 pub mod shape;
+pub mod shuffles;
 pub mod state;
 pub mod stated;
 pub mod tally;

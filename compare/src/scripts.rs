@@ -11,6 +11,7 @@ mod cards;
 mod correction;
 mod lists;
 mod odd;
+pub mod own;
 mod pokes;
 mod readings;
 mod records;

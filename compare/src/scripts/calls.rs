@@ -122,14 +122,14 @@ impl Draft {
         any_name(&mut self.random)
     }
 
-    fn value(&mut self, id: u16) {
+    pub(super) fn value(&mut self, id: u16) {
         let name = hex(&self.known_name(id));
         let n = self.random.index(4);
         let fallback = hex(&self.random.bytes(n));
         self.line(format!("value {id} {name} {fallback}"));
     }
 
-    fn pair(&mut self, id: u16) {
+    pub(super) fn pair(&mut self, id: u16) {
         let k = match self.random.below(12) {
             0 => u64::MAX,
             1 => 1 << 32,
@@ -143,7 +143,7 @@ impl Draft {
         self.random.pick(&["stdout", "stderr"])
     }
 
-    fn say(&mut self, id: u16) {
+    pub(super) fn say(&mut self, id: u16) {
         let n = match self.random.below(70) {
             0 => self.random.pick(&[8_183, 8_184, 8_185, 16_368, 16_369]),
             1..=20 => self.random.pick(&[0, 1, 7, 8, 9]),
@@ -155,7 +155,7 @@ impl Draft {
         self.line(format!("say {id} {stream} {data} {room}"));
     }
 
-    fn end(&mut self, id: u16) {
+    pub(super) fn end(&mut self, id: u16) {
         let stream = self.stream();
         let room = self.room(8);
         self.line(format!("end {id} {stream} {room}"));
@@ -191,7 +191,7 @@ impl Draft {
         self.line(format!("put {} {} {room}", hex(&name), hex(&value)));
     }
 
-    fn finish(&mut self, id: u16) {
+    pub(super) fn finish(&mut self, id: u16) {
         let status = self.random.draw() as u32 >> self.random.below(32);
         let needed = self.random.pick(&[16, 24, 32]);
         let room = self.room(needed);

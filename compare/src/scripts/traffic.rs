@@ -108,7 +108,7 @@ impl Draft {
     }
 
     /// A record that this id may send now.
-    fn next_record(&mut self, id: u16) -> Vec<u8> {
+    pub(super) fn next_record(&mut self, id: u16) -> Vec<u8> {
         let connection = &self.console.connection;
         let Some(slot) = connection.find(id) else {
             let full = connection.lowest_free().is_none();
@@ -167,7 +167,7 @@ impl Draft {
     }
 
     /// Any type, any content.
-    fn any_record(&mut self, id: u16) -> Vec<u8> {
+    pub(super) fn any_record(&mut self, id: u16) -> Vec<u8> {
         let kind = match self.random.below(4) {
             0 => self.random.byte(),
             _ => self.random.within(1, 11) as u8,
@@ -233,7 +233,7 @@ impl Draft {
     }
 
     /// PARAMS that fill the area to its last byte, or pass it by one.
-    fn brimming_params(&mut self, id: u16) -> Vec<u8> {
+    pub(super) fn brimming_params(&mut self, id: u16) -> Vec<u8> {
         let connection = &self.console.connection;
         let length = connection
             .find(id)
