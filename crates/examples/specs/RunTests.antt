@@ -1,14 +1,17 @@
--- Tests of the premises of isolation, for runs that are written out.
+-- Tests of the premises of isolation and of any shuffle, for runs that are written out.
 use mathlib.Core.Path.{_≡_, refl, ap, _∙_}
 use mathlib.Core.List.{List, [], _∷_, List·Memᴰ, List·Memᴰ·head, List·Memᴰ·tail}
 use mathlib.Core.Bool.{Bool, true, false}
-use Prim.Native.Nat.{ℕ, zero, suc}
+use Prim.Native.Nat.{ℕ, zero, suc, _≤_}
 use native.Mathlib.Omega.{arith}
+use lib.ListN.{length, drop, drop-of-length-le}
 use lib.Dec.{eqb, ltb}
-use borrow.Author.Tests.{eq-eqb, ltb-true}
+use borrow.Author.Tests.{eq-eqb, eqb-true, ltb-true}
 use Rattle.wire.specs.Test.{if_then_else_, _<?_, _=?_}
-use Rattle.machine.specs.Timeline.{Item, ByteItem, CallItem, isOwnCall}
-use Rattle.machine.specs.Interleaving.{Part, RecordPart, CallPart, ownIn, ownOf}
+use Rattle.record.specs.Split.{frontLength, wholeFront, front, _then-split_, splitIn, split}
+use Rattle.record.specs.SplitLaws.{split-whole}
+use Rattle.machine.specs.Timeline.{Item, ByteItem, CallItem, itemBytes, isOwnCall}
+use Rattle.machine.specs.Interleaving.{Part, RecordPart, CallPart, IsRecordOf, AllWhole, ownIn, ownOf}
 use Rattle.connection.specs.Event.{Event}
 use Rattle.connection.specs.RequestCalls as Of
 use Rattle.connection.specs.Calls as C
@@ -129,3 +132,41 @@ nothing-of R (RecordPart id t ∷ ps) e =
     let m = neither (namesIn R t) (names R ps) (n .1) in
     rw (n .0, nothing-in R t (m .0)) (nothing-of R ps (m .1))
 nothing-of R (CallPart c ∷ ps) e = let n = neither (isOwnCall R c) (names R ps) e in rw (n .0) (nothing-of R ps (n .1))
+
+-- the bytes are one whole record of that id
+unfoldable pub isRecord : ℕ → List ℕ → Bool
+isRecord id b = if wholeFront b then (if frontLength b =? length b then front b .id =? id else false) else false
+
+-- every record of these parts is
+unfoldable pub wholeParts : List (Part Argument) → Bool
+wholeParts [] = true
+wholeParts (RecordPart id t ∷ ps) = if isRecord id (itemBytes t) then wholeParts ps else false
+wholeParts (CallPart c ∷ ps) = wholeParts ps
+
+-- both tests hold
+both : (a b : Bool) → (if a then b else false) ≡ true → (a ≡ true) × (b ≡ true)
+both true b e = (refl, e)
+both false b e = let z : _≡_ {A = ℕ} 0 1 = cc in absurd (omega arith)
+
+is-record : (id : ℕ) (b : List ℕ) → isRecord id b ≡ true → IsRecordOf id b
+unfolding isRecord split splitIn
+is-record id b e =
+    let n = frontLength b in
+    let f = both (wholeFront b) (if n =? length b then front b .id =? id else false) e in
+    let g = both (n =? length b) (front b .id =? id) (f .1) in
+    let l : length b ≤ n = omega (arith, eqb-true n (length b) (g .0)) in
+    let d : drop n b ≡ [] = drop-of-length-le b {i = n} l in
+    record {
+      whole = front b;
+      is-split = split-whole b (f .0) ∙ ap (λ x. (front b ∷ []) then-split split x) d;
+      is-id = eqb-true (front b .id) id (g .1);
+    }
+
+-- They are whole.
+pub whole-parts : (ps : List (Part Argument)) → wholeParts ps ≡ true → AllWhole ps
+unfolding wholeParts
+whole-parts [] e = tt
+whole-parts (RecordPart id t ∷ ps) e =
+    let f = both (isRecord id (itemBytes t)) (wholeParts ps) e in
+    (is-record id (itemBytes t) (f .0), whole-parts ps (f .1))
+whole-parts (CallPart c ∷ ps) e = (tt, whole-parts ps e)

@@ -15,7 +15,7 @@ use Rattle.slot_word.specs.Word.{taken, lowestFree, withBit, withSlot, withoutB
 use Rattle.record.specs.Names.{STDIN}
 use Rattle.record.specs.Header.{headerOf, headerBytes}
 use Rattle.record.specs.Body.{beginBodyOf, endBodyBytes}
-use Rattle.record.specs.Split.{frontLength, wholeFront, front, split}
+use Rattle.record.specs.Split.{frontLength, wholeFront, front}
 use Rattle.record_reader.specs.Position.{betweenRecords, advanced, inHeader}
 use Rattle.record_reader.specs.declared.Position.{Position}
 use Rattle.pairs.specs.Length.{fourAt, lengthAt}
@@ -25,7 +25,7 @@ use Rattle.pair_list.specs.List.{pairsIn, pairsFrom, endingOf, wellFormed, firs
 use Rattle.pair_repeats.specs.Repeats.{repeatsIn, repeats}
 use Rattle.record_writer.specs.Written.{paddingOf, recordBytes, chunksIn, chunks, streamBytes}
 use Rattle.machine.specs.Timeline.{Item, RequestCall, CountCall, CallItem, byteItems, itemBytes, isOwnCall}
-use Rattle.machine.specs.Interleaving.{Part, RecordPart, CallPart, IsRecordOf, AllWhole, allItems, ownIn, ownOf}
+use Rattle.machine.specs.Interleaving.{Part, RecordPart, CallPart, AllWhole, allItems, ownIn, ownOf}
 use Rattle.connection.specs.declared.answer.Output.{Output}
 use Rattle.connection.specs.declared.request.Role.{Role}
 use Rattle.connection.specs.declared.request.Turn.{Turn}
@@ -47,7 +47,7 @@ use Rattle.connection.specs.Isolation.{EndsBetweenRecords}
 use Rattle.connection.specs.Shuffle.{SameForEach, SameOf}
 use Rattle.connection.specs.Runs.Records.{between-whole}
 use Rattle.connection.specs.Runs.Shuffled.{shuffle}
-use Rattle.examples.specs.RunTests.{allBelow, piecesBelow, below-pieces, refusedIn, never-refused, namesIn, names, nothing-of}
+use Rattle.examples.specs.RunTests.{allBelow, piecesBelow, below-pieces, refusedIn, never-refused, namesIn, names, nothing-of, isRecord, wholeParts, whole-parts}
 
 -- ---- the records and calls of each request
 -- the buffer that is lent to the calls
@@ -343,83 +343,13 @@ outcome-of-b = refl
 
 -- ---- the theorem on them
 -- Each record is whole.
-whole : {id : ℕ} (bytes : List ℕ) → split bytes ≡ record { records = front bytes ∷ []; rest = [] }
-    → front bytes .id ≡ id → IsRecordOf id bytes
-whole bytes e d = record { whole = front bytes; is-split = e; is-id = d }
-
 whole-a : AllWhole partsA
-unfolding split front frontLength wholeFront headerOf itemBytes byteItems
-whole-a = (
-  whole _ refl refl,
-  (
-    whole _ refl refl,
-    (
-      whole _ refl refl,
-      (
-        whole _ refl refl,
-        (
-          whole _ refl refl,
-          (
-            whole _ refl refl,
-            (
-              whole _ refl refl,
-              (
-                tt,
-                (
-                  whole _ refl refl,
-                  (
-                    whole _ refl refl,
-                    (
-                      whole _ refl refl,
-                      tt,
-                    ),
-                  ),
-                ),
-              ),
-            ),
-          ),
-        ),
-      ),
-    ),
-  ),
-)
+unfolding wholeParts isRecord front frontLength wholeFront headerOf itemBytes byteItems
+whole-a = whole-parts partsA refl
 
 whole-b : AllWhole partsB
-unfolding split front frontLength wholeFront headerOf itemBytes byteItems
-whole-b = (
-  whole _ refl refl,
-  (
-    whole _ refl refl,
-    (
-      whole _ refl refl,
-      (
-        whole _ refl refl,
-        (
-          whole _ refl refl,
-          (
-            whole _ refl refl,
-            (
-              whole _ refl refl,
-              (
-                tt,
-                (
-                  whole _ refl refl,
-                  (
-                    whole _ refl refl,
-                    (
-                      whole _ refl refl,
-                      (tt, tt),
-                    ),
-                  ),
-                ),
-              ),
-            ),
-          ),
-        ),
-      ),
-    ),
-  ),
-)
+unfolding wholeParts isRecord front frontLength wholeFront headerOf itemBytes byteItems
+whole-b = whole-parts partsB refl
 
 -- What is R's is the same in both: of 1, 2 and 3 it is computed, and of others there is nothing.
 same-own : (R : ℕ) → ownOf R partsA ≡ ownOf R partsB

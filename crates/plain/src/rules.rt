@@ -32,13 +32,6 @@ ghost use Rattle.plain.specs.Plain.{onInactive, onActive, two};
 ghost use Rattle.plain.specs.Code.{requestsOf, saidBy, said, refused};
 ghost use Rattle.plain.specs.Promise.{opensWhere, saysBy, ROOM, Sound, Comes};
 
-// The table stays as it is.
-fn only(table: Table, tells: Tells) -> Said
-    ensures { λ s. ⌜ s ≡ said table tells ⌝ }
-{
-    Said { table, tells }
-}
-
 // A record by its header, which is the first eight of these bytes.
 pub fn says(table: Table, store: &mut [u8], header: &[u8], x: &[u8]) -> Said
     requires { ⌜ (Sound table ROOM) × (length (now store) ≡ 65536) × (8 ≤ length (now header))
@@ -51,10 +44,10 @@ pub fn says(table: Table, store: &mut [u8], header: &[u8], x: &[u8]) -> Said
     let id = number_of_two(header[2], header[3]);
     let n = number_of_two(header[4], header[5]);
     if version != 1 {
-        return only(table, Tells::Close(Close::Version));
+        return comes_to(table, Tells::Close(Close::Version));
     }
     if id == 0 {
-        return only(table, on_management(kind, n, x));
+        return comes_to(table, on_management(kind, n, x));
     }
     let i = place_of(table, id);
     if i < table.count {
@@ -74,7 +67,7 @@ fn on_management(kind: u8, n: u16, x: &[u8]) -> Tells
     Tells::Event(Event::Unknown { kind })
 }
 
-// It is decided once it is whole; one that is too long is never read.
+// A query is judged once it is whole; one that is too long closes at its header.
 fn on_query(n: u16, x: &[u8]) -> Tells
     requires { ⌜ length (now x) ≤ n ⌝ }
     ensures { λ t. ⌜ ((rs : List Request) → saidBy t rs (now (x .entry)) ≡ onQuery rs n (now (x .entry))) ⌝ }
@@ -124,13 +117,13 @@ fn on_inactive(table: Table, id: u16, kind: u8, n: u16, x: &[u8]) -> Said
         (onInactive (requestsOf table store) id kind n (now (x .entry)))) ⌝ }
 {
     if kind != BEGIN {
-        return only(table, Tells::Nothing);
+        return comes_to(table, Tells::Nothing);
     }
     if n != 8 {
-        return only(table, Tells::Close(Close::BeginLength));
+        return comes_to(table, Tells::Close(Close::BeginLength));
     }
     if x.len() != 8 {
-        return only(table, Tells::Nothing);
+        return comes_to(table, Tells::Nothing);
     }
     opening(table, id, x)
 }
@@ -154,7 +147,7 @@ fn opening(table: Table, id: u16, x: &[u8]) -> Said
 fn refuses(table: Table, id: u16, status: Status) -> Said
     ensures { λ s. ⌜ s ≡ refused table id status ⌝ }
 {
-    only(table, Tells::Event(Event::Refuse { id, status }))
+    comes_to(table, Tells::Event(Event::Refuse { id, status }))
 }
 
 // A role that exists, and its number.
@@ -166,7 +159,7 @@ fn opens(table: Table, id: u16, number: u16, role: Role, keep: bool) -> Said
     let count = table.count;
     if count < ENTRIES {
         let after = with_entry(table, count, new_entry(id, number), count + 1);
-        return only(after, Tells::Event(Event::Open { id, role, keep }));
+        return comes_to(after, Tells::Event(Event::Open { id, role, keep }));
     }
     refuses(table, id, Status::Overloaded)
 }
@@ -180,7 +173,7 @@ fn on_active(table: Table, store: &mut [u8], i: usize, kind: u8, n: u16, x: &[u8
 {
     let e = table.entries[i];
     if e.spent {
-        return only(table, Tells::Nothing);
+        return comes_to(table, Tells::Nothing);
     }
     let start = i * AREA;
     let end = start + e.length as usize;
@@ -191,5 +184,11 @@ fn on_active(table: Table, store: &mut [u8], i: usize, kind: u8, n: u16, x: &[u8
     let new = c.after;
     let tells = c.tells;
     let count = table.count;
-    only(with_entry(table, i, new, count), tells)
+    comes_to(with_entry(table, i, new, count), tells)
+}
+
+fn comes_to(table: Table, tells: Tells) -> Said
+    ensures { λ s. ⌜ s ≡ said table tells ⌝ }
+{
+    Said { table, tells }
 }

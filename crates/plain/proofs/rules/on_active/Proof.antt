@@ -16,15 +16,15 @@ mul-e c = search needs
 element-copy-out-e : tie.Need-element-copy-out-e
 element-copy-out-e c = search needs
 
-only-requires : tie.Need-only-requires
-only-requires c κs = search needs
+comes-to-requires : tie.Need-comes-to-requires
+comes-to-requires c κs = search needs
 
 returns : tie.Need-returns
 returns c =
     let w = c .before .before .before .before .before in
     let a = w .args in
     let p = w .pre in
-    rw (c .only .ensures)
+    rw (c .comes-to .ensures)
     (active-spent (a .t1) (p .0) (a .store .now) (a .x .now) (p .1) (a .i) (p .2) (a .kind) (a .n)
     (c .before .if1 .taken))
 
@@ -75,8 +75,8 @@ copy-into-requires c κs = search needs
 with-entry-requires : tie.Need-with-entry-requires
 with-entry-requires c κs = search needs
 
-only-requires-2 : tie.Need-only-requires-2
-only-requires-2 c κs = search needs
+comes-to-requires-2 : tie.Need-comes-to-requires-2
+comes-to-requires-2 c κs = search needs
 
 same-length : tie.Need-same-length
 same-length c = search needs
@@ -98,7 +98,7 @@ returns-2 c =
     let put = rw whole at (c .before .before .before .before .before .copy-into .ensures) in
     let room = copied-room (a .store .now) here (take (change .kept) x) (omega (arith, y, b .low, p .0 .taken)) in
     let live = v .before .before .before .before .if1 .left in
-    rw (c .only2 .ensures, c .before .with-entry .ensures, put ∙ room)
+    rw (c .comes-to2 .ensures, c .before .with-entry .ensures, put ∙ room)
     (active-live (a .t1) (p .0) (a .store .now) x (p .1) (a .i) (p .2) (a .kind) (a .n) change live b)
 
 pub on-active-spec : {M : Type 1} → statement M
@@ -107,7 +107,7 @@ on-active-spec =
     (tie.spec
     mul-e
     element-copy-out-e
-    only-requires
+    comes-to-requires
     returns
     mul-start
     cast-end
@@ -121,6 +121,6 @@ on-active-spec =
     part-copy-into-end
     copy-into-requires
     with-entry-requires
-    only-requires-2
+    comes-to-requires-2
     same-length
     returns-2)

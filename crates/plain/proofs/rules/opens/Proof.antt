@@ -17,8 +17,8 @@ add-with-entry c = search needs
 with-entry-requires : tie.Need-with-entry-requires
 with-entry-requires c κs = search needs
 
-only-requires : tie.Need-only-requires
-only-requires c κs = search needs
+comes-to-requires : tie.Need-comes-to-requires
+comes-to-requires c κs = search needs
 
 returns : tie.Need-returns
 returns c =
@@ -31,7 +31,7 @@ returns c =
     let room = lt-ltb _ _ (c .before .before .before .if1 .taken) in
     let last = opened-last t store (a .id) (a .number) free in
     let new = newEntry (a .id) (a .number) in
-    rw (c .only .ensures, c .before .with-entry .ensures, c .before .before .new-entry .ensures)
+    rw (c .comes-to .ensures, c .before .with-entry .ensures, c .before .before .new-entry .ensures)
     (record {
       says = simp (requests-length t store few, room, last, p .1);
       sound = λ m s.
@@ -60,7 +60,7 @@ opens-spec =
     new-entry-requires
     add-with-entry
     with-entry-requires
-    only-requires
+    comes-to-requires
     returns
     refuses-requires
     returns-2)

@@ -33,8 +33,8 @@ shared-slice-read-number-of-two-4 c = search needs
 number-of-two-requires-2 : tie.Need-number-of-two-requires-2
 number-of-two-requires-2 c κs = search needs
 
-only-requires : tie.Need-only-requires
-only-requires c κs = search needs
+comes-to-requires : tie.Need-comes-to-requires
+comes-to-requires c κs = search needs
 
 returns : tie.Need-returns
 returns c =
@@ -42,13 +42,13 @@ returns c =
     let a = v .before .before .before .before .before .before .before .before .before .before .before .args in
     let rs = requestsOf (a .table) (a .store .now) in
     let rule = sym (says-version rs _ _ _ _ _ (c .before .if1 .taken)) in
-    rw (c .only .ensures) (stays (a .table) _ (a .store .now) _ _ rule)
+    rw (c .comes-to .ensures) (stays (a .table) _ (a .store .now) _ _ rule)
 
 on-management-requires : tie.Need-on-management-requires
 on-management-requires c κs = search needs
 
-only-requires-2 : tie.Need-only-requires-2
-only-requires-2 c κs = search needs
+comes-to-requires-2 : tie.Need-comes-to-requires-2
+comes-to-requires-2 c κs = search needs
 
 returns-2 : tie.Need-returns-2
 returns-2 c =
@@ -57,7 +57,7 @@ returns-2 c =
     let a = u .before .before .before .before .before .before .before .before .args in
     let rs = requestsOf (a .table) (a .store .now) in
     let rule = says-management rs _ _ _ _ _ (c .before .before .before .if1 .left) (c .before .before .if2 .taken) in
-    rw (c .only2 .ensures, ← u .number-of-two .ensures, ← v .number-of-two2 .ensures)
+    rw (c .comes-to2 .ensures, ← u .number-of-two .ensures, ← v .number-of-two2 .ensures)
     (stays (a .table) _ (a .store .now) _ _ (c .before .on-management .ensures rs ∙ sym rule))
 
 place-of-requires : tie.Need-place-of-requires
@@ -125,10 +125,10 @@ says-spec =
     shared-slice-read-number-of-two-3
     shared-slice-read-number-of-two-4
     number-of-two-requires-2
-    only-requires
+    comes-to-requires
     returns
     on-management-requires
-    only-requires-2
+    comes-to-requires-2
     returns-2
     place-of-requires
     on-active-requires
