@@ -8,6 +8,7 @@ pub mod console;
 pub mod correction;
 pub mod digest;
 pub mod drive;
+pub mod lift;
 pub mod output;
 pub mod pairs;
 pub mod random;

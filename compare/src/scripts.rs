@@ -7,6 +7,7 @@
 mod bodies;
 mod broken;
 mod calls;
+mod captures;
 mod cards;
 mod correction;
 mod lists;
@@ -23,6 +24,7 @@ use crate::console::Console;
 use crate::correction::Calibration;
 use crate::random::Random;
 use crate::state::SLOTS;
+pub use captures::capture;
 use std::collections::BTreeMap;
 
 /// Lines, and what the twin answers to each.
