@@ -51,7 +51,8 @@ noPair = CallFor 1 (ForPair 0)
 
 abbrev answered : ℕ → Observed
 answered n =
-    Answered 1 (ForPair 0) (PairAnswer (Of.PairRefused 7)) (one-shown n 0 Turn.Stdin (zeros AREA)) (one-shown n 0 Turn.Stdin (zeros AREA))
+    let held = one-shown n 0 Turn.Stdin (zeros AREA) in
+    Answered 1 (ForPair 0) (PairAnswer (Of.PairRefused 7)) held held
 
 abbrev ready : Observed
 ready = Heard (Note.Told (Event.Ready 1 0))
@@ -75,9 +76,11 @@ pub record Premises : Type 0 where
   stops-early : seenOfOne (header 1 1 8 ∷ []) ≡ []
   -- Two shuffles have a call inside a record after the same byte. Here 1 is asked for a pair after the first of its two
   -- STDIN bytes, or after the second: fewer have been shown then.
-  asked-after-one : seenOfOne (begin 1 ++ paramsEnd 1 ++ (header 5 1 2 ∷ StepOver (9 ∷ []) ∷ noPair ∷ StepOver (8 ∷ []) ∷ []))
+  asked-after-one : seenOfOne
+      (begin 1 ++ paramsEnd 1 ++ (header 5 1 2 ∷ StepOver (9 ∷ []) ∷ noPair ∷ StepOver (8 ∷ []) ∷ []))
       ≡ opened-one ∷ ready ∷ shown 9 ∷ answered 1 ∷ shown 8 ∷ []
-  asked-after-two : seenOfOne (begin 1 ++ paramsEnd 1 ++ (header 5 1 2 ∷ StepOver (9 ∷ []) ∷ StepOver (8 ∷ []) ∷ noPair ∷ []))
+  asked-after-two : seenOfOne
+      (begin 1 ++ paramsEnd 1 ++ (header 5 1 2 ∷ StepOver (9 ∷ []) ∷ StepOver (8 ∷ []) ∷ noPair ∷ []))
       ≡ opened-one ∷ ready ∷ shown 9 ∷ shown 8 ∷ answered 2 ∷ []
 
 pub premises : Premises
