@@ -6,3 +6,4 @@ pub mod StoreLaws
 pub mod TableLaws
 pub mod RuleLaws
 pub mod RecordLaws
+pub mod Cases

@@ -1,6 +1,6 @@
 -- The plain receiver (request [14]): a whole connection in one list of bytes, record by record. There are no phases
 -- here, no slots and no store. It is written from the text of the rules (docs/RULES.md) and shares with the stepping
--- receiver the reading of pairs, and the type of events with its numbers; so that both come to the same is a theorem.
+-- receiver the reading of pairs, and the type of events with its numbers; that both come to the same is a theorem.
 use Prim.Native.Nat.{ℕ, zero, suc, _+_, _*_, _%_}
 use mathlib.Core.Bool.{Bool, true, false}
 use mathlib.Core.List.{List, [], _∷_, _++_}

@@ -105,11 +105,12 @@ returns-4 c =
     let few : a .table .count ≤ length (a .table .entries) = omega (arith, w .pre .0) in
     let past : length rs ≤ i .place-of .result =
     omega (arith, requests-length (a .table) (a .store .now) few, c .before .if3 .left) in
+    let at = i .place-of .result in
     let place = i .place-of .ensures (a .store .now) in
     rw (
       ← u .number-of-two .ensures,
       ← v .number-of-two2 .ensures,
-      says-inactive rs _ _ _ _ _ (i .place-of .result) (i .before .before .if1 .left) (i .before .if2 .left) place past,
+      says-inactive rs _ _ _ _ _ at (i .before .before .if1 .left) (i .before .if2 .left) place past,
     )
     (c .on-inactive .ensures (a .store .now))
 
