@@ -1,4 +1,10 @@
 // Lifts one request out of a captured connection: its records are copied, and the capture is checked by replaying it.
+pub mod calls;
+mod marks;
+mod way;
+
+use connection::answer::Refusal;
+use connection::answer::StartResult;
 use connection::event::Close;
 use connection::state::Conn;
 
@@ -34,4 +40,22 @@ pub enum Verdict {
     Cut,
     // A record closes the connection; `at` is the place of its first byte.
     Closed { cause: Close, at: u64 },
+}
+
+// A fresh lift, or why the start is refused.
+pub struct LiftStarted {
+    pub result: StartResult,
+    pub lift: Lift,
+}
+
+// The bytes of the piece that a call used and those that it wrote at the start of the lent buffer, or why it is
+// refused.
+pub enum LiftResult {
+    Moved { used: usize, written: usize },
+    Refused(Refusal),
+}
+
+pub struct Lifted {
+    pub lift: Lift,
+    pub result: LiftResult,
 }

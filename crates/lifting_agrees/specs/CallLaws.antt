@@ -95,3 +95,12 @@ goes-on l store piece buffer eight a room more =
     reading (inr (o, some)) none =
         rw (call-reads l store piece buffer a none o)
         (omega (arith, reads-some l store piece buffer (is-admitted l store a) o some room))
+
+-- ---- after a close a call uses nothing
+pub closed-uses-none : (l : Lifting) (store piece buffer : List ℕ) → l .state .conn .«open» ≡ false
+    → lifted l store piece buffer .used ≡ 0
+unfolding lifted headerWritten
+closed-uses-none l store piece buffer o =
+    byTest (eqb (liftRefusal l store) 0)
+    (λ r. byTest (ltb 0 (l .waiting)) (λ w. simp (r, w)) (λ w. simp (r, w, o)))
+    (λ r. simp r)

@@ -14,7 +14,8 @@ use Rattle.lifting.specs.Lift.{ClosedAt, LARGEST-PLACE, Lifted, contentOf, isCo
 use Rattle.lifting_agrees.specs.CopyRecords.{saidOf}
 use Rattle.lifting_agrees.specs.FrontLaws.{said-by, said-stays}
 use Rattle.lifting_agrees.specs.Closings.{closeOf, closes-by, early-close}
-use Rattle.lifting_agrees.specs.LiftLaws.{liftFrom, liftNext, lift-short, lift-header, next-whole, next-cut, lift-whole, wordOf, clean-or-cut, verdict-any}
+use Rattle.lifting_agrees.specs.Statement.{wordOf}
+use Rattle.lifting_agrees.specs.LiftLaws.{liftFrom, liftNext, lift-short, lift-header, next-whole, next-cut, lift-whole, clean-or-cut, verdict-any}
 
 -- A record that is cut and closes all the same: more of it changes nothing.
 closes-cut : (rs : List Request) (b y : List ℕ) (cause : Cause) → 8 ≤ length b → length b < recordSize b

@@ -17,6 +17,7 @@ use Rattle.plain.specs.Plain.{Word, Heard, Request, Said, recordSize, follow, h
 use Rattle.lifting.specs.Lift.{Verdict, Clean, Cut, ClosedAt, LARGEST-PLACE, Lifted, isCopied, copyOfRecord, ends, copies, onSaid, liftIn, liftOf, verdictOf}
 use Rattle.lifting_agrees.specs.CopyRecords.{saidOf}
 use Rattle.lifting_agrees.specs.FrontLaws.{size-stays, copied-stays, said-stays, copy-stays}
+use Rattle.lifting_agrees.specs.Statement.{wordOf}
 
 -- ---- one record, with a bound
 -- what is lifted after it
@@ -152,12 +153,6 @@ lift-whole R at begun rs rs′ es b y header whole said =
     next
 
 -- ---- the verdict
--- the last word that a verdict stands for
-abbrev pub wordOf : Verdict → Word
-wordOf Clean = P.Open
-wordOf Cut = P.Cut
-wordOf (ClosedAt cause at) = P.Closed cause
-
 -- a verdict that is no close
 abbrev pub GoingOn : Verdict → Type 0
 GoingOn v = (cause : Cause) → wordOf v ≡ P.Closed cause → ⊥

@@ -26,9 +26,9 @@ use Rattle.plain_agrees.specs.Agreement.{closeOfEvent, isBetween, wordAt}
 use Rattle.lifting.specs.Lift as L
 use Rattle.lifting.specs.Lift.{ClosedAt, LARGEST-PLACE, isCopied, copyOfRecord, copies, liftOf, copyOf, verdictOf}
 use Rattle.lifting.specs.Call.{Lifting, positionOf, waitingBytes, completes, withHeader, withBytes, afterBytes, verdictNow}
-use Rattle.lifting_agrees.specs.Statement.{Outcome}
+use Rattle.lifting_agrees.specs.Statement.{Outcome, wordOf}
 use Rattle.lifting_agrees.specs.CopyRecords.{saidOf}
-use Rattle.lifting_agrees.specs.LiftLaws.{liftFrom, wordOf, GoingOn, verdict-any}
+use Rattle.lifting_agrees.specs.LiftLaws.{liftFrom, GoingOn, verdict-any}
 use Rattle.lifting_agrees.specs.Replay.{Replayed, replay-step, step-position, replay-word}
 use Rattle.lifting_agrees.specs.PartPosition.{Unfinished, Reads, step-reads}
 use Rattle.lifting_agrees.specs.PartTests.{not-between}

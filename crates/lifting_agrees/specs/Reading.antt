@@ -22,7 +22,8 @@ use Rattle.lifting.specs.Lift as L
 use Rattle.lifting.specs.Lift.{Verdict, Clean, Cut, ClosedAt, LARGEST-PLACE, isCopied, copyOfRecord, ends, copies, liftOf}
 use Rattle.lifting.specs.Call.{Lifting, positionOf, verdictNow, onClosing}
 use Rattle.lifting_agrees.specs.CopyRecords.{saidOf}
-use Rattle.lifting_agrees.specs.LiftLaws.{liftFrom, lift-short, lift-header, next-nothing, lift-whole, wordOf, GoingOn, clean-or-cut}
+use Rattle.lifting_agrees.specs.Statement.{wordOf}
+use Rattle.lifting_agrees.specs.LiftLaws.{liftFrom, lift-short, lift-header, next-nothing, lift-whole, GoingOn, clean-or-cut}
 use Rattle.lifting_agrees.specs.PartPosition.{Unfinished, at-end}
 
 -- ---- what a part of a record comes to

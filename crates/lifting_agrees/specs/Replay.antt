@@ -29,7 +29,8 @@ use Rattle.plain.specs.Plain.{heard}
 use Rattle.plain_agrees.specs.Agreement.{closeOfEvent, closeOfNote, firstOf, closeIn, wordAt, lastWord}
 use Rattle.plain_agrees.specs.Theorem.{agreement}
 use Rattle.lifting.specs.Lift.{verdictOf}
-use Rattle.lifting_agrees.specs.LiftLaws.{wordOf, verdict-word}
+use Rattle.lifting_agrees.specs.Statement.{wordOf}
+use Rattle.lifting_agrees.specs.LiftLaws.{verdict-word}
 
 -- ---- closes among what is told
 closed-event : (e : Event) (cause : Cause) → closeOfEvent e ≡ some cause → e ≡ Event.Closed cause

@@ -15,7 +15,7 @@
 -- and of those that close, too.
 use Prim.Native.Nat.{ℕ, _+_, _<_}
 use mathlib.Core.Path.{_≡_}
-use mathlib.Core.Bool.{true}
+use mathlib.Core.Bool.{true, false}
 use mathlib.Core.Logic.{_⊎_}
 use mathlib.Core.List.{List, [], _∷_, _++_, List·Memᴰ}
 use lib.ListN.{length, take}
@@ -26,8 +26,9 @@ use Rattle.connection.specs.Event.{Event}
 use Rattle.connection.specs.Bytewise.{Note, Told, Shown}
 use Rattle.connection.specs.Run.{eventId}
 use Rattle.connection.specs.Laws.PieceLaws.{AllBytes}
-use Rattle.plain.specs.Plain.{heard}
-use Rattle.lifting.specs.Lift.{ClosedAt, copyOf, verdictOf}
+use Rattle.plain.specs.Plain.{Word, heard}
+use Rattle.plain.specs.Plain as P
+use Rattle.lifting.specs.Lift.{Verdict, Clean, Cut, ClosedAt, copyOf, verdictOf}
 use Rattle.lifting.specs.Call.{Lifting, liftStarted, liftRefusal, lifted, waitingBytes, verdictNow}
 
 -- ---- calls one after another
@@ -71,6 +72,12 @@ liftRun gathered store R cs =
     })
     cs
 
+-- ---- the last word of a replay that a verdict stands for
+abbrev pub wordOf : Verdict → Word
+wordOf Clean = P.Open
+wordOf Cut = P.Cut
+wordOf (ClosedAt cause at) = P.Closed cause
+
 -- ---- what is told of R
 abbrev pub noteId : Note → ℕ
 noteId (Told e) = eventId e
@@ -91,6 +98,9 @@ pub record LiftTheorem : Type 0 where
       → (liftRun gathered store R cs .written ++ waitingBytes (liftRun gathered store R cs .lifting)
       ≡ copyOf R (liftRun gathered store R cs .used))
       × (verdictNow (liftRun gathered store R cs .lifting) ≡ verdictOf (liftRun gathered store R cs .used))
+  pub last-word : (b : List ℕ) → wordOf (verdictOf b) ≡ heard b .word
+  pub closed-uses-none : (l : Lifting) (store piece buffer : List ℕ) → l .state .conn .«open» ≡ false
+      → lifted l store piece buffer .used ≡ 0
   pub close-is-final : (R : ℕ) (b more : List ℕ) (cause : Cause) (at : ℕ) → verdictOf b ≡ ClosedAt cause at
       → (copyOf R (b ++ more) ≡ copyOf R b) × (verdictOf (b ++ more) ≡ ClosedAt cause at)
   pub goes-on : (l : Lifting) (store piece buffer : List ℕ) → length (l .header) ≡ 8 → liftRefusal l store ≡ 0
