@@ -106,7 +106,7 @@ module _ (c : Conn) (store : List ℕ) (id s : ℕ) (l : List ℕ) where
   -- the application's status and 0.
   pub finish-read-back : finish c store id s l .refusal ≡ 0 → id < 65536 → s < 4294967296
       → (split (take (finish c store id s l .written) (finish c store id s l .buffer)) ≡ record { records = owedRecords (requestOf c id) id s; rest = [] })
-      × (endBodyOf (endBodyBytes s REQUEST-COMPLETE) ≡ record { appStatus = s; protocolStatus = 0 })
+      × (endBodyOf (endBodyBytes s REQUEST-COMPLETE) ≡ record { «app_status» = s; «protocol_status» = 0 })
   finish-read-back e hi hs =
       let d = did e in
       let r = requestOf c id in

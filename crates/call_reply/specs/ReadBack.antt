@@ -65,7 +65,7 @@ alone bytes r back = ap split (sym (append-nil bytes)) ∙ back []
 -- ---- an END_REQUEST to a refused opening, and an UNKNOWN_TYPE
 pub refuse-reads-back : (id n : ℕ) (buffer : List ℕ) → replied (Event.Refuse id n) buffer .refusal ≡ 0 → id < 65536
     → (split (take (replied (Event.Refuse id n) buffer .written) (replied (Event.Refuse id n) buffer .buffer)) ≡ record { records = recordOf END-REQUEST id (endBodyBytes 0 n) ∷ []; rest = [] })
-    × (endBodyOf (endBodyBytes 0 n) ≡ record { appStatus = 0; protocolStatus = n })
+    × (endBodyOf (endBodyBytes 0 n) ≡ record { «app_status» = 0; «protocol_status» = n })
 unfolding owed
 refuse-reads-back id n buffer h hi =
     let x = endBodyBytes 0 n in
@@ -182,7 +182,7 @@ three-kinds (Event.Closed n) = (λ e. refl, λ e. refl)
 -- each END_REQUEST among some records says a protocol status of that kind
 abbrev pub Statuses : (ℕ → Type 0) → List Record → Type 0
 Statuses P [] = Unit {0}
-Statuses P (r ∷ rs) = (r .kind ≡ END-REQUEST → P (endBodyOf (r .content) .protocolStatus)) × Statuses P rs
+Statuses P (r ∷ rs) = (r .kind ≡ END-REQUEST → P (endBodyOf (r .content) .«protocol_status»)) × Statuses P rs
 
 -- an END_REQUEST by itself, a record of another type by itself, and one in front of others
 module _ (P : ℕ → Type 0) where

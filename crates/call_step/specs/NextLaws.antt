@@ -13,7 +13,7 @@ use Rattle.wire.specs.Test.{if_then_else_, byTest}
 use Rattle.connection.specs.Event.{Event}
 use Rattle.connection.specs.Sizes.{QUERY}
 use Rattle.connection.specs.Laws.Closing.{closes-by-cause}
-use Rattle.connection.specs.Laws.PieceLaws.{AllBytes, drop-bytes}
+use Rattle.wire.specs.Bytes.{AllBytes, drop-bytes}
 use Rattle.connection.specs.Laws.StateShape.{Arrays}
 use Rattle.connection.specs.Laws.StepShape.{step-in-shape, step-keeps-arrays}
 use Rattle.connection.specs.Laws.StepSizes.{Sizes, sizes-stay}

@@ -18,7 +18,7 @@ ghost use Rattle.connection.specs.declared.state.Target.{Target};
 ghost use Rattle.connection.specs.Shape.{positionFits};
 ghost use Rattle.conn_check.specs.Fits.{dueOf, targetOf, shapeOf};
 
-fn position_fits(p: Position) -> bool
+pub fn position_fits(p: Position) -> bool
     ensures { λ r. ⌜ r ≡ positionFits p ⌝ }
 {
     let held = p.held;
@@ -34,7 +34,7 @@ fn position_fits(p: Position) -> bool
 }
 
 // Content is due to one of the slots, and that slot is taken.
-fn due_fits(occupied: u16, i: u8) -> bool
+pub fn due_fits(occupied: u16, i: u8) -> bool
     ensures { λ r. ⌜ r ≡ dueOf occupied i ⌝ }
 {
     let slot = i as usize;
@@ -65,7 +65,7 @@ fn begin_fits(ids: &[u16; SLOTS], occupied: u16, id: u16, gathered: usize, left:
 }
 
 // Some bytes and some more are not over a limit.
-fn within(limit: usize, some: usize, more: usize) -> bool
+pub fn within(limit: usize, some: usize, more: usize) -> bool
     ensures { λ r. ⌜ r ≡ leb (some + more) limit ⌝ }
 {
     if limit < some {

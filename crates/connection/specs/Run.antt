@@ -13,7 +13,7 @@ use Rattle.connection.specs.Step.{State, Stepped, stepped, started}
 use Rattle.connection.specs.Calls as C
 use Rattle.connection.specs.Bytewise.{Note, notes}
 use Rattle.connection.specs.Arguments.{Argument, ForValue, ForSource, ForPair, ForWalk, ForSay, ForEnd, ForFinish, Answer, ValueIs, SourceIs, PairAnswer, WalkIs, Wrote, FinishedWith}
-use Rattle.connection.specs.Laws.PieceLaws.{AllBytes}
+use Rattle.wire.specs.Bytes.{AllBytes}
 use Rattle.connection.specs.Sizes.{STORE, QUERY}
 
 -- The state and the store as they were last left.

@@ -1,13 +1,13 @@
 // The tables of commands, fields and targets. A command has the number of its name in the first table.
-use crate::form::Form;
-use crate::form::UNKNOWN;
-use crate::form::read_form;
-use crate::poke::POKE;
-use crate::poke::TARGET;
-use crate::words::part;
-use crate::words::rest;
-use crate::words::word;
-use wire::same;
+use script::form::Form;
+use script::form::read_form;
+use script::lines::LONG;
+use script::lines::is_long;
+use script::lines::is_poke;
+use script::lines::read_poke;
+use script::lines::too_long;
+use script::words::part;
+use script::words::rest;
 
 // Questions.
 pub const ACTIVE: u64 = 0;
@@ -55,9 +55,6 @@ pub const SAY: u64 = 19;
 
 pub const READING: u64 = 20;
 
-// A line that is too long.
-pub const LONG: u64 = 98;
-
 // Whether a line asks without changing anything; so does one that is too long or no command.
 pub fn is_question(kind: u64) -> bool {
     if kind < START {
@@ -100,6 +97,18 @@ pub fn room_of(f: Form) -> usize {
     }
 }
 
+// What stands after the word `poke`.
+fn read_field(line: &[u8], bytes: &mut [u8]) -> Form {
+    read_poke(
+        line,
+        b"open occupied id length role keep turn spent out_ended err_used err_ended held header content padding gathered body byte shown",
+        b"f i si si sr sf st sv sf sf sf k 8 k k k 5 pb sdu",
+        b"skip begin query params stdin data",
+        b"- i - b b b",
+        bytes,
+    )
+}
+
 // A line that is no poke.
 fn read_command(line: &[u8], bytes: &mut [u8]) -> Form {
     read_form(
@@ -110,64 +119,14 @@ fn read_command(line: &[u8], bytes: &mut [u8]) -> Form {
     )
 }
 
-// A field and its values.
-fn read_field(line: &[u8], bytes: &mut [u8]) -> Form {
-    read_form(
-        line,
-        b"open occupied id length role keep turn spent out_ended err_used err_ended held header content padding gathered body byte shown",
-        b"f i si si sr sf st sv sf sf sf k 8 k k k 5 pb sdu",
-        bytes,
-    )
-}
-
-// A target and its number.
-fn read_target(line: &[u8], bytes: &mut [u8]) -> Form {
-    read_form(
-        line,
-        b"skip begin query params stdin data",
-        b"- i - b b b",
-        bytes,
-    )
-}
-
-// A number counted from another one on; what is in no table stays so.
-fn plus(first: u64, kind: u64) -> u64 {
-    if kind < UNKNOWN {
-        if first < UNKNOWN {
-            return first + kind;
-        }
-    }
-    UNKNOWN
-}
-
-// A form with its number counted from another one on.
-fn counted_from(first: u64, f: Form) -> Form {
-    let values = f.values;
-    Form {
-        kind: plus(first, f.kind),
-        values: values,
-    }
-}
-
-// What stands after the word `poke`.
-fn read_poke(line: &[u8], bytes: &mut [u8]) -> Form {
-    if same(word(line, 0), b"target") {
-        return counted_from(TARGET, read_target(rest(line), bytes));
-    }
-    counted_from(POKE, read_field(line, bytes))
-}
-
 // A line of so many characters.
 pub fn read_line(line: &[u8], held: usize, bytes: &mut [u8]) -> Form {
-    if line.len() < held {
-        return Form {
-            kind: LONG,
-            values: [0; 4],
-        };
+    if is_long(line, held) {
+        return too_long();
     }
     let text = part(line, 0, held);
-    if same(word(text, 0), b"poke") {
-        return read_poke(rest(text), bytes);
+    if is_poke(text) {
+        return read_field(rest(text), bytes);
     }
     read_command(text, bytes)
 }

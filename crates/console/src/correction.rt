@@ -1,8 +1,4 @@
 // Ice correction by hand. A card is a byte for its kind and then its floats, eight bytes each.
-use crate::number::low8;
-use crate::page::put;
-use crate::page::put_hex;
-use crate::write::put_refused;
 use fastcgi::Calibration;
 use fastcgi::Card;
 use fastcgi::Corrected;
@@ -11,6 +7,10 @@ use fastcgi::correct;
 use fastcgi::correction_fault_number;
 use float_bits::bits_of_float;
 use float_bits::float_of_bits;
+use script::number::low8;
+use script::page::put;
+use script::page::put_hex;
+use script::said::put_refused;
 use wire::number_of_four;
 
 // A card, or bytes that are none.

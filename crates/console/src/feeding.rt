@@ -1,16 +1,11 @@
 // Bytes fed in pieces, and all that the calls tell on one line. A call by itself is fed in the same way.
 use crate::kept::is_changed;
 use crate::kept::keep;
-use crate::page::end_line;
-use crate::page::put_pairs;
 use crate::state::State;
 use crate::told::put_event;
 use crate::told::put_mark;
 use crate::told::put_step;
 use crate::told::put_used;
-use crate::words::last_part;
-use crate::words::part;
-use crate::write::put_refusal;
 use fastcgi::Conn;
 use fastcgi::Event;
 use fastcgi::QUERY;
@@ -21,7 +16,13 @@ use fastcgi::next_event;
 use fastcgi::refusal_number;
 use fastcgi::step;
 use fastcgi::stream_type;
-use wire::least;
+use script::page::end_line;
+use script::page::put_pairs;
+use script::pieces::piece_end;
+use script::pieces::plus;
+use script::said::put_refusal;
+use script::words::last_part;
+use script::words::part;
 ghost use Prim.Native.Nat.{_<_};
 
 // What the calls told so far: where the line goes on, the last event on it, the bytes used by all calls together, and
@@ -38,22 +39,6 @@ struct Tale {
 struct Fed {
     conn: Conn,
     tale: Tale,
-}
-
-// A sum, or the largest number where it is larger.
-pub fn plus(a: usize, b: usize) -> usize {
-    if usize::MAX - a < b {
-        return usize::MAX;
-    }
-    a + b
-}
-
-// A difference, or 0 where it is less.
-fn minus(a: usize, b: usize) -> usize {
-    if a < b {
-        return 0;
-    }
-    a - b
 }
 
 // Whether an event is data of that request and stream.
@@ -178,14 +163,6 @@ fn take_step(
         conn: conn,
         tale: tale,
     }
-}
-
-// Where the piece ends that a place lies in. Pieces of size 0 stand for one call over all bytes.
-fn piece_end(from: usize, size: usize, end: usize) -> usize {
-    if size == 0 {
-        return end;
-    }
-    least(plus(from, minus(size, from % size)), end)
 }
 
 // Whether an event says that the connection is closed.

@@ -1,11 +1,11 @@
 // What is kept from before a call, to see that a refused call changed nothing: the image of the state, then the
 // gathered bytes, then the lent part of the store.
-use crate::image::IMAGE;
 use crate::image::put_state;
 use crate::state::WHOLE;
-use crate::words::part;
 use fastcgi::Conn;
 use fastcgi::QUERY;
+use script::image::IMAGE;
+use script::words::part;
 use wire::copy_into;
 use wire::same;
 

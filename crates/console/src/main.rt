@@ -4,31 +4,24 @@ mod ask;
 mod command;
 mod correction;
 mod feeding;
-mod form;
-mod hex;
 mod image;
-mod input;
 mod kept;
-mod number;
-mod page;
 mod poke;
 mod readings;
-mod room;
 mod state;
 mod told;
-mod words;
 mod write;
 
 use crate::answer::answer;
 use crate::command::read_line;
-use crate::form::BYTES;
-use crate::input::Input;
-use crate::input::LINE;
-use crate::input::next_line;
 use crate::kept::KEPT;
 use crate::state::WHOLE;
 use crate::state::fresh;
 use fastcgi::QUERY;
+use script::form::BYTES;
+use script::input::Input;
+use script::input::LINE;
+use script::input::next_line;
 
 // Answers every line. A proved loop has to end, and nothing says that the input does: so it counts its turns down, from
 // a number that no run uses up.

@@ -1,10 +1,4 @@
 // Readings of a body, read by hand.
-use crate::feeding::plus;
-use crate::page::end_line;
-use crate::page::put;
-use crate::page::put_number;
-use crate::words::part;
-use crate::write::put_refused;
 use fastcgi::BodyEnd;
 use fastcgi::Reader;
 use fastcgi::Reading;
@@ -14,6 +8,12 @@ use fastcgi::new_reader;
 use fastcgi::read_reading;
 use fastcgi::reading_fault_number;
 use reading::sent_of;
+use script::page::end_line;
+use script::page::put;
+use script::page::put_number;
+use script::pieces::plus;
+use script::said::put_refused;
+use script::words::part;
 
 // Where the line goes on, the bytes used so far, the number of the refusal or 0, and the reader.
 struct Tale {

@@ -1,13 +1,13 @@
 // What steps tell.
-use crate::page::put;
-use crate::page::put_hex;
-use crate::page::put_number;
-use crate::words::last_part;
-use crate::words::part;
 use event_text::LONGEST;
 use event_text::write_line;
 use fastcgi::Event;
 use fastcgi::Stream;
+use script::page::put;
+use script::page::put_hex;
+use script::page::put_number;
+use script::words::last_part;
+use script::words::part;
 
 // The name of a stream.
 fn put_stream(page: &mut [u8], at: usize, stream: Stream) -> usize {

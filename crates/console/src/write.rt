@@ -4,19 +4,9 @@ use crate::command::FINISH;
 use crate::command::PUT;
 use crate::command::READING;
 use crate::command::SAY;
-use crate::form::Form;
 use crate::kept::is_changed;
 use crate::kept::keep;
-use crate::number::low16;
-use crate::number::low32;
-use crate::page::end_line;
-use crate::page::put;
-use crate::page::put_hex;
-use crate::page::put_number;
-use crate::room::fill;
-use crate::room::touched;
 use crate::state::State;
-use crate::words::part;
 use fastcgi::Conn;
 use fastcgi::Event;
 use fastcgi::FinishResult;
@@ -38,6 +28,15 @@ use fastcgi::write_output;
 use fastcgi::write_pair;
 use fastcgi::write_reading;
 use reading::tenths_of;
+use script::form::Form;
+use script::number::low16;
+use script::number::low32;
+use script::page::end_line;
+use script::room::fill;
+use script::said::put_refusal;
+use script::said::put_touched;
+use script::said::put_wrote;
+use script::words::part;
 
 // The bytes written, of a finish with the connection left open or closed; or the number of the refusal.
 pub enum Effect {
@@ -213,22 +212,6 @@ pub fn kept_call(
     fill_and_call(s, f, store, bytes, room)
 }
 
-// `wrote N HEX` and a last word.
-fn put_wrote(page: &mut [u8], at: usize, room: &[u8], n: usize, last: &[u8]) -> usize {
-    let a = put(page, at, b"wrote");
-    let b = put_number(page, a, b" ", n as u64);
-    let d = put_hex(page, b, part(room, 0, n));
-    put(page, d, last)
-}
-
-// ` touched` where a byte after what was written changed.
-fn put_touched(page: &mut [u8], at: usize, room: &[u8], n: usize) -> usize {
-    if touched(room, n) {
-        return put(page, at, b" touched");
-    }
-    at
-}
-
 // What a call came to and left in the room.
 fn put_call(page: &mut [u8], at: usize, e: Effect, changed: bool, room: &[u8]) -> usize {
     match e {
@@ -264,19 +247,4 @@ pub fn put_effect(
     let e = called.effect;
     let at = put_call(page, 0, e, changed, room);
     end_line(page, at);
-}
-
-// `refused N`
-pub fn put_refused(page: &mut [u8], at: usize, why: u8) -> usize {
-    let a = put(page, at, b"refused");
-    put_number(page, a, b" ", why as u64)
-}
-
-// `refused N`, and ` changed` where the call changed something all the same.
-pub fn put_refusal(page: &mut [u8], at: usize, why: u8, changed: bool) -> usize {
-    let a = put_refused(page, at, why);
-    if changed {
-        return put(page, a, b" changed");
-    }
-    a
 }

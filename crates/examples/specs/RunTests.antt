@@ -16,7 +16,7 @@ use Rattle.connection.specs.Event.{Event}
 use Rattle.connection.specs.RequestCalls as Of
 use Rattle.connection.specs.Calls as C
 use Rattle.connection.specs.Bytewise.{Note}
-use Rattle.connection.specs.Laws.PieceLaws.{AllBytes}
+use Rattle.wire.specs.Bytes.{AllBytes}
 use Rattle.connection.specs.Arguments.{Argument}
 use Rattle.connection.specs.Run.{Operation, StepOver, CallFor, CountActive, Observed, Heard, Answered, PiecesOk}
 use Rattle.connection.specs.Isolation.{overloadedFor}

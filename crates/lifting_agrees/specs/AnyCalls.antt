@@ -15,7 +15,7 @@ use Rattle.wire.specs.Buffer.{putAt}
 use Rattle.connection.specs.Sizes.{QUERY, STORE}
 use Rattle.connection.specs.Step.{stepped, started}
 use Rattle.connection.specs.Run.{startOf}
-use Rattle.connection.specs.Laws.PieceLaws.{AllBytes, take-bytes}
+use Rattle.wire.specs.Bytes.{AllBytes, take-bytes}
 use Rattle.record_reader.specs.declared.Position.{Position}
 use Rattle.record_reader.specs.Position.{betweenRecords, after}
 use Rattle.plain_agrees.specs.Agreement.{isBetween}

@@ -18,7 +18,7 @@ use Rattle.connection.specs.Sizes.{QUERY, STORE}
 use Rattle.connection.specs.Step.{State, Stepped, stepped}
 use Rattle.connection.specs.Bytewise.{Note}
 use Rattle.connection.specs.Run.{Memory, memoryOf}
-use Rattle.connection.specs.Laws.PieceLaws.{AllBytes}
+use Rattle.wire.specs.Bytes.{AllBytes}
 use Rattle.connection.specs.Laws.Progress.{Fits, fits-admitted}
 use Rattle.plain.specs.Plain as P
 use Rattle.plain.specs.Plain.{Request, Said}

@@ -18,7 +18,7 @@ use Rattle.connection.specs.Event.{Event}
 use Rattle.connection.specs.Step.{stepped, started}
 use Rattle.connection.specs.Bytewise.{Note, showing, notes, Run, single, _then-run_, byByte, joined}
 use Rattle.connection.specs.Run.{Memory, StepOver, memoryOf, memoryAfter, itemsOf, finalMemory, timeline, startOf}
-use Rattle.connection.specs.Laws.PieceLaws.{AllBytes, take-bytes, append-bytes}
+use Rattle.wire.specs.Bytes.{AllBytes, take-bytes, append-bytes}
 use Rattle.connection.specs.Laws.Closing.{closes-by-cause, told-means-closed}
 use Rattle.connection.specs.Laws.Cutting.{step-by-byte, by-byte-append, pieces-by-byte}
 use Rattle.connection.specs.Laws.StepSizes.{start-sizes}

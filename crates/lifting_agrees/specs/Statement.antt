@@ -25,7 +25,7 @@ use Rattle.connection.specs.Sizes.{STORE, QUERY}
 use Rattle.connection.specs.Event.{Event}
 use Rattle.connection.specs.Bytewise.{Note, Told, Shown}
 use Rattle.connection.specs.Run.{eventId}
-use Rattle.connection.specs.Laws.PieceLaws.{AllBytes}
+use Rattle.wire.specs.Bytes.{AllBytes}
 use Rattle.plain.specs.Plain.{Word, heard}
 use Rattle.plain.specs.Plain as P
 use Rattle.lifting.specs.Lift.{Verdict, Clean, Cut, ClosedAt, copyOf, verdictOf}

@@ -16,7 +16,7 @@ use Rattle.connection.specs.declared.state.Frame.{Frame}
 use Rattle.connection.specs.Shape.{inShape}
 use Rattle.connection.specs.Step.{State, Left, stateOf, noFrame, frameAfter, openWith, closedConn, judged, onTarget}
 use Rattle.connection.specs.Bytewise.{Note, notes, Run, resting, _then-run_, byByte}
-use Rattle.connection.specs.Laws.PieceLaws.{AllBytes, zeros-bytes, append-bytes}
+use Rattle.wire.specs.Bytes.{AllBytes, zeros-bytes, append-bytes}
 use Rattle.connection.specs.Laws.StateShape.{Arrays}
 use Rattle.connection.specs.Laws.StepSizes.{Sizes}
 use Rattle.connection.specs.Laws.CuttingContent.{keeps-target}

@@ -16,7 +16,7 @@ use Rattle.connection.specs.declared.state.Frame.{Frame}
 use Rattle.connection.specs.Slots.{find}
 use Rattle.connection.specs.Step.{State, stateOf, noFrame, openWith, onInactive, judged}
 use Rattle.connection.specs.Bytewise.{Run, resting, _then-run_, byByte, fedPieces, joined}
-use Rattle.connection.specs.Laws.PieceLaws.{AllBytes, zeros-bytes, take-bytes, drop-bytes, append-bytes}
+use Rattle.wire.specs.Bytes.{AllBytes, zeros-bytes, take-bytes, drop-bytes, append-bytes}
 use Rattle.meaning.specs.Meaning.{contentMeans, headerMeans, headerFor, recordMeans, restMeans, recordsMean, means}
 use Rattle.meaning.specs.Steps.{Between}
 use Rattle.meaning.specs.OneRecord.{follows, stays-sound, ends-between}

@@ -17,7 +17,7 @@ use Rattle.connection.specs.declared.state.Frame.{Frame}
 use Rattle.connection.specs.Sizes.{QUERY, STORE}
 use Rattle.connection.specs.Step.{State, stateOf, noFrame, frameAt, started}
 use Rattle.connection.specs.Bytewise.{Run, resting, _then-run_, byByte, fed, fedPieces, joined}
-use Rattle.connection.specs.Laws.PieceLaws.{AllBytes, take-bytes, drop-bytes, append-bytes}
+use Rattle.wire.specs.Bytes.{AllBytes, take-bytes, drop-bytes, append-bytes}
 use Rattle.connection.specs.Laws.StepShape.{start-in-shape}
 use Rattle.connection.specs.Laws.StepSizes.{start-sizes}
 use Rattle.connection.specs.Laws.Cutting.{by-byte-append, by-byte-closed, cutting, pieces-by-byte}

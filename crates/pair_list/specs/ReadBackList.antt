@@ -10,7 +10,8 @@ use Rattle.pairs.specs.Pair.{pairBytes, pairAt, nameOf, valueOf}
 use Rattle.pair_list.specs.List.{Pairs, andPairs, pairsFrom, isEnd, wellFormed}
 use Rattle.pairs.specs.PairLaws.{PairIn, pair-in}
 use Rattle.pair_list.specs.ListLaws.{ended, pairs-induction, pairs-next, pairs-end}
-use Rattle.pairs.specs.ReadBack.{AllBytes, writtenPair, pair-read-back, name-read-back, value-read-back, pair-no-longer, pair-writable}
+use Rattle.wire.specs.Bytes.{AllBytes}
+use Rattle.pairs.specs.ReadBack.{writtenPair, pair-read-back, name-read-back, value-read-back, pair-no-longer, pair-writable}
 use Rattle.pairs.specs.declared.pair.Pair.{Pair}
 use Rattle.pairs.specs.declared.pair.Read.{Read}
 use Rattle.pair_list.specs.declared.Ending.{Ending}

@@ -4,7 +4,8 @@ use mathlib.Core.Path.{_≡_, refl, sym, ap, _∙_}
 use Prim.Native.Nat.{ℕ, _+_, _≤_, _<_}
 use native.Mathlib.Omega.{arith}
 use mathlib.Core.List.{List, [], _∷_, _++_}
-use lib.ListN.{length, length-append}
+use lib.ListN.{length, take, drop, length-append}
+use lib.Seq.{take-at}
 use borrow.Author.Tests.{lt-ltb, le-ltb}
 use Rattle.wire.specs.Test.{if_then_else_, _<?_, _=?_, byTest}
 use Rattle.wire.specs.Number.{bytes4}
@@ -34,6 +35,27 @@ length-takes n = byTest (n <? 128) (λ t. simp t (omega arith, omega arith)) (λ
 pub length-copied : (out : List ℕ) (at n : ℕ) {bytes : List ℕ} → lengthBytes n ≡ bytes → at + length (lengthBytes n) ≤ length out
     → copied out at bytes ≡ putAt out at (lengthBytes n)
 length-copied out at n e h = ap (copied out at) (sym e) ∙ copied-room out at (lengthBytes n) h
+
+-- both lengths, one after the other, take at most eight
+pub lengths-take : (n v : ℕ) → length (lengthBytes n ++ lengthBytes v) ≤ 8
+lengths-take n v = omega (arith, length-append (lengthBytes n) (lengthBytes v), length-takes n, length-takes v)
+
+-- they are put one after the other
+pub lengths-put : (out : List ℕ) (n v a b : ℕ) {l1 l2 : List ℕ} → 8 ≤ length out
+    → a ≡ 0 + length (lengthBytes n) → b ≡ a + length (lengthBytes v)
+    → l1 ≡ putAt out 0 (lengthBytes n) → l2 ≡ putAt l1 a (lengthBytes v)
+    → (b ≡ length (lengthBytes n ++ lengthBytes v)) × (l2 ≡ putAt out 0 (lengthBytes n ++ lengthBytes v))
+lengths-put out n v a b h ea eb e1 e2 =
+    let x = lengthBytes n in
+    let y = lengthBytes v in
+    let xy = length-append x y in (
+      omega arith,
+      e2 ∙ ap (λ (l : List ℕ). putAt l a y) e1 ∙ put-put out 0 a x y ea (omega (arith, length-takes n, length-takes v)),
+    )
+
+-- bytes put at the start are the front
+pub front-put : (out x : List ℕ) {l : List ℕ} {n : ℕ} → n ≡ length x → l ≡ putAt out 0 x → take n l ≡ x
+front-put out x e p = rw (e, p) (take-at x (drop (0 + length x) out) (length x) refl)
 
 -- how many bytes a pair takes
 pub pair-size : (name value : List ℕ)

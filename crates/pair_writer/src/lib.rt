@@ -2,7 +2,8 @@
 use wire::copy_into;
 ghost use mathlib.Core.Path.{_≡_};
 ghost use Prim.Native.Nat.{_+_, _≤_, _<_};
-ghost use lib.ListN.{length};
+ghost use mathlib.Core.List.{_++_};
+ghost use lib.ListN.{length, take};
 ghost use Rattle.wire.specs.Buffer.{putAt};
 ghost use Rattle.pairs.specs.Length.{lengthBytes};
 ghost use Rattle.pair_writer.specs.Write.{answered, pairWritten};
@@ -12,6 +13,12 @@ pub enum PairWrote {
     Bytes(usize),
     TooLong,
     NoRoom,
+}
+
+// Both lengths of a pair as they are written: the first `count` of these bytes.
+pub struct LengthFields {
+    pub bytes: [u8; 8],
+    pub count: usize,
 }
 
 // How many bytes a length takes.
@@ -41,6 +48,30 @@ fn put_length(out: &mut [u8], at: usize, n: usize) -> usize
     ];
     copy_into(out, at, &four);
     at + 4
+}
+
+// Writes both lengths of a pair at the start of out, and answers the place after them.
+fn put_lengths(out: &mut [u8], n: usize, v: usize) -> usize
+    requires { ⌜ (n ≤ 65535) × (v ≤ 65535) × (8 ≤ length (now out)) ⌝ }
+    ensures { λ r. ⌜ (r ≡ length (lengthBytes n ++ lengthBytes v))
+        × (now (out .exit) ≡ putAt (now (out .entry)) 0 (lengthBytes n ++ lengthBytes v)) ⌝ }
+{
+    let z: usize = 0;
+    let middle = put_length(out, z, n);
+    put_length(out, middle, v)
+}
+
+// Both lengths of a pair whose name and value have so many bytes. (A pair that is cut into records has them first.)
+pub fn length_fields(n: u16, v: u16) -> LengthFields
+    ensures { λ r. ⌜ (r .count ≡ length (lengthBytes n ++ lengthBytes v))
+        × (take (r .count) (r .bytes) ≡ lengthBytes n ++ lengthBytes v) ⌝ }
+{
+    let mut bytes = [0u8; 8];
+    let count = put_lengths(&mut bytes, n as usize, v as usize);
+    LengthFields {
+        bytes: bytes,
+        count: count,
+    }
 }
 
 // Writes a pair at the start of out, each length in its shorter form. What lies after it stays.

@@ -11,6 +11,7 @@ use borrow.Author.Tests.{ltb-true, lt-ltb, le-ltb, lt-leb}
 use Rattle.wire.specs.Test.{_<?_, _≤?_, byTest}
 use Rattle.wire.specs.Number.{number4, number4-bytes}
 use Rattle.wire.specs.Buffer.{byteAt}
+use Rattle.wire.specs.Bytes.{AllBytes}
 use Rattle.pairs.specs.Length.{fourAt, lengthAt, lengthBytes}
 use Rattle.pairs.specs.Pair.{pairBytes, onLength, bodyAt, pairAt, nameOf, valueOf}
 use Rattle.pairs.specs.PairLaws.{PairIn, pair-in}
@@ -139,10 +140,6 @@ value-read-back name value front rest =
     let l2 : List ℕ = lengthBytes (length value) in
     rw apart
     (simp append-assoc at (part-out (front ++ l1 ++ l2 ++ name) value rest (length front + length l1 + length l2 + length name) (simp length-append)))
-
--- Every element is a byte. (Past the end of a list stands 0.)
-abbrev pub AllBytes : List ℕ → Type 0
-AllBytes s = (i : ℕ) → byteAt s i < 256
 
 -- What is written for a length that was read is no longer than what was read: a byte where it was one, and at most four
 -- where they were four.

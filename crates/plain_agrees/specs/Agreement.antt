@@ -23,7 +23,7 @@ use Rattle.connection.specs.Sizes.{QUERY, STORE}
 use Rattle.connection.specs.Event.{Event}
 use Rattle.connection.specs.Step.{started}
 use Rattle.connection.specs.Bytewise.{Note, Told, Shown, Run, fedPieces, joined}
-use Rattle.connection.specs.Laws.PieceLaws.{AllBytes}
+use Rattle.wire.specs.Bytes.{AllBytes}
 use Rattle.plain.specs.Plain.{Word, Open, Cut, Closed, heard, answerIn, answer}
 
 -- ---- closes

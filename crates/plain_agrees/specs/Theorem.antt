@@ -19,7 +19,7 @@ use Rattle.connection.specs.Sizes.{QUERY, STORE}
 use Rattle.connection.specs.Event.{Event}
 use Rattle.connection.specs.Step.{State, started}
 use Rattle.connection.specs.Bytewise.{Note, Told, Run, resting, _then-run_, joined}
-use Rattle.connection.specs.Laws.PieceLaws.{AllBytes}
+use Rattle.wire.specs.Bytes.{AllBytes}
 use Rattle.connection.specs.Laws.StepSizes.{start-sizes}
 use Rattle.meaning.specs.Meaning.{toCome, headerFor, recordMeans, restMeans, recordsMean, means}
 use Rattle.meaning.specs.Theorem.{from-a-start, start-between}

@@ -54,7 +54,7 @@ stream-read-back size kind id rest hs hm hi =
 -- An END_REQUEST record, its body read as section 5.5 says; an UNKNOWN_TYPE record, its body read as section 4.2 says.
 pub end-record-read-back : (id appStatus protocolStatus : ℕ) (rest : List ℕ) → id < 65536 → appStatus < 4294967296
     → (split (recordBytes END-REQUEST id (endBodyBytes appStatus protocolStatus) ++ rest) ≡ (recordOf END-REQUEST id (endBodyBytes appStatus protocolStatus) ∷ []) then-split split rest)
-    × (endBodyOf (endBodyBytes appStatus protocolStatus) ≡ record { appStatus = appStatus; protocolStatus = protocolStatus })
+    × (endBodyOf (endBodyBytes appStatus protocolStatus) ≡ record { «app_status» = appStatus; «protocol_status» = protocolStatus })
 end-record-read-back id appStatus protocolStatus rest hi ha =
     let l = end-length appStatus protocolStatus in
     (record-read-back END-REQUEST id (endBodyBytes appStatus protocolStatus) rest hi (omega (arith, l)), end-read-back appStatus protocolStatus ha)

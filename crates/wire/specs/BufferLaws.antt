@@ -71,3 +71,12 @@ room-left at n room h = byTest (leb n (room - at)) fits not-fits
 
     not-fits : leb n (room - at) ≡ false → leb n (room - at) ≡ leb (at + n) room
     not-fits t = t ∙ sym (lt-leb (at + n) room (omega (arith, leb-false n (room - at) t)))
+
+-- Bytes copied in two parts.
+pub copied-copied : (l : List ℕ) (a b : ℕ) (x y : List ℕ) → b ≡ a + length x → b + length y ≤ length l → copied (copied l a x) b y ≡ copied l a (x ++ y)
+copied-copied l a b x y e h =
+    let n : length (putAt l a x) ≡ length l = put-length l a x (omega arith) in
+    ap (λ (u : List ℕ). copied u b y) (copied-room l a x (omega arith))
+    ∙ copied-room (putAt l a x) b y (omega arith)
+    ∙ put-put l a b x y e h
+    ∙ sym (copied-room l a (x ++ y) (omega (arith, length-append x y)))

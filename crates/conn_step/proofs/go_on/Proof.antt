@@ -9,7 +9,8 @@ use Rattle.record_reader.specs.declared.Phase.{Phase}
 use Rattle.record_reader.specs.Position.{advanced}
 use Rattle.connection.specs.Sizes.{SLOTS}
 use Rattle.connection.specs.Shape.{inShape}
-use Rattle.connection.specs.Laws.PieceLaws.{AllBytes, HeaderFits}
+use Rattle.wire.specs.Bytes.{AllBytes}
+use Rattle.connection.specs.Laws.PieceLaws.{HeaderFits}
 use Rattle.connection.specs.Laws.StateShape.{Arrays, good, good-shape}
 use Rattle.connection.specs.Laws.StepShape.{ReadFits, good-advances}
 use Rattle.record_reader.specs.declared.Advanced.{Advanced}

@@ -20,7 +20,7 @@ use Rattle.record_reader.specs.declared.Advanced.{Advanced}
 use Rattle.connection.specs.Event.{Event}
 use Rattle.connection.specs.Shape.{inShape}
 use Rattle.connection.specs.Laws.ShapeLaws.{Aimed, shaped, in-shape}
-use Rattle.connection.specs.Laws.PieceLaws.{AllBytes, take-bytes}
+use Rattle.wire.specs.Bytes.{AllBytes, take-bytes}
 use Rattle.connection.specs.Laws.StateShape.{Arrays}
 use Rattle.connection.specs.Laws.StepShape.{step-in-shape, step-keeps-arrays}
 use Rattle.connection.specs.Step.{State, Stepped, leaves, reads, frameAt, openWith, closes, queried, onManagement, onInactive, onActive, judged, advances, stepRefusal, stepped}

@@ -8,8 +8,8 @@ use lib.ListN.{length, take, drop, length-append}
 use lib.Seq.{take-all, take-at, drop-at, length-take-le, set-set}
 use lib.Dec.{eqb}
 use borrow.Author.Tests.{le-leb, ne-eqb}
-use Rattle.wire.specs.Buffer.{putAt, copied}
-use Rattle.wire.specs.BufferLaws.{copied-room, put-put, put-length}
+use Rattle.wire.specs.Buffer.{copied}
+use Rattle.wire.specs.BufferLaws.{copied-copied}
 use Rattle.slot_word.specs.WordLaws.{mark-twice}
 use Rattle.record_reader.specs.declared.Position.{Position}
 use Rattle.connection.specs.declared.request.Request.{Request}
@@ -52,15 +52,6 @@ cuts st store b x l first second whole one two same-state same-store same-notes 
       same-notes = ap (λ (s : Stepped). notes (s .event) (b ∷ x)) whole ∙ same-notes
           ∙ sym (ap₂ (λ (s r : Stepped). notes (s .event) (b ∷ []) ++ notes (r .event) x) one after);
     }
-
--- ---- bytes put in two parts
-copied-copied : (l : List ℕ) (a b : ℕ) (x y : List ℕ) → b ≡ a + length x → b + length y ≤ length l → copied (copied l a x) b y ≡ copied l a (x ++ y)
-copied-copied l a b x y e h =
-    let n : length (putAt l a x) ≡ length l = put-length l a x (omega arith) in
-    ap (λ (u : List ℕ). copied u b y) (copied-room l a x (omega arith))
-    ∙ copied-room (putAt l a x) b y (omega arith)
-    ∙ put-put l a b x y e h
-    ∙ sym (copied-room l a (x ++ y) (omega (arith, length-append x y)))
 
 -- a list that grows within its area
 pub grown-room : (h : Held) (x : List ℕ) → h .request .length + length x ≤ AREA

@@ -20,7 +20,8 @@ use Rattle.connection.specs.Laws.SlotsLaws.{find-at}
 use Rattle.connection.specs.Laws.ShapeLaws.{InUse, Aimed}
 use Rattle.connection.specs.Laws.TableShape.{length-of, use-put, length-put}
 use Rattle.connection.specs.Laws.RequestShape.{Room, keeps-header}
-use Rattle.connection.specs.Laws.PieceLaws.{zeros-bytes, HeaderFits}
+use Rattle.wire.specs.Bytes.{zeros-bytes}
+use Rattle.connection.specs.Laws.PieceLaws.{HeaderFits}
 use Rattle.connection.specs.Laws.StateShape.{GoodFrame, Good, aimed-if, either, good-closes, good-reads, good-back, good-queried}
 use Rattle.connection.specs.Step.{State, frameAfter, onManagement, onInactive, dueTo, onActive, judged}
 use Rattle.machine.specs.Cause.{Plain}

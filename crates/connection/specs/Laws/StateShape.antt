@@ -20,7 +20,7 @@ use Rattle.connection.specs.Laws.SlotsLaws.{Sized, put-sized}
 use Rattle.connection.specs.Shape.{inShape}
 use Rattle.connection.specs.Laws.ShapeLaws.{Tidy, Placed, Aimed, Shaped, shaped, in-shape, closed-in-shape}
 use Rattle.connection.specs.Laws.TableShape.{tidy-put}
-use Rattle.connection.specs.Laws.PieceLaws.{AllBytes, zeros-bytes}
+use Rattle.wire.specs.Bytes.{AllBytes, zeros-bytes}
 use Rattle.connection.specs.Step.{State, Left, noFrame, targetIf, openWith, closedConn, closes, queried}
 use Rattle.machine.specs.Cause.{Cause, At}
 

@@ -18,7 +18,8 @@ use Rattle.record_reader.specs.declared.Advanced.{Advanced}
 use Rattle.connection.specs.Sizes.{STORE}
 use Rattle.connection.specs.Shape.{inShape}
 use Rattle.connection.specs.Laws.ShapeLaws.{Placed, shaped, fresh-in-shape, closed-in-shape}
-use Rattle.connection.specs.Laws.PieceLaws.{AllBytes, zeros-bytes, take-bytes, put-bytes, HeaderFits, header-fits, by-step}
+use Rattle.wire.specs.Bytes.{AllBytes, zeros-bytes, take-bytes, put-bytes}
+use Rattle.connection.specs.Laws.PieceLaws.{HeaderFits, header-fits, by-step}
 use Rattle.connection.specs.Laws.StateShape.{Arrays, Good, good, good-arrays, good-shape, fresh-arrays, good-reads}
 use Rattle.connection.specs.Laws.HeaderShape.{good-judged}
 use Rattle.connection.specs.Laws.ContentShape.{good-target}

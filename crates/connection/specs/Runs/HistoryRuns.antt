@@ -23,7 +23,7 @@ use Rattle.connection.specs.Request.{Held, listOf}
 use Rattle.connection.specs.Step.{State, Stepped, ofBegin, ofQuery, ofRequest, onTarget, advances, stepRefusal}
 use Rattle.connection.specs.Arguments.{Argument}
 use Rattle.connection.specs.Run.{Memory, Operation, StepOver, CallFor, CountActive, requestOf, stepOf, memoryOf, usedOf, memoryAfter, seenIn, itemsOf, finalMemory, PiecesOk, WholeRun, beginning}
-use Rattle.connection.specs.Laws.PieceLaws.{AllBytes, take-bytes}
+use Rattle.wire.specs.Bytes.{AllBytes, take-bytes}
 use Rattle.connection.specs.Laws.ShapeLaws.{shaped}
 use Rattle.connection.specs.Laws.Progress.{Fits, admitted-fits, in-content, in-header, in-whole, by-position, by-header, step-advances, step-nothing, step-uses-some, step-uses-no-more, used-only}
 use Rattle.connection.specs.Laws.Cutting.{cut-step, used-admitted}

@@ -21,7 +21,7 @@ use Rattle.connection.specs.Slots.{requestAt, areaAt, find}
 use Rattle.connection.specs.Step.{Stepped, closedConn, stepRefusal, started}
 use Rattle.connection.specs.RequestCalls as Of
 use Rattle.connection.specs.Calls as C
-use Rattle.connection.specs.Laws.PieceLaws.{take-bytes}
+use Rattle.wire.specs.Bytes.{take-bytes}
 use Rattle.connection.specs.Laws.Progress.{admitted-fits, step-refused}
 use Rattle.connection.specs.Laws.Closing.{closes-by-cause, closing-frees}
 use Rattle.connection.specs.Arguments.{Argument, ForValue, ForSource, ForPair, ForWalk, ForSay, ForEnd, ForFinish}

@@ -10,7 +10,7 @@ use Rattle.machine.specs.Machine.{Connection, Open, Closed, onItem, stateAfter,
 use Rattle.connection.specs.Shape.{inShape}
 use Rattle.connection.specs.Step.{Stepped, stepRefusal}
 use Rattle.connection.specs.Bytewise.{Note, notes, Run, single, byByte}
-use Rattle.connection.specs.Laws.PieceLaws.{AllBytes, take-bytes}
+use Rattle.wire.specs.Bytes.{AllBytes, take-bytes}
 use Rattle.connection.specs.Laws.StateShape.{Arrays}
 use Rattle.connection.specs.Laws.StepShape.{step-in-shape, step-keeps-arrays}
 use Rattle.connection.specs.Laws.Progress.{admitted-fits, step-refused}

@@ -14,7 +14,7 @@ use Rattle.machine.specs.RunLaws.{closed-stays, state-append}
 use Rattle.machine.specs.Isolation as Generic
 use Rattle.connection.specs.Sizes.{STORE, QUERY}
 use Rattle.connection.specs.Calls as C
-use Rattle.connection.specs.Laws.PieceLaws.{AllBytes, drop-bytes}
+use Rattle.wire.specs.Bytes.{AllBytes, drop-bytes}
 use Rattle.connection.specs.Laws.Progress.{step-uses-some}
 use Rattle.connection.specs.Runs.Receiver.{receiver}
 use Rattle.connection.specs.Arguments.{Argument}
