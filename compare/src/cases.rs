@@ -1,13 +1,14 @@
-//! Worked cases as text that can be read, and the script for the console and the answers that they stand for. The
-//! format is described in `cases/README.md`.
+//! Worked cases as text that can be read, and the script for the console, or for the bench, and the answers that they
+//! stand for. The format is described in `cases/README.md`.
 
 mod bytes;
+pub mod language;
 mod records;
 
 use crate::console::words::hex;
 use crate::console::LONGEST_LINE;
-use crate::state::STORE;
 use bytes::{joined, plain, words};
+use language::{Language, CONSOLE};
 use std::collections::BTreeMap;
 use std::fmt;
 
@@ -21,6 +22,7 @@ pub struct File {
 }
 
 pub struct Case {
+    language: &'static Language,
     pub file: String,
     pub title: String,
     line: usize,
@@ -38,7 +40,7 @@ struct Item {
 
 enum What {
     Command(String),
-    /// What a web server sends, in pieces.
+    /// What the other end sends, in pieces.
     Sent(Vec<u8>),
     /// The next bytes of a body of readings, at once.
     Read(Vec<u8>),
@@ -70,11 +72,17 @@ impl fmt::Display for Error {
     }
 }
 
-/// The cases of all files. Their titles differ.
+/// The cases of all files, which are for the console. Their titles differ.
 pub fn read(files: &[File]) -> Result<Vec<Case>, Error> {
+    read_in(&CONSOLE, files)
+}
+
+/// The same for files in either language.
+pub fn read_in(language: &'static Language, files: &[File]) -> Result<Vec<Case>, Error> {
     let mut cases = Vec::new();
     for file in files {
         let mut reader = Reader {
+            language,
             file: &file.name,
             cases: Vec::new(),
         };
@@ -109,7 +117,7 @@ pub fn expand(cases: &[Case]) -> Result<Vec<Asked>, Error> {
             vec![None]
         };
         for size in sizes {
-            let mut before = vec![(format!("lend {STORE}"), "ok"), ("start".into(), "open")];
+            let mut before = case.language.before();
             // Nothing else gives a new reader.
             if case.items.iter().any(Item::reads) {
                 before.push(("body new".into(), "ok"));
@@ -177,7 +185,7 @@ impl Item {
             What::Read(bytes) => (format!("read {}", hex(bytes)), self.told_by(bytes.len())),
         };
         if command.len() > LONGEST_LINE {
-            return Err("the console's line for this would be too long".into());
+            return Err("the line for this would be too long".into());
         }
         Ok((command, answer))
     }
@@ -208,16 +216,8 @@ fn ends_feed(answer: &str) -> bool {
     matches!(answer.split(' ').next(), Some("used" | "refused"))
 }
 
-/// What the console's commands begin with.
-const COMMANDS: [&str; 21] = [
-    "start", "lend", "step", "next", "feed", "value", "pair", "walk", "say", "end", "owed", "put",
-    "finish", "active", "area", "counts", "store", "reading", "body", "correct", "poke",
-];
-const EVENTS: [&str; 10] = [
-    "open", "ready", "data", "end", "abort", "refuse", "fault", "query", "unknown", "closed",
-];
-
 struct Reader<'a> {
+    language: &'static Language,
     file: &'a str,
     cases: Vec<Case>,
 }
@@ -229,6 +229,7 @@ impl Reader<'_> {
         }
         if let Some(title) = line.strip_prefix("case ") {
             self.cases.push(Case {
+                language: self.language,
                 file: self.file.into(),
                 title: title.trim().into(),
                 line: number,
@@ -246,21 +247,21 @@ impl Reader<'_> {
                     .items
                     .last_mut()
                     .ok_or("an answer without a command or a record before it")?;
-                add_answer(item, answer)
+                add_answer(self.language, item, answer)
             }
             None => add_asked(case, number, line),
         }
     }
 }
 
-fn add_answer(item: &mut Item, line: &str) -> Result<(), String> {
+fn add_answer(language: &Language, item: &mut Item, line: &str) -> Result<(), String> {
     let answer = answer_text(line)?;
     let (known, kind): (&[&str], _) = match item.asked {
         What::Command(_) => {
             item.answers.push(answer);
             return Ok(());
         }
-        What::Sent(_) => (&EVENTS, "event"),
+        What::Sent(_) => (language.events, "event"),
         What::Read(_) => (&["reading"], "reading"),
     };
     if item.answers.last().is_some_and(|last| ends_feed(last)) {
@@ -276,10 +277,11 @@ fn add_answer(item: &mut Item, line: &str) -> Result<(), String> {
 
 fn add_asked(case: &mut Case, number: usize, line: &str) -> Result<(), String> {
     let words = words(line)?;
-    let asked = match (words[0], records::record(&words)?) {
-        ("read", _) => What::Read(bytes_behind(&words, 1)?),
+    let language = case.language;
+    let asked = match (words[0], (language.record)(&words)?) {
+        ("read", _) if language.station => What::Read(bytes_behind(&words, 1)?),
         (_, Some(bytes)) => What::Sent(bytes),
-        _ => What::Command(command_text(&words)?),
+        _ => What::Command(command_text(language, &words)?),
     };
     // Records that follow each other are sent together.
     if let (What::Sent(more), Some(item)) = (&asked, case.items.last_mut()) {
@@ -298,9 +300,9 @@ fn add_asked(case: &mut Case, number: usize, line: &str) -> Result<(), String> {
     Ok(())
 }
 
-fn command_text(words: &[&str]) -> Result<String, String> {
+fn command_text(language: &Language, words: &[&str]) -> Result<String, String> {
     let name = words[0];
-    if !COMMANDS.contains(&name) {
+    if !language.commands.contains(&name) {
         return Err(format!("`{name}` is no command and no record"));
     }
     match name {
@@ -327,9 +329,10 @@ fn answer_text(line: &str) -> Result<String, String> {
     let words = words(line.trim_start())?;
     match words[..] {
         [] => Err("an answer is missing behind >".into()),
-        ["area", ..] => with_bytes(&words, 1),
-        ["data", ..] => with_bytes(&words, 3),
-        ["used", _, "data", ..] => with_bytes(&words, 5),
+        ["area" | "values", ..] => with_bytes(&words, 1),
+        ["data" | "output", ..] => with_bytes(&words, 3),
+        ["used", _, "values", ..] => with_bytes(&words, 3),
+        ["used", _, "data" | "output", ..] => with_bytes(&words, 5),
         ["wrote", count, ..] => {
             let last = words.iter().rposition(|word| !BEHIND.contains(word));
             let (bytes, behind) = words.split_at(last.map_or(0, |last| last + 1));

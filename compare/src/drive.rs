@@ -1,7 +1,8 @@
-//! A console driven by a script over pipes, and its answers held to the twin's.
+//! A console, or a bench, driven by a script over pipes, and its answers held to the twin's; and what a twin does as a
+//! program.
 
 use crate::scripts::Script;
-use std::io::{self, Read, Write};
+use std::io::{self, BufRead, Read, Write};
 use std::path::Path;
 use std::process::{Command, Stdio};
 use std::thread;
@@ -21,6 +22,25 @@ pub fn text(lines: &[Vec<u8>]) -> Vec<u8> {
         text.push(b'\n');
     }
     text
+}
+
+/// Answers the lines of standard input on standard output, to the end of the input.
+pub fn serve(mut answer: impl FnMut(&[u8]) -> String) -> io::Result<()> {
+    let mut input = io::BufReader::with_capacity(1 << 16, io::stdin().lock());
+    let mut out = io::BufWriter::new(io::stdout().lock());
+    let mut line = Vec::new();
+    while input.read_until(b'\n', &mut line)? > 0 {
+        if line.last() == Some(&b'\n') {
+            line.pop();
+        }
+        writeln!(out, "{}", answer(&line))?;
+        // At a terminal, or behind a program that waits for the answer, nothing more is at hand.
+        if input.buffer().is_empty() {
+            out.flush()?;
+        }
+        line.clear();
+    }
+    out.flush()
 }
 
 /// What a console prints for a script, by lines. One that ends early answers fewer.

@@ -10,12 +10,12 @@ mod calls;
 mod captures;
 mod cards;
 mod correction;
-mod lists;
+pub(crate) mod lists;
 mod odd;
 pub mod own;
 mod pokes;
 mod readings;
-mod records;
+pub(crate) mod records;
 mod row_nine;
 mod traffic;
 

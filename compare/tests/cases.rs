@@ -313,7 +313,7 @@ fn what_is_wrong_and_where() {
         ("case a\nbody end\n", "one.txt:2: no answer follows"),
         (
             "case a\nbytes \"\\{70000}x\"\n",
-            "one.txt:2: the console's line for this would be too long",
+            "one.txt:2: the line for this would be too long",
         ),
         (
             "case a\ncase b\ncase a\n",

@@ -3,10 +3,12 @@
 //!     cases script FILE..          prints the script
 //!     cases answers FILE..         prints the answers that have to come
 //!     cases run CONSOLE FILE..     runs a console and compares its answers
+//!     cases --bench ..             the same for the bench, by the cases of `cases/server`
 //!
 //! Exit status 1 where an answer differs, 2 where something is wrong with the files or the call.
 
-use compare::cases::{expand, read, Asked, File};
+use compare::cases::language::{Language, BENCH, CONSOLE};
+use compare::cases::{expand, read_in, Asked, File};
 use compare::drive::{answers, differences, shortened};
 use compare::scripts::Script;
 use std::io::{self, Write};
@@ -18,13 +20,22 @@ const SHOWN: usize = 5;
 
 fn main() -> ExitCode {
     let words: Vec<String> = std::env::args().skip(1).collect();
-    let words: Vec<&str> = words.iter().map(String::as_str).collect();
+    let mut words: Vec<&str> = words.iter().map(String::as_str).collect();
+    let mut language = &CONSOLE;
+    if words.first() == Some(&"--bench") {
+        words.remove(0);
+        language = &BENCH;
+    }
     let done = match words[..] {
-        ["script", _, ..] => print(&words[1..], |asked| &asked.command),
-        ["answers", _, ..] => print(&words[1..], |asked| &asked.answer),
-        ["run", console, _, ..] => run(console, &words[2..]),
+        ["script", ref files @ ..] if !files.is_empty() => {
+            print(language, files, |asked| &asked.command)
+        }
+        ["answers", ref files @ ..] if !files.is_empty() => {
+            print(language, files, |asked| &asked.answer)
+        }
+        ["run", program, ref files @ ..] if !files.is_empty() => run(language, program, files),
         _ => {
-            eprintln!("usage: cases script FILE..|answers FILE..|run CONSOLE FILE..");
+            eprintln!("usage: cases [--bench] script FILE..|answers FILE..|run PROGRAM FILE..");
             return ExitCode::from(2);
         }
     };
@@ -38,7 +49,7 @@ fn main() -> ExitCode {
     }
 }
 
-fn all(names: &[&str]) -> Result<Vec<Asked>, String> {
+fn all(language: &'static Language, names: &[&str]) -> Result<Vec<Asked>, String> {
     let mut files = Vec::new();
     for &name in names {
         let text = std::fs::read_to_string(name).map_err(|error| format!("{name}: {error}"))?;
@@ -47,23 +58,27 @@ fn all(names: &[&str]) -> Result<Vec<Asked>, String> {
             text,
         });
     }
-    read(&files)
+    read_in(language, &files)
         .and_then(|cases| expand(&cases))
         .map_err(|error| error.to_string())
 }
 
-fn print(names: &[&str], part: fn(&Asked) -> &String) -> Result<bool, String> {
+fn print(
+    language: &'static Language,
+    names: &[&str],
+    part: fn(&Asked) -> &String,
+) -> Result<bool, String> {
     let mut out = io::BufWriter::new(io::stdout().lock());
-    for asked in all(names)? {
+    for asked in all(language, names)? {
         writeln!(out, "{}", part(&asked)).map_err(|error| error.to_string())?;
     }
     out.flush().map_err(|error| error.to_string())?;
     Ok(true)
 }
 
-/// Answers whether the console gave every answer that it has to.
-fn run(console: &str, names: &[&str]) -> Result<bool, String> {
-    let asked = all(names)?;
+/// Answers whether the program gave every answer that it has to.
+fn run(language: &'static Language, program: &str, names: &[&str]) -> Result<bool, String> {
+    let asked = all(language, names)?;
     let script = Script {
         lines: asked
             .iter()
@@ -73,7 +88,7 @@ fn run(console: &str, names: &[&str]) -> Result<bool, String> {
         states: 0,
     };
     let got =
-        answers(Path::new(console), &script).map_err(|error| format!("{console}: {error}"))?;
+        answers(Path::new(program), &script).map_err(|error| format!("{program}: {error}"))?;
     let different = differences(&script, &got);
     // In a case one difference leads to others: only its first is shown.
     let mut titles: Vec<&str> = Vec::new();
@@ -86,20 +101,20 @@ fn run(console: &str, names: &[&str]) -> Result<bool, String> {
                     show(line, got.get(i).map(Vec::as_slice));
                 }
             }
-            None => println!("{console} answers more lines than it was asked"),
+            None => println!("{program} answers more lines than it was asked"),
         }
     }
     if different.is_empty() {
         let mut titles: Vec<&str> = asked.iter().map(|line| line.title.as_str()).collect();
         titles.dedup();
         println!(
-            "{console}: {} cases, {} lines, all answered as they have to be",
+            "{program}: {} cases, {} lines, all answered as they have to be",
             titles.len(),
             asked.len()
         );
     } else {
         println!(
-            "{console}: cases not answered as they have to be: {}",
+            "{program}: cases not answered as they have to be: {}",
             titles.len()
         );
     }

@@ -1,15 +1,18 @@
 //! Mistakes planted into copies of the twin, one at a time, and the random scripts run against each: are they seen?
 //! And changes that the rules allow, which must not be.
 //!
-//!     planted [--lines N] [--seed N] COMPARE OUT [NAME..]
+//!     planted [--bench] [--quick] [--lines N] [--seed N] COMPARE OUT [NAME..]
 //!
 //! COMPARE is the folder with src/, planted/ and allowed/, OUT is where the copies are built. A file of the latter two
 //! has a line that begins with `#`, and then parts of three: `file:`, `old:` (which stands once in that file) and
-//! `new:`, each up to the next of these words at the start of a line. Exit status 1 where a mistake is not seen, or an
-//! allowed change is.
+//! `new:`, each up to the next of these words at the start of a line. With `--bench` it is the twin of the bench, and
+//! the files are those of planted/server/ and allowed/server/. With `--quick` the first script that shows a change is the
+//! last one that is run against it, and nothing is optimised. Exit status 1 where a mistake is not seen, or an allowed
+//! change is.
 
 use compare::drive::{answers, differences, seed_of, SCRIPT};
-use compare::scripts::{generate, Script};
+use compare::scripts::Script;
+use compare::sides::{Side, BENCH, CONSOLE};
 use std::fs;
 use std::path::{Path, PathBuf};
 use std::process::{Command, ExitCode};
@@ -19,7 +22,17 @@ use std::thread;
 
 type Any<T> = Result<T, Box<dyn std::error::Error + Send + Sync>>;
 
+/// Whose mistakes, and how they are tried.
+struct How {
+    side: &'static Side,
+    quick: bool,
+}
+
 fn main() -> ExitCode {
+    let mut how = How {
+        side: &CONSOLE,
+        quick: false,
+    };
     let (mut lines, mut seed, mut places) = (100_000, 1, Vec::new());
     let mut words = std::env::args().skip(1);
     while let Some(word) = words.next() {
@@ -30,6 +43,8 @@ fn main() -> ExitCode {
                 .unwrap_or_else(|| usage())
         };
         match word.as_str() {
+            "--bench" => how.side = &BENCH,
+            "--quick" => how.quick = true,
             "--lines" => lines = number() as usize,
             "--seed" => seed = number(),
             _ => places.push(word),
@@ -38,7 +53,8 @@ fn main() -> ExitCode {
     let [folder, out, names @ ..] = &places[..] else {
         usage()
     };
-    match run(lines, seed, Path::new(folder), Path::new(out), names) {
+    let scripts = scripts(how.side, lines, seed);
+    match run(&how, &scripts, Path::new(folder), Path::new(out), names) {
         Ok(true) => ExitCode::SUCCESS,
         Ok(false) => ExitCode::FAILURE,
         Err(error) => {
@@ -49,16 +65,18 @@ fn main() -> ExitCode {
 }
 
 fn usage() -> ! {
-    eprintln!("usage: planted [--lines N] [--seed N] COMPARE OUT [NAME..]");
+    eprintln!("usage: planted [--bench] [--quick] [--lines N] [--seed N] COMPARE OUT [NAME..]");
     std::process::exit(2)
 }
 
 /// Answers whether every mistake was seen, and no allowed change.
-fn run(lines: usize, seed: u64, folder: &Path, out: &Path, names: &[String]) -> Any<bool> {
-    let mut edits = edits(&folder.join("planted"), names)?;
+fn run(how: &How, scripts: &[Script], folder: &Path, out: &Path, names: &[String]) -> Any<bool> {
+    let mut edits = edits(&folder.join("planted").join(how.side.edits), names)?;
     let mistakes = edits.len();
-    edits.extend(self::edits(&folder.join("allowed"), names)?);
-    let scripts = scripts(lines, seed);
+    edits.extend(self::edits(
+        &folder.join("allowed").join(how.side.edits),
+        names,
+    )?);
     let all: usize = scripts.iter().map(|script| script.lines.len()).sum();
     let (next, wrong) = (AtomicUsize::new(0), Mutex::new(Vec::new()));
     let work = || -> Any<()> {
@@ -68,16 +86,20 @@ fn run(lines: usize, seed: u64, folder: &Path, out: &Path, names: &[String]) -> 
                 return Ok(());
             };
             let name = edit.file_stem().unwrap_or_default().to_string_lossy();
-            let twin = build(edit, &folder.join("src"), &out.join(&*name))
+            let twin = build(how, edit, &folder.join("src"), &out.join(&*name))
                 .map_err(|error| format!("{name}: {error}"))?;
-            let (mut seen, mut hit) = (0, 0);
-            for script in &scripts {
+            let (mut seen, mut hit, mut tried) = (0, 0, 0);
+            for script in scripts {
                 let n = differences(script, &answers(&twin, script)?).len();
+                tried += 1;
                 seen += n;
                 hit += usize::from(n > 0);
+                if how.quick && n > 0 {
+                    break;
+                }
             }
             let allowed = if i < mistakes { "" } else { " (allowed)" };
-            println!("{seen:>8} lines in {hit:>3} scripts  {name}{allowed}");
+            println!("{seen:>8} lines in {hit:>3} of {tried:>3} scripts  {name}{allowed}");
             if (seen > 0) != (i < mistakes) {
                 wrong.lock().expect("nobody panics").push(name.into_owned());
             }
@@ -105,7 +127,9 @@ fn edits(folder: &Path, names: &[String]) -> Any<Vec<PathBuf>> {
     let mut edits = Vec::new();
     for entry in fs::read_dir(folder)? {
         let path = entry?.path();
-        if names.is_empty() || names.iter().any(|n| path.file_stem() == Some(n.as_ref())) {
+        let named = names.is_empty() || names.iter().any(|n| path.file_stem() == Some(n.as_ref()));
+        // The other side's are in a folder in this one.
+        if named && path.extension().is_some_and(|end| end == "edit") {
             edits.push(path);
         }
     }
@@ -113,10 +137,10 @@ fn edits(folder: &Path, names: &[String]) -> Any<Vec<PathBuf>> {
     Ok(edits)
 }
 
-fn scripts(lines: usize, seed: u64) -> Vec<Script> {
+fn scripts(side: &Side, lines: usize, seed: u64) -> Vec<Script> {
     let (mut scripts, mut n) = (Vec::new(), 0);
     while n < lines {
-        let script = generate(seed_of(seed, scripts.len() as u64), SCRIPT);
+        let script = (side.generate)(seed_of(seed, scripts.len() as u64), SCRIPT);
         n += script.lines.len();
         scripts.push(script);
     }
@@ -124,7 +148,7 @@ fn scripts(lines: usize, seed: u64) -> Vec<Script> {
 }
 
 /// Copies the sources, makes the edit, and builds a twin of them.
-fn build(edit: &Path, source: &Path, out: &Path) -> Any<PathBuf> {
+fn build(how: &How, edit: &Path, source: &Path, out: &Path) -> Any<PathBuf> {
     copy(source, out)?;
     let text = fs::read_to_string(edit)?;
     for part in text.split("\nfile: ").skip(1) {
@@ -144,7 +168,11 @@ fn build(edit: &Path, source: &Path, out: &Path) -> Any<PathBuf> {
                 "--edition",
                 "2021",
                 "-C",
-                "opt-level=1",
+                if how.quick {
+                    "opt-level=0"
+                } else {
+                    "opt-level=1"
+                },
                 "--cap-lints",
                 "allow",
             ])
@@ -162,7 +190,7 @@ fn build(edit: &Path, source: &Path, out: &Path) -> Any<PathBuf> {
         "compare=libcompare.rlib",
         "-o",
         "twin",
-        "bin/twin.rs",
+        &format!("bin/{}.rs", how.side.twin),
     ])?;
     Ok(out.join("twin"))
 }

@@ -2,13 +2,13 @@
 
 use super::bytes::joined;
 use crate::console::words::id;
-use crate::wire::{kind, record_with, KEEP_CONN};
+use crate::wire::{end_body, kind, record_with, KEEP_CONN};
 
-/// Padding has to be ignored, so it is not zero.
+/// Padding and reserved bytes have to be ignored, so they are not zero.
 const PADDING: u8 = 0xff;
 
-/// The bytes of a record, or none where the line begins with another word.
-pub fn record(words: &[&str]) -> Result<Option<Vec<u8>>, String> {
+/// The bytes of a record that a web server sends, or none where the line begins with another word.
+pub fn request_record(words: &[&str]) -> Result<Option<Vec<u8>>, String> {
     let kind = match words[0] {
         "params" => kind::PARAMS,
         "stdin" => kind::STDIN,
@@ -21,22 +21,68 @@ pub fn record(words: &[&str]) -> Result<Option<Vec<u8>>, String> {
             };
             return padded(kind::ABORT, id, &[]).map(Some);
         }
-        "record" => {
-            let [kind, id, ref content @ ..] = words[1..] else {
-                return Err("it is `record TYPE ID BYTES`".into());
-            };
+        _ => return any_record(words),
+    };
+    of_stream(kind, words)
+}
+
+/// The bytes of a record that a station sends, or none where the line begins with another word.
+pub fn reply_record(words: &[&str]) -> Result<Option<Vec<u8>>, String> {
+    match words[0] {
+        "stdout" => of_stream(kind::STDOUT, words),
+        "stderr" => of_stream(kind::STDERR, words),
+        "finish" => finish(&words[1..]).map(Some),
+        "result" => padded(kind::GET_VALUES_RESULT, "0", &joined(&words[1..])?).map(Some),
+        "unknown" => unknown(&words[1..]).map(Some),
+        _ => any_record(words),
+    }
+}
+
+/// A record of any type, or just bytes.
+fn any_record(words: &[&str]) -> Result<Option<Vec<u8>>, String> {
+    match *words {
+        ["record", kind, id, ref content @ ..] => {
             let kind = kind
                 .parse()
                 .map_err(|_| format!("`{kind}` is no type of a record"))?;
-            return padded(kind, id, &joined(content)?).map(Some);
+            padded(kind, id, &joined(content)?).map(Some)
         }
-        "bytes" => return joined(&words[1..]).map(Some),
-        _ => return Ok(None),
-    };
+        ["record", ..] => Err("it is `record TYPE ID BYTES`".into()),
+        ["bytes", ref bytes @ ..] => joined(bytes).map(Some),
+        _ => Ok(None),
+    }
+}
+
+fn of_stream(kind: u8, words: &[&str]) -> Result<Option<Vec<u8>>, String> {
     let [id, ref content @ ..] = words[1..] else {
         return Err(format!("it is `{} ID BYTES`", words[0]));
     };
     padded(kind, id, &joined(content)?).map(Some)
+}
+
+/// An END record.
+fn finish(words: &[&str]) -> Result<Vec<u8>, String> {
+    const FORM: &str = "it is `finish ID STATUS PROTOCOL`";
+    let [id, status, protocol] = *words else {
+        return Err(FORM.into());
+    };
+    let (Ok(status), Ok(protocol)) = (status.parse(), protocol.parse()) else {
+        return Err(FORM.into());
+    };
+    let mut body = end_body(status, protocol);
+    body[5..].fill(PADDING);
+    padded(kind::END, id, &body)
+}
+
+/// An UNKNOWN_TYPE record.
+fn unknown(words: &[&str]) -> Result<Vec<u8>, String> {
+    let kind = match *words {
+        [kind] => kind.parse().ok(),
+        _ => None,
+    };
+    let mut body = [PADDING; 8];
+    body[0] = kind.ok_or("it is `unknown TYPE`")?;
+    padded(kind::UNKNOWN_TYPE, "0", &body)
 }
 
 fn begin(words: &[&str]) -> Result<Vec<u8>, String> {

@@ -1,7 +1,8 @@
 // A station's end of an exchange: what a web server sends comes on standard input, what the station answers goes to
 // standard output. Each request is asked for its reading once its parameters are there; the reading is written to the
-// request's STDOUT, STDOUT is ended, and then the request. A request that faults or is aborted is ended at once, so that
-// its slot is free again. Replies that events owe are written as they come.
+// request's STDOUT, STDOUT is ended, and then the request. One with a complaint has it written to its STDERR, and ends
+// with the status 938, as in the specification's example of an application that fails. A request that faults or is
+// aborted is ended at once, so that its slot is free again. Replies that events owe are written as they come.
 use fastcgi::Conn;
 use fastcgi::Event;
 use fastcgi::FinishResult;
@@ -40,25 +41,60 @@ fn send_end(out: &[u8], last: FinishResult) {
 }
 
 // Ends a request: what it still owes is sent, and its slot is free again.
-fn end_request(c: Conn, store: &mut [u8], id: u16, out: &mut [u8]) -> Conn {
-    let finished = finish(c, store, id, 0, out);
+fn end_request(c: Conn, store: &mut [u8], id: u16, status: u32, out: &mut [u8]) -> Conn {
+    let finished = finish(c, store, id, status, out);
     let last = finished.result;
     send_end(out, last);
     finished.conn
 }
 
-// Writes a request's reading back, ends its STDOUT and then the request. Where it sent no reading, that is said.
-fn answer(c: Conn, store: &mut [u8], id: u16, out: &mut [u8]) -> Conn {
+// Writes a request's reading back to its STDOUT. Where it sent none, that is said.
+fn say_reading(c: Conn, store: &[u8], id: u16, out: &mut [u8]) -> Conn {
     let reading = value(c, store, id, b"READING", b"no reading");
     let said = write_output(c, id, Output::Stdout, reading, out);
     let wrote = said.wrote;
     send(out, wrote);
-    let told = said.conn;
-    let ended = end_output(told, id, Output::Stdout, out);
-    let end = ended.wrote;
-    send(out, end);
-    let over = ended.conn;
-    end_request(over, store, id, out)
+    said.conn
+}
+
+// Writes a request's complaint to its STDERR, if it has one: no data writes nothing.
+fn complain(c: Conn, store: &[u8], id: u16, out: &mut [u8]) -> Conn {
+    let complaint = value(c, store, id, b"COMPLAINT", b"");
+    let said = write_output(c, id, Output::Stderr, complaint, out);
+    let wrote = said.wrote;
+    send(out, wrote);
+    said.conn
+}
+
+// Ends a request's STDOUT.
+fn end_stdout(c: Conn, id: u16, out: &mut [u8]) -> Conn {
+    let ended = end_output(c, id, Output::Stdout, out);
+    let wrote = ended.wrote;
+    send(out, wrote);
+    ended.conn
+}
+
+// The status that a request ends with.
+fn status_of(c: Conn, store: &[u8], id: u16) -> u32 {
+    let complaint = value(c, store, id, b"COMPLAINT", b"");
+    if complaint.len() == 0 {
+        return 0;
+    }
+    938
+}
+
+// What a request is told, its end not yet among it.
+fn tell(c: Conn, store: &[u8], id: u16, out: &mut [u8]) -> Conn {
+    let said = say_reading(c, store, id, out);
+    let told = complain(said, store, id, out);
+    end_stdout(told, id, out)
+}
+
+// Answers a request and ends it.
+fn answer(c: Conn, store: &mut [u8], id: u16, out: &mut [u8]) -> Conn {
+    let told = tell(c, store, id, out);
+    let status = status_of(told, store, id);
+    end_request(told, store, id, status, out)
 }
 
 // The request that an event leaves without anything more to come; 0 for none, since no request has that id.
@@ -78,7 +114,7 @@ fn react(c: Conn, store: &mut [u8], e: Event, out: &mut [u8]) -> Conn {
     send(out, owed);
     let over = given_up(e);
     if over != 0 {
-        return end_request(c, store, over, out);
+        return end_request(c, store, over, 0, out);
     }
     if let Event::Ready { id, length: _ } = e {
         return answer(c, store, id, out);

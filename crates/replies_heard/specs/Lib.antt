@@ -1,0 +1,15 @@
+pub mod Moves
+pub mod Joint
+pub mod Cases
+pub mod Agree
+pub mod Alike
+pub mod StationSteps
+pub mod OutputHeard
+pub mod FinishHeard
+pub mod RepliesHeard
+pub mod MoveHeard
+pub mod Pending
+pub mod Together
+pub mod ServerCalls
+pub mod JointTheorem
+pub mod Premises

@@ -1,0 +1,4 @@
+pub mod Answer
+pub mod Outcome
+pub mod Check
+pub mod Laws
