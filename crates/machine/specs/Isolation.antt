@@ -25,7 +25,7 @@ module _ (M : Machine) (R : ℕ) where
     pub same-request : requestIn M R (B .state) ≡ requestIn M R (A .state)
 
   -- where the whole run is between two records, so is the purged one
-  both-between : {T : Slots M} {v : Option Request} {m : Scan} {F F′ : Reading M} → Readings M R T [] v m F F′ → F ≡ AtHeader [] → F′ ≡ AtHeader []
+  pub both-between : {T : Slots M} {v : Option Request} {m : Scan} {F F′ : Reading M} → Readings M R T [] v m F F′ → F ≡ AtHeader [] → F′ ≡ AtHeader []
   both-between (BothInHeader {h = h} true e) d = d
   both-between (BothInHeader {h = h} false e) d = refl
   both-between (InOwnRecord x) d = cc

@@ -7,7 +7,7 @@ use mathlib.Core.Path.{_≡_}
 use mathlib.Core.List.{List}
 use mathlib.Core.Option.{none, some}
 use Prim.Native.Nat.{ℕ, suc, _≤_, _<_}
-use Rattle.machine.specs.Machine.{HeaderOutcome, Decided, BeginOutcome, Declined, Accepted, CallOutcome, Stays, Leaves, Closes, InactiveOutcome, WrongBegin, NewBegin, PassedOver, ManagementOutcome, QueryTooLong, Notices, Gathers, Machine}
+use Rattle.machine.specs.Machine.{HeaderOutcome, Decided, BeginOutcome, Declined, Accepted, CallOutcome, Stays, Retires, Leaves, Closes, InactiveOutcome, WrongBegin, NewBegin, PassedOver, ManagementOutcome, QueryTooLong, Notices, Gathers, Machine}
 
 -- the request after a header is in shape, and so is the content that it takes
 abbrev pub HeaderOutcomeOk : {Request Stream Event : Type 0} → (Request → Type 0) → (Stream → ℕ → Request → Type 0) → ℕ → HeaderOutcome Request Stream Event → Type 0
@@ -19,9 +19,10 @@ abbrev pub BeginOutcomeOk : {Leftover Request Event : Type 0} → (Request → T
 BeginOutcomeOk RequestOk LeftoverOk (Declined e) = Unit {0}
 BeginOutcomeOk {Leftover} RequestOk LeftoverOk (Accepted f e) = (x : Leftover) → LeftoverOk x → RequestOk (f x)
 
--- a request that stays is in shape, and content that it was to take it still takes
+-- a request that stays is in shape, and content that it was to take it still takes, unless it is skipped from here on
 abbrev pub CallOutcomeOk : {Request Stream Answer : Type 0} → (Request → Type 0) → (Stream → ℕ → Request → Type 0) → Request → CallOutcome Request Answer → Type 0
 CallOutcomeOk {Stream = Stream} RequestOk StreamOk r (Stays q n) = RequestOk q × ((k : Stream) (c : ℕ) → StreamOk k c r → StreamOk k c q)
+CallOutcomeOk RequestOk StreamOk r (Retires q n) = RequestOk q
 CallOutcomeOk RequestOk StreamOk r (Leaves n) = Unit {0}
 CallOutcomeOk RequestOk StreamOk r (Closes n) = Unit {0}
 

@@ -20,9 +20,11 @@ pub data BeginOutcome (Leftover Request Event : Type 0) : Type 0 where
   Declined : Event → BeginOutcome Leftover Request Event
   Accepted : (Leftover → Request) → Event → BeginOutcome Leftover Request Event
 
--- On a call: the request stays, or leaves its slot, or leaves and the connection closes. Each with the answer.
+-- On a call: the request stays, or stays while the rest of its record is skipped, or leaves its slot, or leaves and the
+-- connection closes. Each with the answer.
 pub data CallOutcome (Request Answer : Type 0) : Type 0 where
   Stays : Request → Answer → CallOutcome Request Answer
+  Retires : Request → Answer → CallOutcome Request Answer
   Leaves : Answer → CallOutcome Request Answer
   Closes : Answer → CallOutcome Request Answer
 
@@ -231,6 +233,7 @@ module _ (M : Machine) where
   -- the request q in slot i has decided on a call
   unfoldable pub callDecided : CallOutcome Request Answer → ℕ → Request → ℕ → Argument → Slots → Reading → Effect
   callDecided (Stays r n) i q id a T F = (Open (set T i (HeldBy id r)) F, some (CallAnswer id a n (some q) (some r)))
+  callDecided (Retires r n) i q id a T F = (Open (set T i (HeldBy id r)) (readingWithout i F), some (CallAnswer id a n (some q) (some r)))
   callDecided (Leaves n) i q id a T F = (Open (set T i (Vacant clean)) (readingWithout i F), some (CallAnswer id a n (some q) none))
   callDecided (Closes n) i q id a T F = (Closed, some (CallAnswer id a n (some q) none))
 

@@ -18,7 +18,7 @@ module _ (M : Machine) (L : Laws M) where
 
   -- ---- content
   shape-seated : (o : Vacancy Leftover) (id : ℕ) (r : Leftover → Request) (e : Event) (T : Slots M) (p : ℕ) → SlotsOk M L T → p ≤ 255 → 0 < id → IsAbsent M L id T
-      → VacancyThere M L T o → ((x : Leftover) → LeftoverOk x → RequestOk (r x))
+      → VacancyThere M T o → ((x : Leftover) → LeftoverOk x → RequestOk (r x))
       → EffectOk M L (requestSeated M o id r e T (withLeft M Skip zero p))
   unfolding requestSeated
   shape-seated NoVacancy id r e T p t y z l w f = (t, reading-left M L T Skip zero p (omega arith) y tt)
@@ -31,7 +31,7 @@ module _ (M : Machine) (L : Laws M) where
       → EffectOk M L (beginWhole M o id T (withLeft M Skip zero p))
   unfolding beginWhole
   shape-begin (Declined e) id T p t y z l d = (t, reading-left M L T Skip zero p (omega arith) y tt)
-  shape-begin (Accepted r e) id T p t y z l d = shape-seated (firstVacancy T) id r e T p t y z l (vacancy-there M L T) d
+  shape-begin (Accepted r e) id T p t y z l d = shape-seated (firstVacancy T) id r e T p t y z l (vacancy-there M T) d
 
   shape-stream-byte : (o : SlotState Leftover Request) (i : ℕ) (k : Stream) (c p b : ℕ) (T : Slots M) → SlotsOk M L T → b < 256 → c ≤ 65535 → p ≤ 255
       → slotAt clean T i ≡ o → TargetOk M L T (ToSlot i k) (suc c)
@@ -60,7 +60,7 @@ module _ (M : Machine) (L : Laws M) where
   shape-content-byte (ToSlot i k) c p b T t w y = shape-stream-byte (slotAt clean T i) i k c p b T t w (omega arith) (y .padding-left) refl (y .target-ok)
 
   -- ---- any byte
-  bytes-one-more : (h : List ℕ) (b : ℕ) → BytesOk h → b < 256 → BytesOk (h ++ b ∷ [])
+  pub bytes-one-more : (h : List ℕ) (b : ℕ) → BytesOk h → b < 256 → BytesOk (h ++ b ∷ [])
   bytes-one-more [] b x w zero = w
   bytes-one-more [] b x w (suc j) = omega arith
   bytes-one-more (y ∷ h) b x w zero = x 0

@@ -12,6 +12,15 @@ use Rattle.machine.specs.Shape.{BytesOk, ItemOk, ItemsOk, ItemsEnd, Item
 use Rattle.machine.specs.ShapeContent.{shape-record-byte}
 use Rattle.machine.specs.ShapeCalls.{shape-call}
 
+module _ (M : Machine) where
+  open Machine M using (Leftover, clean, Request)
+
+  -- in a fresh start every slot is free
+  pub fresh-vacant : (n j : ℕ) → _≡_ {A = SlotState Leftover Request} (slotAt clean (replicate n (Vacant clean)) j) (Vacant clean)
+  fresh-vacant zero j = refl
+  fresh-vacant (suc n) zero = refl
+  fresh-vacant (suc n) (suc j) = fresh-vacant n j
+
 module _ (M : Machine) (L : Laws M) where
   open Machine M using (Leftover, clean, Request)
   open Laws L using (slotCount, clean-ok)
@@ -33,19 +42,14 @@ module _ (M : Machine) (L : Laws M) where
   shape-after s (ItemsMore {x = x} p q) h = shape-after ((onItem M s x) .0) q (shape-item s x p h)
 
   -- a fresh start is in shape
-  fresh-vacant : (n j : ℕ) → _≡_ {A = SlotState Leftover Request} (slotAt clean (replicate n (Vacant clean)) j) (Vacant clean)
-  fresh-vacant zero j = refl
-  fresh-vacant (suc n) zero = refl
-  fresh-vacant (suc n) (suc j) = fresh-vacant n j
-
   pub shape-fresh : WellShaped M L (fresh M slotCount)
   unfolding fresh
   shape-fresh =
       let none-held : (i id : ℕ) (r : Request) → slotAt clean (replicate slotCount (Vacant clean)) i ≡ HeldBy id r → ⊥ =
-      λ i id r x. let z : _≡_ {A = SlotState Leftover Request} (Vacant clean) (HeldBy id r) = sym (fresh-vacant slotCount i) ∙ x in let w : _≡_ {A = ℕ} 0 1 = cc in omega arith in
+      λ i id r x. let z : _≡_ {A = SlotState Leftover Request} (Vacant clean) (HeldBy id r) = sym (fresh-vacant M slotCount i) ∙ x in let w : _≡_ {A = ℕ} 0 1 = cc in omega arith in
       let slots : SlotsOk M L (replicate slotCount (Vacant clean)) = record {
         size = length-replicate slotCount (Vacant clean);
-        fits = λ j. rw (fresh-vacant slotCount j) clean-ok;
+        fits = λ j. rw (fresh-vacant M slotCount j) clean-ok;
         once = λ i j id r q x y. absurd (none-held i id r x);
       } in
       (slots, (omega arith, λ j. omega arith))

@@ -95,7 +95,10 @@ module _ (M : Machine) (L : Laws M) where
       go false o d zero y f = eqb-false k id o (cc)
       go false o d (suc i) y f = f (absent-further (lookup id T) d) i y
 
-  -- ---- the lowest free slot is free
+-- ---- the lowest free slot is free
+module _ (M : Machine) where
+  open Machine M using (Leftover, clean, Request)
+
   abbrev pub VacancyThere : Slots M → Vacancy Leftover → Type 0
   VacancyThere T NoVacancy = Unit {0}
   VacancyThere T (VacancyAt i x) = slotAt clean T i ≡ Vacant x

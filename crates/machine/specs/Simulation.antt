@@ -89,21 +89,21 @@ module _ (M : Machine) (R : ℕ) where
   NeverOverloaded A = List·Memᴰ (RequestEvent R overloaded) (A .seen) → ⊥
 
   -- where they hold of a run, they hold of its first item and of the rest
-  open-here : (A : Connection M) (x : Item (M .Argument)) (t : List (Item (M .Argument))) → EndsOpen (ran M A (x ∷ t)) → LeftOpen M R (onItem M A x)
+  pub open-here : (A : Connection M) (x : Item (M .Argument)) (t : List (Item (M .Argument))) → EndsOpen (ran M A (x ∷ t)) → LeftOpen M R (onItem M A x)
   unfolding stateAfter
   open-here A x t a e = a (ap (λ w. stateAfter M w t) e ∙ closed-stays M t)
 
-  open-next : (A A′ : Connection M) (x : Item (M .Argument)) (t : List (Item (M .Argument))) → (onItem M A x) .0 ≡ A′ → EndsOpen (ran M A (x ∷ t)) → EndsOpen (ran M A′ t)
+  pub open-next : (A A′ : Connection M) (x : Item (M .Argument)) (t : List (Item (M .Argument))) → (onItem M A x) .0 ≡ A′ → EndsOpen (ran M A (x ∷ t)) → EndsOpen (ran M A′ t)
   unfolding stateAfter
   open-next A A′ x t e a d = a (ap (λ w. stateAfter M w t) e ∙ d)
 
-  room-here : (A : Connection M) (x : Item (M .Argument)) (t : List (Item (M .Argument))) → NeverOverloaded (ran M A (x ∷ t)) → NotOverloaded M R (onItem M A x)
+  pub room-here : (A : Connection M) (x : Item (M .Argument)) (t : List (Item (M .Argument))) → NeverOverloaded (ran M A (x ∷ t)) → NotOverloaded M R (onItem M A x)
   unfolding observations asList
   room-here A x t r h =
       let m : List·Memᴰ (RequestEvent R overloaded) (asList M ((onItem M A x) .1)) = rw h (List·Memᴰ·head refl) in
       r (Memᴰ·append-left _ m)
 
-  room-next : (A A′ : Connection M) (x : Item (M .Argument)) (t : List (Item (M .Argument))) → (onItem M A x) .0 ≡ A′ → NeverOverloaded (ran M A (x ∷ t)) → NeverOverloaded (ran M A′ t)
+  pub room-next : (A A′ : Connection M) (x : Item (M .Argument)) (t : List (Item (M .Argument))) → (onItem M A x) .0 ≡ A′ → NeverOverloaded (ran M A (x ∷ t)) → NeverOverloaded (ran M A′ t)
   unfolding observations
   room-next A A′ x t e r h =
       let h′ : List·Memᴰ (RequestEvent R overloaded) (observations M ((onItem M A x) .0) t) = rw e h in

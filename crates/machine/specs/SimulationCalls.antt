@@ -10,8 +10,8 @@ use borrow.Author.Tests.{eqb-true, eqb-false, eq-eqb, ne-eqb}
 use Rattle.wire.specs.Test.{if_then_else_}
 use Rattle.machine.specs.Slots.{SlotState, Vacant, HeldBy, Lookup, Absent, FoundAt, lookup, slotAt, OfOthers, Contains, contains-absent, OwnSlot, own-slot, LookupRight, lookup-right, contains-set, lookup-set, others-set, others-not-own, others-kept}
 use Rattle.machine.specs.Timeline.{Call, RequestCall, CountCall, CallItem, Scan, isOwnCall}
-use Rattle.machine.specs.Machine.{CallOutcome, Stays, Leaves, Closes, Machine, Skip, ToSlot, Reading, Slots, Open, targetWithout, readingWithout, callDecided, requestCalled, onItem, asList, concerns, observed}
-use Rattle.machine.specs.SimulationRelation.{aloneSlots, SameSkip, SameBegin, SameSlot, OthersTarget, OthersSkip, OthersBegin, OthersQuery, OthersSlot, Readings, BothInHeader, InOwnRecord, InOthersRecord, CallInactive, CallStays, CallLeaves, StepTogether, together, waits, LeftOpen, alone-found, alone-absent, found-of-others, whenOwn}
+use Rattle.machine.specs.Machine.{CallOutcome, Stays, Retires, Leaves, Closes, Machine, Skip, ToSlot, Reading, Slots, Open, targetWithout, readingWithout, callDecided, requestCalled, onItem, asList, concerns, observed}
+use Rattle.machine.specs.SimulationRelation.{aloneSlots, SameSkip, SameBegin, SameSlot, OthersTarget, OthersSkip, OthersBegin, OthersQuery, OthersSlot, Readings, BothInHeader, InOwnRecord, InOthersRecord, CallInactive, CallStays, CallRetires, CallLeaves, StepTogether, together, waits, LeftOpen, alone-found, alone-absent, found-of-others, whenOwn}
 
 module _ (M : Machine) (R : ℕ) where
   open Machine M using (Leftover, clean, Request, Stream, Argument, Answer, onCall)
@@ -37,21 +37,22 @@ module _ (M : Machine) (R : ℕ) where
   others-without T j k true h = OthersSkip
   others-without T j k false h = OthersSlot h
 
-  -- others leave their slot: content for it is skipped
-  readings-others-leave : {T : Slots M} {l : List ℕ} {v : Option Request} {m : Scan} {F F′ : Reading M} (i : ℕ) → OfOthers clean R (slotAt clean T i)
-      → Readings M R T l v m F F′ → Readings M R (set T i (Vacant clean)) l v m (readingWithout M i F) F′
+  -- others leave their slot, or stay in it: content for it is skipped
+  readings-others-leave : {T : Slots M} {l : List ℕ} {v : Option Request} {m : Scan} {F F′ : Reading M} (i : ℕ) (s : SlotState Leftover Request)
+      → OfOthers clean R (slotAt clean T i) → OfOthers clean R s
+      → Readings M R T l v m F F′ → Readings M R (set T i s) l v m (readingWithout M i F) F′
   unfolding readingWithout targetWithout
-  readings-others-leave i f (BothInHeader k e) = BothInHeader k e
-  readings-others-leave i f (InOwnRecord SameSkip) = InOwnRecord SameSkip
-  readings-others-leave i f (InOwnRecord SameBegin) = InOwnRecord SameBegin
-  readings-others-leave {T} i f (InOwnRecord (SameSlot {r = r} {i = j} e)) =
+  readings-others-leave i s f g (BothInHeader k e) = BothInHeader k e
+  readings-others-leave i s f g (InOwnRecord SameSkip) = InOwnRecord SameSkip
+  readings-others-leave i s f g (InOwnRecord SameBegin) = InOwnRecord SameBegin
+  readings-others-leave {T} i s f g (InOwnRecord (SameSlot {r = r} {i = j} e)) =
       let d : i ≡ j → ⊥ = λ x. others-not-own clean R r (slotAt clean T i) (rw x (found-own T j r e)) f in
-      rw (ne-eqb i j d) (InOwnRecord (SameSlot (lookup-set clean R T i (Vacant clean) f refl ∙ e)))
-  readings-others-leave i f (InOthersRecord OthersSkip) = InOthersRecord OthersSkip
-  readings-others-leave i f (InOthersRecord (OthersBegin d)) = InOthersRecord (OthersBegin d)
-  readings-others-leave i f (InOthersRecord OthersQuery) = InOthersRecord OthersQuery
-  readings-others-leave {T} i f (InOthersRecord (OthersSlot {i = j} {k = k} h)) =
-      InOthersRecord (others-without (set T i (Vacant clean)) j k (eqb i j) (others-set clean R T i j (Vacant clean) refl h))
+      rw (ne-eqb i j d) (InOwnRecord (SameSlot (lookup-set clean R T i s f g ∙ e)))
+  readings-others-leave i s f g (InOthersRecord OthersSkip) = InOthersRecord OthersSkip
+  readings-others-leave i s f g (InOthersRecord (OthersBegin d)) = InOthersRecord (OthersBegin d)
+  readings-others-leave i s f g (InOthersRecord OthersQuery) = InOthersRecord OthersQuery
+  readings-others-leave {T} i s f g (InOthersRecord (OthersSlot {i = j} {k = k} h)) =
+      InOthersRecord (others-without (set T i s) j k (eqb i j) (others-set clean R T i j s g h))
 
   -- R is written back into its slot
   readings-own : {T : Slots M} {l : List ℕ} {r : Request} {m : Scan} {F F′ : Reading M} (q : OwnSlot clean R T r) (x : Request)
@@ -66,20 +67,20 @@ module _ (M : Machine) (R : ℕ) where
   readings-own q x (InOthersRecord OthersQuery) = InOthersRecord OthersQuery
   readings-own {T} {r = r} q x (InOthersRecord (OthersSlot {i = j} h)) = InOthersRecord (OthersSlot (others-kept clean R T (q .index) j r (HeldBy R x) (q .is-there) h))
 
-  -- R leaves its slot, in both runs
-  readings-own-leaves : {T : Slots M} {l : List ℕ} {r : Request} {m : Scan} {F F′ : Reading M} (q : OwnSlot clean R T r)
-      → Readings M R T l (some r) m F F′ → Readings M R (set T (q .index) (Vacant clean)) l none m (readingWithout M (q .index) F) (readingWithout M 0 F′)
+  -- R leaves its slot, or stays in it, in both runs: content for it is skipped
+  readings-own-leaves : {T : Slots M} {l : List ℕ} {r : Request} {m : Scan} {F F′ : Reading M} (q : OwnSlot clean R T r) (s : SlotState Leftover Request) (w : Option Request)
+      → Readings M R T l (some r) m F F′ → Readings M R (set T (q .index) s) l w m (readingWithout M (q .index) F) (readingWithout M 0 F′)
   unfolding readingWithout targetWithout
-  readings-own-leaves q (BothInHeader k e) = BothInHeader k e
-  readings-own-leaves q (InOwnRecord SameSkip) = InOwnRecord SameSkip
-  readings-own-leaves q (InOwnRecord (SameSlot {i = i} {k = k} e)) =
+  readings-own-leaves q s w (BothInHeader k e) = BothInHeader k e
+  readings-own-leaves q s w (InOwnRecord SameSkip) = InOwnRecord SameSkip
+  readings-own-leaves q s w (InOwnRecord (SameSlot {i = i} {k = k} e)) =
       let y : q .index ≡ i = cc (q .is-found) in
       rw (eq-eqb (q .index) i y) (InOwnRecord SameSkip)
-  readings-own-leaves q (InOthersRecord OthersSkip) = InOthersRecord OthersSkip
-  readings-own-leaves q (InOthersRecord (OthersBegin d)) = InOthersRecord (OthersBegin d)
-  readings-own-leaves q (InOthersRecord OthersQuery) = InOthersRecord OthersQuery
-  readings-own-leaves {T} {r = r} q (InOthersRecord (OthersSlot {i = j} {k = k} h)) =
-      InOthersRecord (others-without (set T (q .index) (Vacant clean)) j k (eqb (q .index) j) (others-kept clean R T (q .index) j r (Vacant clean) (q .is-there) h))
+  readings-own-leaves q s w (InOthersRecord OthersSkip) = InOthersRecord OthersSkip
+  readings-own-leaves q s w (InOthersRecord (OthersBegin d)) = InOthersRecord (OthersBegin d)
+  readings-own-leaves q s w (InOthersRecord OthersQuery) = InOthersRecord OthersQuery
+  readings-own-leaves {T} {r = r} q s w (InOthersRecord (OthersSlot {i = j} {k = k} h)) =
+      InOthersRecord (others-without (set T (q .index) s) j k (eqb (q .index) j) (others-kept clean R T (q .index) j r s (q .is-there) h))
 
   -- ---- calls
   -- a call that names R
@@ -88,7 +89,8 @@ module _ (M : Machine) (R : ℕ) where
       → StepTogether M R (some r) n l m (callDecided M o (q .index) r R a T F) (callDecided M o 0 r R a (aloneSlots M R n (some r)) F′)
   unfolding callDecided
   own-call-decided n l (Stays x y) a q w f d = together M R (q .rewritten x) (readings-own q x f) refl (CallStays a w)
-  own-call-decided n l (Leaves y) a q w f d = together M R (q .vacated) (readings-own-leaves q f) refl (CallLeaves a w)
+  own-call-decided n l (Retires x y) a q w f d = together M R (q .rewritten x) (readings-own-leaves q (HeldBy R x) (some x) f) refl (CallRetires a w)
+  own-call-decided n l (Leaves y) a q w f d = together M R (q .vacated) (readings-own-leaves q (Vacant clean) none f) refl (CallLeaves a w)
   own-call-decided n l (Closes y) a q w f d = absurd (d refl)
 
   own-call : {T : Slots M} (v : Option Request) {m : Scan} {F F′ : Reading M} (n : ℕ) (l : List ℕ) (a : Argument) → Contains clean R T v → Readings M R T l v m F F′
@@ -106,8 +108,10 @@ module _ (M : Machine) (R : ℕ) where
   unfolding callDecided observed asList concerns
   others-call-decided n l (Stays x y) i r id a s f e g d =
       waits M R (contains-set clean i (HeldBy id x) g e s) (readings-others i (HeldBy id x) g e f) (rw (ne-eqb id R e))
+  others-call-decided n l (Retires x y) i r id a s f e g d =
+      waits M R (contains-set clean i (HeldBy id x) g e s) (readings-others-leave i (HeldBy id x) g e f) (rw (ne-eqb id R e))
   others-call-decided n l (Leaves y) i r id a s f e g d =
-      waits M R (contains-set clean i (Vacant clean) g refl s) (readings-others-leave i g f) (rw (ne-eqb id R e))
+      waits M R (contains-set clean i (Vacant clean) g refl s) (readings-others-leave i (Vacant clean) g refl f) (rw (ne-eqb id R e))
   others-call-decided n l (Closes y) i r id a s f e g d = absurd (d refl)
 
   others-call : {T : Slots M} {v : Option Request} {m : Scan} {F F′ : Reading M} (n : ℕ) (l : List ℕ) (o : Lookup Request) (id : ℕ) (a : Argument)

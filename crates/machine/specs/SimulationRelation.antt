@@ -11,7 +11,7 @@ use borrow.Author.Tests.{eq-eqb, ne-eqb}
 use Rattle.wire.specs.Test.{if_then_else_}
 use Rattle.machine.specs.Slots.{SlotState, Vacant, HeldBy, Absent, FoundAt, lookup, slotAt, OfOthers, Contains, ContainsVacant, ContainsOwn, contains-absent, own-slot, contains-none}
 use Rattle.machine.specs.Timeline.{headerId, Scan, ScanHeader, ScanRest, scanLeft}
-use Rattle.machine.specs.Machine.{Decided, Declined, Accepted, Stays, Leaves, Machine, Target, Skip, ToBegin, ToQuery, ToSlot, Reading, AtHeader, PastHeader, Slots, Connection, Open, Closed, Observation, RequestEvent, CallAnswer, Effect, eventFrom, withLeft, asList, concerns, observed, requestFound, requestIn}
+use Rattle.machine.specs.Machine.{Decided, Declined, Accepted, Stays, Retires, Leaves, Machine, Target, Skip, ToBegin, ToQuery, ToSlot, Reading, AtHeader, PastHeader, Slots, Connection, Open, Closed, Observation, RequestEvent, CallAnswer, Effect, eventFrom, withLeft, asList, concerns, observed, requestFound, requestIn}
 
 module _ (M : Machine) (R : ℕ) where
   open Machine M using (Leftover, clean, Request, Stream, Event, Argument, Answer, onHeader, onByte, onBegin, overloaded, onCall, whenInactive)
@@ -58,6 +58,7 @@ module _ (M : Machine) (R : ℕ) where
     IsAccepted : {f : Leftover → Request} {e : Event} (g : List ℕ) → onBegin R g ≡ Accepted f e → LifeStep none (some (RequestEvent R e)) (some (f clean))
     CallInactive : (a : Argument) → LifeStep none (some (CallAnswer R a (whenInactive a) none none)) none
     CallStays : {r q : Request} {n : Answer} (a : Argument) → onCall a r ≡ Stays q n → LifeStep (some r) (some (CallAnswer R a n (some r) (some q))) (some q)
+    CallRetires : {r q : Request} {n : Answer} (a : Argument) → onCall a r ≡ Retires q n → LifeStep (some r) (some (CallAnswer R a n (some r) (some q))) (some q)
     CallLeaves : {r : Request} {n : Answer} (a : Argument) → onCall a r ≡ Leaves n → LifeStep (some r) (some (CallAnswer R a n (some r) none)) none
 
   -- ---- one item in both runs

@@ -147,7 +147,7 @@ walk-inner : (unready : Bool) (l : List ℕ) → (if unready then Of.noWalk 4 el
 walk-inner true l = refl
 walk-inner false l = refl
 
-writes-number : (n : ℕ) (bytes : List ℕ) (after r : Request) (buffer : List ℕ) → Of.writes n bytes after r buffer .refusal ≡ n
+pub writes-number : (n : ℕ) (bytes : List ℕ) (after r : Request) (buffer : List ℕ) → Of.writes n bytes after r buffer .refusal ≡ n
 unfolding Of.writes
 writes-number n bytes after r buffer = byTest (eqb n 0) (λ t. simp t (sym (eqb-true n 0 t))) (λ t. simp t)
 

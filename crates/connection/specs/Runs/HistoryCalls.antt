@@ -10,7 +10,7 @@ use lib.Dec.{eqb}
 use Rattle.wire.specs.Test.{if_then_else_, byTest}
 use Rattle.machine.specs.Slots.{SlotState, Vacant, HeldBy, slotAt, Lookup, Absent, FoundAt, lookupFurther, lookup, LookupRight, lookup-right, lookup-set, slot-written}
 use Rattle.machine.specs.Timeline.{Call, RequestCall, CountCall, Item, ByteItem, CallItem, Scan, ScanHeader, ScanRest}
-use Rattle.machine.specs.Machine.{CallOutcome, Stays, Leaves, Closes, Target, Skip, ToBegin, ToQuery, ToSlot, Reading, AtHeader, PastHeader, Slots, Connection, Open, Closed, CallAnswer, onItem, fresh, recordByte, readingWithout, callDecided, requestCalled, requestFound, targetWithout}
+use Rattle.machine.specs.Machine.{CallOutcome, Stays, Retires, Leaves, Closes, Target, Skip, ToBegin, ToQuery, ToSlot, Reading, AtHeader, PastHeader, Slots, Connection, Open, Closed, CallAnswer, onItem, fresh, recordByte, readingWithout, callDecided, requestCalled, requestFound, targetWithout}
 use Rattle.connection.specs.declared.request.Due.{Due}
 use Rattle.connection.specs.Sizes.{SLOTS}
 use Rattle.connection.specs.Request.{Held}
@@ -122,6 +122,7 @@ module _ (R : ℕ) where
 
       same : takesAmong R (set T i (HeldBy id q)) ≡ takesAmong R T
       same = byTest (eqb id R) own other
+  tracks-answer (Retires q n) i id h a T F m t d k l p w = absurd k
   tracks-answer (Leaves n) i id h a T F m t d k l p w = byTest (eqb id R) own other
     where
       own : eqb id R ≡ true → Tracks R T m (Open (set T i (Vacant cleanArea)) (readingWithout receiver i F), some (CallAnswer id a n (some h) none))

@@ -12,7 +12,7 @@ use Rattle.wire.specs.Test.{if_then_else_, byTest}
 use Rattle.wire.specs.BufferLaws.{copied-room}
 use Rattle.record.specs.Names.{RESPONDER, AUTHORIZER, FILTER, PARAMS}
 use Rattle.record.specs.Body.{beginBodyOf}
-use Rattle.machine.specs.Machine.{BeginOutcome, Declined, Accepted, CallOutcome, Stays, Leaves, Closes, Skip}
+use Rattle.machine.specs.Machine.{BeginOutcome, Declined, Accepted, CallOutcome, Stays, Retires, Leaves, Closes, Skip}
 use Rattle.connection.specs.declared.request.Due.{Due}
 use Rattle.connection.specs.declared.request.Role.{Role}
 use Rattle.connection.specs.Sizes.{AREA}
@@ -65,6 +65,7 @@ begins id body =
 -- a call keeps the list, or the request is finished
 abbrev pub CallKeeps : Held → CallOutcome Held Answer → Type 0
 CallKeeps h (Stays q n) = (isFinish n ≡ false) × (listOf q ≡ listOf h)
+CallKeeps h (Retires q n) = ⊥
 CallKeeps h (Leaves n) = (isFinish n ≡ true) × (isClose n ≡ false)
 CallKeeps h (Closes n) = (isFinish n ≡ true) × (isClose n ≡ true)
 
@@ -176,6 +177,7 @@ takes-new id body =
 -- calls
 abbrev pub CallTakes : Held → CallOutcome Held Answer → Type 0
 CallTakes h (Stays q n) = takes q ≡ takes h
+CallTakes h (Retires q n) = ⊥
 CallTakes h (Leaves n) = Unit {0}
 CallTakes h (Closes n) = Unit {0}
 

@@ -218,7 +218,7 @@ module _ (R : ℕ) where
 
   -- ---- content
   tracks-seated : (o : Vacancy (List ℕ)) (id : ℕ) (r : List ℕ → Held) (e : Note) (T : Slots receiver) (F : Reading receiver) (m : Scan) → SlotsOk receiver receiver-laws T
-      → VacancyThere receiver receiver-laws T o → ((s : SlotState (List ℕ) Held) → VacancyWritten T s o) → ((k : Bool) → takesTold e k ≡ true) → ((x : List ℕ) → takes (r x) ≡ true)
+      → VacancyThere receiver T o → ((s : SlotState (List ℕ) Held) → VacancyWritten T s o) → ((k : Bool) → takesTold e k ≡ true) → ((x : List ℕ) → takes (r x) ≡ true)
       → ((T′ : Slots receiver) → Placed T′ F m) → EffectOk receiver receiver-laws (requestSeated receiver o id r e T F)
       → Tracks T m (requestSeated receiver o id r e T F)
   unfolding requestSeated
@@ -242,7 +242,7 @@ module _ (R : ℕ) where
       → Tracks T m (beginWhole receiver o id T F)
   unfolding beginWhole
   tracks-begin (Declined e) id T F m t f d w = (byTest (eqb id R) (λ z. rw z (f (takesAmong T))) (λ z. rw z), d T)
-  tracks-begin (Accepted r e) id T F m t f d w = tracks-seated (firstVacancy T) id r e T F m t (vacancy-there receiver receiver-laws T) (vacancy-written T) (f .0) (f .1) d w
+  tracks-begin (Accepted r e) id T F m t f d w = tracks-seated (firstVacancy T) id r e T F m t (vacancy-there receiver T) (vacancy-written T) (f .0) (f .1) d w
 
   pub same-due : (id : ℕ) (h q : Held) (due : Due) → isParamsOf R (HeldBy id h) due ≡ isParamsOf R (HeldBy id q) due
   same-due id h q Due.Skip = refl

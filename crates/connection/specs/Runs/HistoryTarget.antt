@@ -11,7 +11,7 @@ use lib.Dec.{eqb, ltb}
 use Rattle.wire.specs.Test.{if_then_else_, _=?_, byTest}
 use Rattle.machine.specs.Slots.{SlotState, Vacant, HeldBy, slotAt, Lookup, Absent, FoundAt, Vacancy, NoVacancy, VacancyAt, lookup, firstVacancy, OfOthers, LookupRight, lookup-right, lookup-set, slot-written}
 use Rattle.machine.specs.Timeline.{RequestCall, CountCall, Item, ByteItem, CallItem, headerVersion, headerType, headerId, headerContent, headerPadding}
-use Rattle.machine.specs.Machine.{QueryOutcome, Asks, Breaks, BeginOutcome, Declined, Accepted, CallOutcome, Stays, Leaves, Closes, Target, Skip, ToBegin, ToQuery, ToSlot, Reading, AtHeader, PastHeader, Slots, Connection, Open, Closed, Observation, RequestEvent, NoticeEvent, CloseEvent, CountAnswer, CallAnswer, onItem, InactiveOutcome, WrongBegin, NewBegin, PassedOver, ManagementOutcome, QueryTooLong, Notices, Gathers, Effect, eventFrom, withLeft, queryWhole, queryHeader, managementHeader, inactiveHeader, headerDecided, headerFound, headerRouted, headerVersioned, headerByte, requestSeated, beginWhole, streamByte, contentByte, recordByte, readingWithout, callDecided, requestCalled, requestFound, requestIn}
+use Rattle.machine.specs.Machine.{QueryOutcome, Asks, Breaks, BeginOutcome, Declined, Accepted, CallOutcome, Stays, Retires, Leaves, Closes, Target, Skip, ToBegin, ToQuery, ToSlot, Reading, AtHeader, PastHeader, Slots, Connection, Open, Closed, Observation, RequestEvent, NoticeEvent, CloseEvent, CountAnswer, CallAnswer, onItem, InactiveOutcome, WrongBegin, NewBegin, PassedOver, ManagementOutcome, QueryTooLong, Notices, Gathers, Effect, eventFrom, withLeft, queryWhole, queryHeader, managementHeader, inactiveHeader, headerDecided, headerFound, headerRouted, headerVersioned, headerByte, requestSeated, beginWhole, streamByte, contentByte, recordByte, readingWithout, callDecided, requestCalled, requestFound, requestIn}
 use Rattle.connection.specs.declared.request.Due.{Due}
 use Rattle.connection.specs.Event.{Event}
 use Rattle.connection.specs.Request.{Held, listOf, onHeader, grown, showed}
@@ -224,7 +224,7 @@ module _ (R : ℕ) where
           which (inr e) = absurd (a j h (sym e ∙ r))
 
   follows-seated : (o : Vacancy (List ℕ)) (id : ℕ) (r : List ℕ → Held) (e : Note) (T : Slots receiver) (F : Reading receiver) → SlotsOk receiver receiver-laws T
-      → IsAbsent receiver receiver-laws id T → VacancyThere receiver receiver-laws T o → tellsAnew e ≡ true → ((x : List ℕ) → listOf (r x) ≡ [])
+      → IsAbsent receiver receiver-laws id T → VacancyThere receiver T o → tellsAnew e ≡ true → ((x : List ℕ) → listOf (r x) ≡ [])
       → Follows T [] (requestSeated receiver o id r e T F)
   unfolding requestSeated requestIn
   follows-seated NoVacancy id r e T F t a v f l = follows-same T T F (some (RequestEvent id (Note.Told (Event.Refuse 0 1)))) refl (byTest (eqb id R) (λ w. rw w) (λ w. rw w))
@@ -247,7 +247,7 @@ module _ (R : ℕ) where
       → Follows T [] (beginWhole receiver o id T F)
   unfolding beginWhole
   follows-begin (Declined e) id T F t a f = follows-same T T F (some (RequestEvent id e)) refl (byTest (eqb id R) (λ w. rw (w, f)) (λ w. rw w))
-  follows-begin (Accepted r e) id T F t a f = follows-seated (firstVacancy T) id r e T F t a (vacancy-there receiver receiver-laws T) (f .0) (f .1)
+  follows-begin (Accepted r e) id T F t a f = follows-seated (firstVacancy T) id r e T F t a (vacancy-there receiver T) (f .0) (f .1)
 
   -- a byte for a stream of a request
   follows-stream : (due : Due) (i c p b id : ℕ) (h : Held) (T : Slots receiver) → SlotsOk receiver receiver-laws T → slotAt cleanArea T i ≡ HeldBy id h → StreamOk due (suc c) h
@@ -323,6 +323,7 @@ module _ (R : ℕ) where
       other e =
           let m = eqb-false id R e in
           follows-same T (set T i (HeldBy id q)) F (some (CallAnswer id a n (some h) (some q))) (lookup-set cleanArea R T i (HeldBy id q) (other-slot T i id h d m) m) (rw (k .0))
+  follows-answer (Retires q n) i id h a T F t d k w = absurd k
   follows-answer (Leaves n) i id h a T F t d k w = byTest (eqb id R) own other
     where
       own : eqb id R ≡ true → Follows T [] (Open (set T i (Vacant cleanArea)) (readingWithout receiver i F), some (CallAnswer id a n (some h) none))

@@ -95,7 +95,7 @@ unfolding requestOf
 some-found m id i e f = rw (e, f)
 
 -- ---- a target redirected
-redirected-target : (i : ℕ) (target : Aim) (n : ℕ) (body gathered : List ℕ)
+pub redirected-target : (i : ℕ) (target : Aim) (n : ℕ) (body gathered : List ℕ)
     → loadedTarget (C.redirected i target) n body gathered ≡ targetWithout receiver i (loadedTarget target n body gathered)
 unfolding targetWithout
 redirected-target i Aim.Skip n body gathered = refl
@@ -105,7 +105,7 @@ redirected-target i (Aim.Params j) n body gathered = byTest (eqb j i) (λ e. rw 
 redirected-target i (Aim.Stdin j) n body gathered = byTest (eqb j i) (λ e. rw (e, eq-eqb i j (sym (eqb-true j i e)))) (λ e. rw (e, ne-eqb i j (λ q. eqb-false j i e (sym q))))
 redirected-target i (Aim.Data j) n body gathered = byTest (eqb j i) (λ e. rw (e, eq-eqb i j (sym (eqb-true j i e)))) (λ e. rw (e, ne-eqb i j (λ q. eqb-false j i e (sym q))))
 
-redirected-reading : (i c p : ℕ) (header : List ℕ) (s : Target receiver) → readingAt c p header (targetWithout receiver i s) ≡ readingWithout receiver i (readingAt c p header s)
+pub redirected-reading : (i c p : ℕ) (header : List ℕ) (s : Target receiver) → readingAt c p header (targetWithout receiver i s) ≡ readingWithout receiver i (readingAt c p header s)
 unfolding readingWithout targetWithout
 redirected-reading i zero zero header s = refl
 redirected-reading i zero (suc p) header s = refl

@@ -44,7 +44,7 @@ use Rattle.machine.specs.Cause.{Cause, Plain, At}
 
 -- ---- the position that a step leaves
 -- open, with this position; or closed
-abbrev StandsAt : Position → Conn → Type 0
+abbrev pub StandsAt : Position → Conn → Type 0
 StandsAt p c = c .«open» ≡ true → c .frame .position ≡ p
 
 false-true : {A : Type 0} → false ≡ true → A
@@ -128,7 +128,7 @@ unfolding advances
 advanced-used m piece k = k .position
 
 -- A step that leaves the connection open leaves it where its used bytes lead.
-step-position : (m : Memory) (piece : List ℕ) → Steady m → m .state .conn .«open» ≡ true
+pub step-position : (m : Memory) (piece : List ℕ) → Steady m → m .state .conn .«open» ≡ true
     → StandsAt (after (m .state .conn .frame .position) (usedOf m piece)) (stepOf m piece .state .conn)
 unfolding after
 step-position m [] z e =
@@ -162,7 +162,7 @@ call-result m i (ForSay output bytes buffer) o = refl
 call-result m i (ForEnd output buffer) o = refl
 call-result m i (ForFinish status buffer) o = call-finish m i _ _ o
 
-call-position : (m : Memory) (id : ℕ) (a : Argument) → Steady m → m .state .conn .«open» ≡ true
+pub call-position : (m : Memory) (id : ℕ) (a : Argument) → Steady m → m .state .conn .«open» ≡ true
     → StandsAt (m .state .conn .frame .position) (called m id a .memory .state .conn)
 call-position m id a z o = go (find (m .state .conn .table) id) refl
   where
@@ -207,7 +207,7 @@ run-position (CallFor id a ∷ os) m z p e =
     run-position os m′ (k .steady) p e ∙ ap (λ q. after q (bytesUsed m′ os)) (call-position m id a z o o′)
 run-position (CountActive ∷ os) m z p e = run-position os m z p e
 
-start-position : (gathered store : List ℕ) → startOf gathered store .state .conn .frame .position ≡ betweenRecords
+pub start-position : (gathered store : List ℕ) → startOf gathered store .state .conn .frame .position ≡ betweenRecords
 unfolding startOf started
 start-position gathered store = byTest (eqb (length store) STORE) (λ e. simp e) (λ e. simp e)
 

@@ -103,7 +103,7 @@ byte-told Due.Stdin b h = refl
 byte-told Due.Data b h = refl
 
 -- ---- what names R
-names-id : (id : ℕ) (n : Note) → idOf (Heard (noteWithId id n)) ≡ id
+pub names-id : (id : ℕ) (n : Note) → idOf (Heard (noteWithId id n)) ≡ id
 names-id id (Note.Shown j stream b) = refl
 names-id id (Note.Told Event.None) = refl
 names-id id (Note.Told (Event.Open j role keep)) = refl
@@ -124,7 +124,7 @@ unfolding toldAll
 seen-if true R o e os es a h = ap₂ (λ x y. x ++ y) (sym a) h
 seen-if false R o e os es a h = h
 
-query-nobody : (R : ℕ) (list : List ℕ) → 0 < R → eqb (eventId (queryOf list)) R ≡ false
+pub query-nobody : (R : ℕ) (list : List ℕ) → 0 < R → eqb (eventId (queryOf list)) R ≡ false
 unfolding queryOf
 query-nobody R list h = ne-eqb 0 R (λ e. omega arith)
 

@@ -114,7 +114,7 @@ header-list kind n h l ok =
     decided-list n (r .held) (noteOf (r .event) 0) (r .due) (d .list) (d .due)
 
 -- ---- content, a BEGIN body, calls
-grown-state : (h : Held) (x : List ℕ) → grown h x .request .state ≡ h .request .state
+pub grown-state : (h : Held) (x : List ℕ) → grown h x .request .state ≡ h .request .state
 unfolding grown
 grown-state h x = byTest (leb (h .request .length + length x) AREA) (λ e. simp e) (λ e. simp e)
 

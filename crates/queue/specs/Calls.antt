@@ -1,0 +1,324 @@
+-- The calls with a queue, on the whole state: queued say, end and finish; straight ones while something waits; the
+-- pump.
+-- Definitions only. What waits stands beside the connection's value, so that nothing below it changes.
+use Prim.Native.Nat.{ℕ, zero, suc, _+_, _*_, _/_}
+use mathlib.Core.Bool.{Bool, true, false, not}
+use mathlib.Core.List.{List, [], _∷_, _++_, flatten}
+use mathlib.Core.Option.{Option, none, some}
+use lib.ListN.{length, take, drop, getD, set, replicate}
+use Rattle.wire.specs.Test.{if_then_else_, _<?_, _≤?_, _=?_}
+use Rattle.wire.specs.Buffer.{putAt, zeros}
+use Rattle.slot_word.specs.Word.{taken}
+use Rattle.record.specs.Names.{END-REQUEST, REQUEST-COMPLETE}
+use Rattle.record.specs.Body.{endBodyBytes}
+use Rattle.record_writer.specs.Written.{recordBytes}
+use Rattle.machine_queue.specs.Pump.{slotAfter, nextWaiting}
+use Rattle.connection.specs.declared.request.Request.{Request}
+use Rattle.connection.specs.declared.state.Conn.{Conn}
+use Rattle.connection.specs.declared.answer.Output.{Output}
+use Rattle.connection.specs.Sizes.{SLOTS, STORE}
+use Rattle.connection.specs.Codes.{outputType}
+use Rattle.connection.specs.Refusal.{refusalOrder, Row, _when_, firstIn}
+use Rattle.connection.specs.RequestCalls as Of
+use Rattle.connection.specs.Slots.{requestAt, areaAt, putArea, find, isFound}
+use Rattle.connection.specs.Shape.{inShape, _and_}
+use Rattle.connection.specs.Step.{Stepped, stepped, stays, closedConn}
+use Rattle.connection.specs.Calls as C
+use Rattle.connection.specs.Run.{Memory}
+use Rattle.queue_slot.specs.Finishing.{spentBy}
+use Rattle.queue_slot.specs.Wait.{ROOM, Ends, NoEnds, Wait, nothingIn, anything, hasRoomFor, waitData, waitEnd, waitFinish, Served, ServesNothing, ServesEnd, ServesData, ServesLast, served}
+
+-- ---- the state
+-- By value, slot by slot: how many data bytes wait, the ends before them, whether END waits and its application status;
+-- and the slot that the pump looks at first.
+pub record Waits : Type 0 where
+  pub counts : List ℕ
+  pub fronts : List Ends
+  pub lasts : List Bool
+  pub statuses : List ℕ
+  pub next : ℕ
+
+-- the queue: ROOM bytes to a slot
+abbrev pub QUEUE : ℕ
+QUEUE = SLOTS * ROOM
+
+-- nothing waits anywhere, and the pump begins with slot 0
+abbrev pub nobodyWaits : Waits
+nobodyWaits = record { counts = replicate SLOTS 0; fronts = replicate SLOTS NoEnds; lasts = replicate SLOTS false; statuses = replicate SLOTS 0; next = 0 }
+
+-- State and store as before; what waits by value; the marks, which are lent beside the state as the gathered bytes are;
+-- the queue.
+pub record QueueMemory : Type 0 where
+  pub memory : Memory
+  pub waits : Waits
+  pub marks : List ℕ
+  pub queue : List ℕ
+
+-- the connection's value
+abbrev pub connOf : QueueMemory → Conn
+connOf m = m .memory .state .conn
+
+-- slot i's part of the queue, or of the marks
+abbrev pub roomAt : List ℕ → ℕ → List ℕ
+roomAt l i = take ROOM (drop (i * ROOM) l)
+
+-- the same with another part there
+abbrev pub putRoom : List ℕ → ℕ → List ℕ → List ℕ
+putRoom l i x = take (i * ROOM) l ++ (x ++ drop (i * ROOM + ROOM) l)
+
+-- what waits in slot i
+unfoldable pub waitAt : QueueMemory → ℕ → Wait
+waitAt m i =
+    record {
+      count = getD (m .waits .counts) i 0;
+      front = getD (m .waits .fronts) i NoEnds;
+      last = getD (m .waits .lasts) i false;
+      status = getD (m .waits .statuses) i 0;
+      bytes = roomAt (m .queue) i;
+      marks = roomAt (m .marks) i;
+    }
+
+-- the numbers of slot i as those of a slot, and the slot that the pump looks at first
+abbrev pub numbersAt : Waits → ℕ → Wait → ℕ → Waits
+numbersAt a i w next =
+    record { counts = set (a .counts) i (w .count); fronts = set (a .fronts) i (w .front); lasts = set (a .lasts) i (w .last); statuses = set (a .statuses) i (w .status); next = next }
+
+-- what waits in slot i is now this
+unfoldable pub putWait : QueueMemory → ℕ → Wait → QueueMemory
+putWait m i w = record { memory = m .memory; waits = numbersAt (m .waits) i w (m .waits .next); marks = putRoom (m .marks) i (w .marks); queue = putRoom (m .queue) i (w .bytes) }
+
+-- with another value of the connection
+abbrev pub withConn : QueueMemory → Conn → QueueMemory
+withConn m c = record { memory = record { state = record { conn = c; gathered = m .memory .state .gathered }; store = m .memory .store }; waits = m .waits; marks = m .marks; queue = m .queue }
+
+-- ---- shape: over ROOM waiting in an area, anything in a free slot
+unfoldable pub waitFits : QueueMemory → ℕ → Bool
+waitFits m i = (getD (m .waits .counts) i 0 ≤? ROOM) and (if taken i (connOf m .table .occupied) then true else not (anything (waitAt m i)))
+
+-- n slots from i on
+unfoldable pub waitsFit : ℕ → QueueMemory → ℕ → Bool
+waitsFit zero m i = true
+waitsFit (suc n) m i = waitFits m i and waitsFit n m (i + 1)
+
+-- row 9 is that this does not hold
+unfoldable pub queueInShape : QueueMemory → Bool
+queueInShape m = inShape (connOf m) and waitsFit SLOTS m 0
+
+-- the order of refusals, 10 last
+abbrev pub firstRefusal : List Row → ℕ
+firstRefusal rows = firstIn (refusalOrder ++ 10 ∷ []) rows
+
+-- rows 9, 1 and 3
+abbrev pub rowsOf : QueueMemory → ℕ → List Row → List Row
+rowsOf m id rows = (9 when not (queueInShape m)) ∷ (1 when not (connOf m .«open»)) ∷ (3 when not (isFound (find (connOf m .table) id))) ∷ rows
+
+-- the slot of an id that is active
+abbrev pub slotOf : QueueMemory → ℕ → ℕ
+slotOf m id = C.slotOf (connOf m) id
+
+-- its request
+abbrev pub requestOf : QueueMemory → ℕ → Request
+requestOf m id = requestAt (connOf m .table) (slotOf m id)
+
+-- the request is between its finish and its END
+abbrev pub isLeaving : QueueMemory → ℕ → Bool
+isLeaving m id = getD (m .waits .lasts) (slotOf m id) false
+
+-- one of two conditions
+abbrev pub or : Bool → Bool → Bool
+or a b = if a then true else b
+
+-- rows 4 and 5 of what writes on a stream; a request between finish and END is spent, so 4 is not for it
+abbrev pub streamRows : QueueMemory → ℕ → Output → List Row → List Row
+streamRows m id o rows =
+    (4 when (if isLeaving m id then false else Of.noOutput (requestOf m id))) ∷ (5 when or (isLeaving m id) (Of.isEnded o (requestOf m id .state))) ∷ rows
+
+-- ---- a step
+unfoldable pub queueStepRefusal : QueueMemory → ℕ
+queueStepRefusal m = firstRefusal ((2 when not (length (m .memory .store) =? STORE)) ∷ (9 when not (queueInShape m)) ∷ (1 when not (connOf m .«open»)) ∷ [])
+
+-- A step is as it is without a queue; only row 9 is wider. What waits it does not see.
+unfoldable pub queueStep : QueueMemory → List ℕ → Stepped
+queueStep m piece =
+    if queueStepRefusal m =? 0 then stepped (m .memory .state) (m .memory .store) piece else stays (queueStepRefusal m) (m .memory .state) (m .memory .store)
+
+-- ---- queued calls: the refusal, 0 for none, and what is left
+pub record Queueing : Type 0 where
+  pub refusal : ℕ
+  pub left : QueueMemory
+
+-- the request of slot i and what waits there, put back
+abbrev pub putBoth : QueueMemory → ℕ → Request → Wait → QueueMemory
+putBoth m i r w = putWait (withConn m (C.putsRequest (connOf m) i r)) i w
+
+-- rows of a queued say: the queue has its size; 10, last, where the data has no room
+unfoldable pub sayRefusal : QueueMemory → ℕ → Output → List ℕ → ℕ
+sayRefusal m id o content =
+    firstRefusal ((2 when not (length (m .queue) =? QUEUE)) ∷ rowsOf m id (streamRows m id o ((10 when not (hasRoomFor (waitAt m (slotOf m id)) content)) ∷ [])))
+
+-- Data comes to wait, and the request is as if it had been said.
+unfoldable pub queueSay : QueueMemory → ℕ → Output → List ℕ → Queueing
+queueSay m id o content =
+    if sayRefusal m id o content =? 0 then record { refusal = 0; left = putBoth m (slotOf m id) (Of.saidOn (requestOf m id) o content) (waitData (waitAt m (slotOf m id)) o content) }
+    else record { refusal = sayRefusal m id o content; left = m }
+
+-- The end of a stream comes to wait; the stream is ended at once.
+unfoldable pub queueEnd : QueueMemory → ℕ → Output → Queueing
+queueEnd m id o =
+    if firstRefusal (rowsOf m id (streamRows m id o [])) =? 0 then record { refusal = 0; left = putBoth m (slotOf m id) (Of.endedOn (requestOf m id) o) (waitEnd (waitAt m (slotOf m id)) o) }
+    else record { refusal = firstRefusal (rowsOf m id (streamRows m id o [])); left = m }
+
+-- the rest of a half-read record of the slot is skipped
+abbrev pub skipping : Conn → ℕ → Conn
+skipping c i =
+    record {
+      table = c .table;
+      frame = record { position = c .frame .position; target = C.redirected i (c .frame .target); gathered = c .frame .gathered; body = c .frame .body };
+      «open» = c .«open»;
+    }
+
+-- The ends that are owed and END come to wait. The request is spent, and the rest of its half-read record is skipped.
+unfoldable pub queueFinish : QueueMemory → ℕ → ℕ → Queueing
+queueFinish m id status =
+    if firstRefusal (rowsOf m id ((5 when isLeaving m id) ∷ [])) =? 0 then record {
+      refusal = 0;
+      left = putBoth (withConn m (skipping (connOf m) (slotOf m id))) (slotOf m id) (spentBy (requestOf m id)) (waitFinish (waitAt m (slotOf m id)) (requestOf m id .state) status);
+    }
+    else record { refusal = firstRefusal (rowsOf m id ((5 when isLeaving m id) ∷ [])); left = m }
+
+-- ---- calls that read: as before, with what waits in shape
+unfoldable pub lentRefusal : QueueMemory → ℕ → ℕ
+lentRefusal m id = firstRefusal ((2 when not (length (m .memory .store) =? STORE)) ∷ rowsOf m id [])
+
+-- the value of a name, or the fallback
+unfoldable pub queueValue : QueueMemory → ℕ → List ℕ → List ℕ → List ℕ
+queueValue m id name fallback = if lentRefusal m id =? 0 then C.value (connOf m) (m .memory .store) id name fallback else fallback
+
+-- where it comes from
+unfoldable pub queueSource : QueueMemory → ℕ → List ℕ → Of.Source
+queueSource m id name = if lentRefusal m id =? 0 then C.source (connOf m) (m .memory .store) id name else Of.SourceRefused (lentRefusal m id)
+
+-- the pair of a number
+unfoldable pub queuePair : QueueMemory → ℕ → ℕ → Of.Numbered
+queuePair m id k = if lentRefusal m id =? 0 then C.pairAtNumber (connOf m) (m .memory .store) id k else Of.PairRefused (lentRefusal m id)
+
+-- the walk over all pairs
+unfoldable pub queueWalk : QueueMemory → ℕ → Of.Walk
+queueWalk m id = if lentRefusal m id =? 0 then C.walk (connOf m) (m .memory .store) id else Of.noWalk (lentRefusal m id)
+
+-- ---- straight calls: as before, but 5 between finish and END, and 10, last, while anything of the request waits
+unfoldable pub straightSay : QueueMemory → ℕ → Output → List ℕ → List ℕ → C.Written
+straightSay m id o content buffer =
+    let n = firstRefusal (rowsOf m id (streamRows m id o ((6 when (length buffer <? length (Of.sayBytes (requestOf m id) o content))) ∷ (10 when anything (waitAt m (slotOf m id))) ∷ []))) in
+    if n =? 0 then C.say (connOf m) id o content buffer else C.unwritten n (connOf m) buffer
+
+-- the end of a stream, straight out
+unfoldable pub straightEnd : QueueMemory → ℕ → Output → List ℕ → C.Written
+straightEnd m id o buffer =
+    let n = firstRefusal (rowsOf m id (streamRows m id o ((6 when (length buffer <? length (Of.endBytes (requestOf m id) o))) ∷ (10 when anything (waitAt m (slotOf m id))) ∷ []))) in
+    if n =? 0 then C.endStream (connOf m) id o buffer else C.unwritten n (connOf m) buffer
+
+-- finish, straight out
+unfoldable pub straightFinish : QueueMemory → ℕ → ℕ → List ℕ → C.Finished
+straightFinish m id status buffer =
+    let n = firstRefusal ((2 when not (length (m .memory .store) =? STORE)) ∷ rowsOf m id ((5 when isLeaving m id) ∷ (6 when (length buffer <? length (Of.finishBytes (requestOf m id) status))) ∷ (10 when anything (waitAt m (slotOf m id))) ∷ [])) in
+    if n =? 0 then C.finish (connOf m) (m .memory .store) id status buffer else C.unfinished n (connOf m) (m .memory .store) buffer
+
+-- ---- the pump
+-- One record: the bytes, and what is left.
+pub record PumpedRecord : Type 0 where
+  pub bytes : List ℕ
+  pub left : QueueMemory
+
+-- slot i was served: the next turn begins with the slot after it
+abbrev pub servedLast : QueueMemory → ℕ → QueueMemory
+servedLast m i = record { memory = m .memory; waits = numbersAt (m .waits) i (waitAt m i) (slotAfter SLOTS i); marks = m .marks; queue = m .queue }
+
+-- END is written: slot, area and id are given back; without KEEP_CONN the connection closes
+abbrev pub releasedSlot : QueueMemory → ℕ → Bool → QueueMemory
+releasedSlot m i true =
+    let c = m .memory in
+    record {
+      memory = record { state = record { conn = C.released (c .state .conn) i; gathered = c .state .gathered }; store = putArea (c .store) i (zeros (length (areaAt (c .store) i))) };
+      waits = numbersAt (m .waits) i (nothingIn [] []) (m .waits .next);
+      marks = m .marks;
+      queue = m .queue;
+    }
+releasedSlot m i false =
+    record { memory = record { state = record { conn = closedConn; gathered = m .memory .state .gathered }; store = zeros (length (m .memory .store)) }; waits = nobodyWaits; marks = m .marks; queue = m .queue }
+
+-- what is next in slot i, as a record; with END the slot is given back
+unfoldable pub writeServed : QueueMemory → ℕ → Request → Served → PumpedRecord
+writeServed m i r ServesNothing = record { bytes = []; left = m }
+writeServed m i r (ServesEnd o w) = record { bytes = recordBytes (outputType o) (r .id) []; left = putWait m i w }
+writeServed m i r (ServesData o content w) = record { bytes = recordBytes (outputType o) (r .id) content; left = putWait m i w }
+writeServed m i r (ServesLast status) = record { bytes = recordBytes END-REQUEST (r .id) (endBodyBytes status REQUEST-COMPLETE); left = releasedSlot m i (r .state .keep) }
+
+-- one record of slot i
+unfoldable pub pumpSlot : QueueMemory → ℕ → PumpedRecord
+pumpSlot m i = writeServed (servedLast m i) i (requestAt (connOf m .table) i) (served (waitAt m i))
+
+-- A turn: the records, in order, and what is left.
+pub record Turned : Type 0 where
+  pub records : List (List ℕ)
+  pub left : QueueMemory
+
+-- by the slot that is served, if any
+abbrev pub onSome : Option ℕ → (ℕ → Turned) → Turned → Turned
+onSome none f other = other
+onSome (some i) f other = f i
+
+-- something waits in slot i
+abbrev pub slotWaits : QueueMemory → ℕ → Bool
+slotWaits m i = anything (waitAt m i)
+
+-- the slot to begin with; every number names one
+abbrev pub firstSlot : ℕ → ℕ
+firstSlot n = if n <? SLOTS then n else 0
+
+-- At most so many records, each of the first slot that waits, going round from the one after the last served.
+unfoldable pub turned : ℕ → QueueMemory → Turned
+turned zero m = record { records = []; left = m }
+turned (suc k) m =
+    onSome (nextWaiting SLOTS SLOTS (slotWaits m) (firstSlot (m .waits .next)))
+    (λ i. let p = pumpSlot m i in let t = turned k (p .left) in record { records = p .bytes ∷ t .records; left = t .left })
+    (record { records = []; left = m })
+
+-- What the pump answers: the refusal, 0 for none; how many records and how many bytes it wrote; whether the connection
+-- closed.
+pub record Pumped : Type 0 where
+  pub refusal : ℕ
+  pub records : ℕ
+  pub written : ℕ
+  pub closed : Bool
+  pub left : QueueMemory
+  pub buffer : List ℕ
+
+-- Row 6: the buffer has not 520 bytes for each record that is allowed. (Tested as a quotient: no product that could
+-- overflow.)
+unfoldable pub pumpRefusal : QueueMemory → ℕ → List ℕ → ℕ
+pumpRefusal m allowance buffer =
+    firstRefusal
+    ((2 when or (not (length (m .memory .store) =? STORE)) (not (length (m .queue) =? QUEUE)))
+    ∷ (9 when not (queueInShape m))
+    ∷ (1 when not (connOf m .«open»))
+    ∷ (6 when (length buffer / 520 <? allowance))
+    ∷ [])
+
+-- the records of a turn one after another in the buffer; what is past them stays
+abbrev pub pumpedWith : Turned → List ℕ → Pumped
+pumpedWith t buffer =
+    record {
+      refusal = 0;
+      records = length (t .records);
+      written = length (flatten (t .records));
+      closed = not (connOf (t .left) .«open»);
+      left = t .left;
+      buffer = putAt buffer 0 (flatten (t .records));
+    }
+
+-- The pump: refused, or a turn.
+unfoldable pub pump : QueueMemory → ℕ → List ℕ → Pumped
+pump m allowance buffer =
+    if pumpRefusal m allowance buffer =? 0 then pumpedWith (turned allowance m) buffer
+    else record { refusal = pumpRefusal m allowance buffer; records = 0; written = 0; closed = false; left = m; buffer = buffer }

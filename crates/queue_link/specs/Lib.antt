@@ -1,0 +1,17 @@
+pub mod Loaded
+pub mod LoadedCalls
+pub mod LoadedPump
+pub mod LoadedTurn
+pub mod LinkedStraight
+pub mod LinkedWriters
+pub mod LinkedQueued
+pub mod LinkedFinish
+pub mod Observing
+pub mod LinkedRuns
+pub mod LinkedShown
+pub mod LinkedWritten
+pub mod LinkedWrites
+pub mod LinkedTimeline
+pub mod LinkedPremises
+pub mod LinkedQuiet
+pub mod LinkedPosition

@@ -1,0 +1,1 @@
+// Theorems only: runs with a queue are runs of the machine with a queue.

@@ -1,0 +1,1 @@
+// Definitions and laws only: what waits in one slot of the queue.

@@ -1,0 +1,3 @@
+pub mod Theorem
+pub mod NothingLost
+pub mod Fair

@@ -1,0 +1,1 @@
+// Theorems only: what is promised of runs with a queue, proved.
