@@ -1,4 +1,4 @@
--- Cutting does not matter to a reader of records, whatever its rules; and a whole record comes to what it means.
+-- Cutting does not matter to a reader of records, whatever its rules.
 use Prim.Native.Nat.{ℕ, zero, suc, _+_, _-_, _≤_, _<_, min}
 use mathlib.Core.Path.{_≡_, refl, sym, ap, ap₂, _∙_, subst}
 use mathlib.Core.Bool.{true, false}
@@ -7,76 +7,19 @@ use native.Mathlib.Omega.{arith}
 use lib.ListN.{length, take, drop, length-drop, take-append-drop}
 use lib.Seq.{take-all, length-take-le}
 use lib.Dec.{ltb, eqb}
-use borrow.Author.Tests.{lt-ltb, le-ltb, lt-leb, ltb-true, ltb-false, ne-eqb}
+use borrow.Author.Tests.{le-ltb, lt-leb, ltb-true, ltb-false, ne-eqb}
 use Rattle.wire.specs.Test.{byTest}
 use Rattle.wire.specs.Buffer.{putAt}
 use Rattle.wire.specs.BufferLaws.{put-put, put-length}
 use Rattle.record.specs.Header.{headerOf}
 use Rattle.record.specs.declared.header.Header.{Header}
-use Rattle.record_reader.specs.Position.{noHeader, betweenRecords, afterHeader, inHeader, advanced, Proper}
+use Rattle.record_reader.specs.Position.{afterHeader, inHeader, advanced, Proper}
 use Rattle.record_reader.specs.PositionLaws.{at, uses-some}
 use Rattle.record_reader.specs.declared.Position.{Position}
 use Rattle.record_reader.specs.declared.Phase.{Phase}
 use Rattle.record_reader.specs.declared.Advanced.{Advanced}
-use Rattle.record_rules.specs.Rules.{Left, Rules, Reader, readerAt, Run, resting, andThen, standing, onPhase, used, step, byByte, fed, fedPieces, leftOf, contentMeans, recordMeans, joined, Lawful}
-
--- ---- the position, phase by phase (PositionLaws has them as its own)
--- within content, with so much left behind the bytes
-in-content : (p : Position) (x : List ℕ) (n : ℕ) → 0 < length x → p .content ≡ length x + n
-    → advanced p x ≡ record { used = length x; phase = Phase.Content; position = at n (p .padding) (p .held) (p .header) }
-unfolding advanced
-in-content p x n some e =
-    let m : min (p .content) (length x) ≡ length x = omega arith in
-    let d : p .content - length x ≡ n = omega arith in
-    simp (lt-ltb 0 (p .content) (omega arith), m, d)
-
-in-padding : (p : Position) (x : List ℕ) (n : ℕ) → 0 < length x → p .content ≡ 0 → p .padding ≡ length x + n
-    → advanced p x ≡ record { used = length x; phase = Phase.Padding; position = at 0 n (p .held) (p .header) }
-unfolding advanced
-in-padding p x n some z e =
-    let m : min (p .padding) (length x) ≡ length x = omega arith in
-    let d : p .padding - length x ≡ n = omega arith in
-    simp (le-ltb 0 (p .content) (omega arith), lt-ltb 0 (p .padding) (omega arith), m, d)
-
-in-part : (p : Position) (x : List ℕ) → p .content ≡ 0 → p .padding ≡ 0 → p .held + length x < 8
-    → advanced p x ≡ record { used = length x; phase = Phase.Part; position = at 0 0 (p .held + length x) (putAt (p .header) (p .held) x) }
-unfolding advanced inHeader
-in-part p x z y l =
-    let m : min (8 - p .held) (length x) ≡ length x = omega arith in
-    simp (le-ltb 0 (p .content) (omega arith), le-ltb 0 (p .padding) (omega arith), lt-leb 8 (p .held) (omega arith), m, lt-ltb (p .held + length x) 8 l, take-all (length x) x (omega arith))
-
-in-whole : (p : Position) (x : List ℕ) → 0 < length x → p .content ≡ 0 → p .padding ≡ 0 → p .held + length x ≡ 8
-    → advanced p x
-    ≡ record { used = length x; phase = Phase.Whole (headerOf (putAt (p .header) (p .held) x)); position = afterHeader (headerOf (putAt (p .header) (p .held) x)) }
-unfolding advanced inHeader
-in-whole p x some z y e =
-    let m : min (8 - p .held) (length x) ≡ length x = omega arith in
-    simp (le-ltb 0 (p .content) (omega arith), le-ltb 0 (p .padding) (omega arith), lt-leb 8 (p .held) (omega arith), m, le-ltb (p .held + length x) 8 (omega arith), take-all (length x) x (omega arith))
-
--- the position rests on the bytes that it uses alone
-advanced-only : (p : Position) (x : List ℕ) → Proper p → 0 < length x → advanced p (take (advanced p x .used) x) ≡ advanced p x
-unfolding advanced inHeader
-advanced-only p x proper some =
-    byTest (ltb 0 (p .content))
-    (λ t.
-    let m = min (p .content) (length x) in
-    let l : length (take m x) ≡ m = length-take-le m x (omega arith) in
-    let k : min (p .content) (length (take m x)) ≡ m = omega arith in
-    simp (t, k))
-    (λ t.
-    byTest (ltb 0 (p .padding))
-    (λ v.
-    let m = min (p .padding) (length x) in
-    let l : length (take m x) ≡ m = length-take-le m x (omega arith) in
-    let k : min (p .padding) (length (take m x)) ≡ m = omega arith in
-    simp (t, v, k))
-    (λ v.
-    let few = lt-leb 8 (p .held) (proper .held) in
-    let m = min (8 - p .held) (length x) in
-    let l : length (take m x) ≡ m = length-take-le m x (omega arith) in
-    let k : min (8 - p .held) (length (take m x)) ≡ m = omega arith in
-    let w : take m (take m x) ≡ take m x = take-all m (take m x) (omega arith) in
-    byTest (ltb (p .held + m) 8) (λ y. simp (t, v, few, y, k, w)) (λ y. simp (t, v, few, y, k, w))))
+use Rattle.record_rules.specs.Rules.{Left, Rules, Reader, readerAt, Run, resting, andThen, standing, onPhase, used, step, byByte, fed, fedPieces, leftOf, joined, Lawful}
+use Rattle.record_rules.specs.PositionWhole.{in-content, in-padding, in-part, in-whole, advanced-only}
 
 module _ (R : Rules) (L : Lawful R) where
   open Rules R using (State, Note, is-open, judged, taken)
@@ -97,7 +40,7 @@ module _ (R : Rules) (L : Lawful R) where
       )
 
   -- a step uses the piece whole, and leads there
-  abbrev Steps : Reader R → List ℕ → Run R → Type 0
+  abbrev pub Steps : Reader R → List ℕ → Run R → Type 0
   Steps a x r = (step R a x ≡ r) × (used R a x ≡ length x)
 
   -- the header that is whole with these bytes
@@ -105,17 +48,17 @@ module _ (R : Rules) (L : Lawful R) where
   wholeOf p x = headerOf (putAt (p .header) (p .held) x)
 
   module _ (p : Position) (s : State) (x : List ℕ) (o : is-open s ≡ true) (some : 0 < length x) where
-    step-content : (n : ℕ) → p .content ≡ length x + n → Steps (readerAt R p s) x (standing R (at n (p .padding) (p .held) (p .header)) (taken s x n))
+    pub step-content : (n : ℕ) → p .content ≡ length x + n → Steps (readerAt R p s) x (standing R (at n (p .padding) (p .held) (p .header)) (taken s x n))
     step-content n e = step-by p s x _ Phase.Content o some (in-content p x n some e)
 
-    step-padding : (n : ℕ) → p .content ≡ 0 → p .padding ≡ length x + n → Steps (readerAt R p s) x (resting R (readerAt R (at 0 n (p .held) (p .header)) s))
+    pub step-padding : (n : ℕ) → p .content ≡ 0 → p .padding ≡ length x + n → Steps (readerAt R p s) x (resting R (readerAt R (at 0 n (p .held) (p .header)) s))
     step-padding n z e = step-by p s x _ Phase.Padding o some (in-padding p x n some z e)
 
     step-part : p .content ≡ 0 → p .padding ≡ 0 → p .held + length x < 8
         → Steps (readerAt R p s) x (resting R (readerAt R (at 0 0 (p .held + length x) (putAt (p .header) (p .held) x)) s))
     step-part z y l = step-by p s x _ Phase.Part o some (in-part p x z y l)
 
-    step-whole : p .content ≡ 0 → p .padding ≡ 0 → p .held + length x ≡ 8 → Steps (readerAt R p s) x (standing R (afterHeader (wholeOf p x)) (judged s (wholeOf p x)))
+    pub step-whole : p .content ≡ 0 → p .padding ≡ 0 → p .held + length x ≡ 8 → Steps (readerAt R p s) x (standing R (afterHeader (wholeOf p x)) (judged s (wholeOf p x)))
     step-whole z y e = step-by p s x _ (Phase.Whole (wholeOf p x)) o some (in-whole p x some z y e)
 
   -- ---- what a reader keeps
@@ -277,7 +220,7 @@ module _ (R : Rules) (L : Lawful R) where
   fit-bytes (b ∷ x) a fit = fit-bytes x (step R a (b ∷ []) .reader) (fit-byte a b fit)
 
   -- a step that uses its piece whole is its bytes one by one
-  step-all : (x : List ℕ) (a : Reader R) → Fit a → is-open (a .inner) ≡ true → used R a x ≡ length x → step R a x ≡ byByte R a x
+  pub step-all : (x : List ℕ) (a : Reader R) → Fit a → is-open (a .inner) ≡ true → used R a x ≡ length x → step R a x ≡ byByte R a x
   unfolding byByte
   step-all [] a fit o all = step-none a .0
   step-all (b ∷ []) a fit o all = ap (λ (l : List Note). record { reader = step R a (b ∷ []) .reader; notes = l }) (sym (append-nil (step R a (b ∷ []) .notes)))
@@ -406,93 +349,6 @@ module _ (R : Rules) (L : Lawful R) where
   -- So two ways to cut the same bytes come to the same.
   pub any-cutting : (pieces others : List (List ℕ)) (a : Reader R) → Fit a → joined pieces ≡ joined others → fedPieces R a pieces ≡ fedPieces R a others
   any-cutting pieces others a fit e = pieces-by-byte pieces a fit ∙ ap (byByte R a) e ∙ sym (pieces-by-byte others a fit)
-
-  -- ---- whole records
-  -- a reader between two records
-  abbrev pub between : State → Reader R
-  between s = readerAt R betweenRecords s
-
-  pub between-fit : (s : State) → Ready s 0 → Fit (between s)
-  between-fit s ready = record { proper = record { held = omega arith; eight = refl }; ready = ready }
-
-  -- bytes that a step uses whole
-  by-steps : (p : Position) (s : State) (x : List ℕ) (r : Run R) → Fit (readerAt R p s) → is-open s ≡ true → Steps (readerAt R p s) x r → byByte R (readerAt R p s) x ≡ r
-  by-steps p s x r fit o k = sym (step-all x (readerAt R p s) fit o (k .1)) ∙ k .0
-
-  -- a header
-  header-read : (s : State) (h : List ℕ) → Ready s 0 → is-open s ≡ true → length h ≡ 8
-      → byByte R (between s) h ≡ standing R (afterHeader (headerOf h)) (judged s (headerOf h))
-  header-read s h ready o eight =
-      let whole : putAt noHeader 0 h ≡ h = ap (λ (n : ℕ). h ++ drop (0 + n) noHeader) eight ∙ append-nil h in
-      by-steps betweenRecords s h _ (between-fit s ready) o (step-whole betweenRecords s h o (omega arith) refl refl (omega arith))
-      ∙ ap (λ (u : List ℕ). standing R (afterHeader (headerOf u)) (judged s (headerOf u))) whole
-
-  -- padding
-  padding-read : (s : State) (y : List ℕ) (n : ℕ) → Ready s 0 → is-open s ≡ true → length y ≡ n → byByte R (readerAt R (at 0 n 0 noHeader) s) y ≡ resting R (between s)
-  padding-read s [] n ready o e = let z : n ≡ 0 = omega arith in rw z (by-byte-none (between s))
-  padding-read s (b ∷ y) n ready o e =
-      by-steps (at 0 n 0 noHeader) s (b ∷ y) _ (record { proper = record { held = omega arith; eight = refl }; ready = ready }) o
-      (step-padding (at 0 n 0 noHeader) s (b ∷ y) o (omega arith) 0 refl (omega arith))
-
-  -- what a rule left, with nothing but padding to come, and then the padding
-  then-padding : (l : Left State Note) (y : List ℕ) (n : ℕ) → Ready (l .state) 0 → length y ≡ n
-      → andThen R (standing R (at 0 n 0 noHeader) l) (λ c. byByte R c y) ≡ record { reader = between (l .state); notes = l .notes }
-  then-padding l y n ready e =
-      byTest (is-open (l .state))
-      (λ o.
-      rw o
-      (ap (λ (w : Run R). record { reader = w .reader; notes = l .notes ++ w .notes }) (padding-read (l .state) y n ready o e)
-      ∙ ap (λ (u : List Note). record { reader = between (l .state); notes = u }) (append-nil (l .notes))))
-      (λ o.
-      rw o
-      (ap (λ (w : Run R). record { reader = w .reader; notes = l .notes ++ w .notes }) (by-byte-shut y (between (l .state)) o)
-      ∙ ap (λ (u : List Note). record { reader = between (l .state); notes = u }) (append-nil (l .notes))))
-
-  -- content and padding
-  content-read : (s : State) (c p : ℕ) (x y : List ℕ) → Ready s c → is-open s ≡ true → length x ≡ c → length y ≡ p
-      → byByte R (readerAt R (at c p 0 noHeader) s) (x ++ y) ≡ record { reader = between (contentMeans R x s .state); notes = contentMeans R x s .notes }
-  content-read s c p [] y ready o hc hp =
-      let z : c ≡ 0 = omega arith in
-      simp (o, z) (padding-read s y p (subst (Ready s) z ready) o hp)
-  content-read s c p (b ∷ x) y ready o hc hp =
-      let fit : Fit (readerAt R (at c p 0 noHeader) s) = record { proper = record { held = omega arith; eight = refl }; ready = ready } in
-      let k = step-content (at c p 0 noHeader) s (b ∷ x) o (omega arith) 0 (omega arith) in
-      let e : c ≡ length (b ∷ x) + 0 = omega arith in
-      let ne : eqb (length (b ∷ x)) 0 ≡ false = ne-eqb (length (b ∷ x)) 0 (λ z. omega arith) in
-      simp (o, ne)
-      (by-byte-append (b ∷ x) (readerAt R (at c p 0 noHeader) s) y
-      ∙ ap (λ (w : Run R). andThen R w (λ c. byByte R c y)) (by-steps (at c p 0 noHeader) s (b ∷ x) _ fit o k)
-      ∙ then-padding (taken s (b ∷ x) 0) y p (taken-ready s (b ∷ x) 0 (subst (Ready s) e ready)) hp)
-
-  -- A whole record, whatever the bytes of its padding, brings a reader from between two records to between two records, and comes to what it means.
-  pub record-read : (s : State) (h x y : List ℕ) → Ready s 0 → is-open s ≡ true → length h ≡ 8 → length x ≡ headerOf h .content → length y ≡ headerOf h .padding
-      → byByte R (between s) (h ++ (x ++ y)) ≡ record { reader = between (recordMeans R s (headerOf h) x .state); notes = recordMeans R s (headerOf h) x .notes }
-  unfolding recordMeans
-  record-read s h x y ready o eight hc hp =
-      let l = judged s (headerOf h) in
-      let c = headerOf h .content in
-      let p = headerOf h .padding in
-      let rd : Ready (l .state) c = judged-ready s (headerOf h) ready in
-      by-byte-append h (between s) (x ++ y)
-      ∙ ap (λ (w : Run R). andThen R w (λ c. byByte R c (x ++ y))) (header-read s h ready o eight)
-      ∙ byTest (is-open (l .state))
-      (λ t. rw t (ap (λ (w : Run R). record { reader = w .reader; notes = l .notes ++ w .notes }) (content-read (l .state) c p x y rd t hc hp ∙ rw t)))
-      (λ t. rw t (ap (λ (w : Run R). record { reader = w .reader; notes = l .notes ++ w .notes }) (by-byte-shut (x ++ y) (between (l .state)) t)))
-
-  -- it leaves a state that is ready for the next
-  pub record-ready : (s : State) (h : Header) (x : List ℕ) → Ready s 0 → length x ≡ h .content → Ready (recordMeans R s h x .state) 0
-  unfolding recordMeans
-  record-ready s h x ready hc = go x (judged-ready s h ready) hc
-    where
-      go : (y : List ℕ) → Ready (judged s h .state) (h .content) → length y ≡ h .content → Ready (contentMeans R y (judged s h .state) .state) 0
-      go [] k e =
-          byTest (is-open (judged s h .state)) (λ o. let z : h .content ≡ 0 = omega arith in rw o (subst (Ready (judged s h .state)) z k)) (λ o. rw o (closed-ready (judged s h .state) (h .content) o k))
-      go (b ∷ y) k e =
-          let ne : eqb (length (b ∷ y)) 0 ≡ false = ne-eqb (length (b ∷ y)) 0 (λ z. omega arith) in
-          let m : h .content ≡ length (b ∷ y) + 0 = omega arith in
-          byTest (is-open (judged s h .state))
-          (λ o. simp (o, ne) (taken-ready (judged s h .state) (b ∷ y) 0 (subst (Ready (judged s h .state)) m k)))
-          (λ o. simp o (closed-ready (judged s h .state) (h .content) o k))
 
   -- ---- all is read while the reader is open
   pub open-before : (x : List ℕ) (a : Reader R) → is-open (byByte R a x .reader .inner) ≡ true → is-open (a .inner) ≡ true

@@ -1,2 +1,4 @@
 pub mod Rules
+pub mod PositionWhole
 pub mod Laws
+pub mod Records

@@ -28,7 +28,8 @@ use Rattle.connection.specs.RequestCalls.{isEnded, endedOn}
 use Rattle.connection.specs.Slots.{requestAt, putRequest, freeSlot, find}
 use Rattle.connection.specs.Laws.SlotsLaws.{find-at}
 use Rattle.record_rules.specs.Rules.{Left, Reader, Run, andThen, byByte, recordMeans}
-use Rattle.record_rules.specs.Laws.{between, record-read, record-ready, by-byte-append, by-byte-none}
+use Rattle.record_rules.specs.Laws.{by-byte-append, by-byte-none}
+use Rattle.record_rules.specs.Records.{between, record-read, record-ready}
 use Rattle.server.specs.Event.{Event, Note, notes, showing}
 use Rattle.server.specs.Step.{Inner, idle, valued, onManagement, onOutput, onRequest, judged, taken, ofValues, rules}
 use Rattle.server.specs.Laws.{Ready, lawful}
