@@ -14,6 +14,7 @@ pub enum Refusal {
     NoPair = 7,
     TooLong = 8,
     OutOfShape = 9,
+    Waiting = 10,
 }
 
 /// Why a connection closes in a step. The place is that of the query's malformed pair.

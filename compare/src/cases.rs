@@ -27,9 +27,12 @@ pub struct Case {
     pub title: String,
     line: usize,
     items: Vec<Item>,
+    /// What is repeated from an item on, and how often, while its end is not read.
+    repeated: Option<(usize, usize)>,
 }
 
 /// A command, or records that are sent together.
+#[derive(Clone)]
 struct Item {
     /// The first line of it in the file, and its lines as they are written there.
     line: usize,
@@ -38,6 +41,7 @@ struct Item {
     answers: Vec<String>,
 }
 
+#[derive(Clone)]
 enum What {
     Command(String),
     /// What the other end sends, in pieces.
@@ -110,6 +114,10 @@ pub fn expand(cases: &[Case]) -> Result<Vec<Asked>, Error> {
         if case.items.is_empty() {
             return Err(error(&case.file, case.line, "the case is empty".into()));
         }
+        if case.repeated.is_some() {
+            let what = "`times` without `done` behind it".into();
+            return Err(error(&case.file, case.line, what));
+        }
         let sent = |item: &Item| matches!(item.asked, What::Sent(_));
         let sizes: Vec<Option<usize>> = if case.items.iter().any(sent) {
             SIZES.map(Some).into()
@@ -145,6 +153,27 @@ fn error(file: &str, line: usize, what: String) -> Error {
 }
 
 impl Case {
+    fn begin_times(&mut self, times: &str) -> Result<(), String> {
+        let times = times.parse().ok().filter(|n| (1..=2_000).contains(n));
+        let times = times.ok_or("it is `times N`, with N from 1 to 2,000")?;
+        match self.repeated.replace((self.items.len(), times)) {
+            None => Ok(()),
+            Some(_) => Err("what is repeated has no end: a line `done` is missing".into()),
+        }
+    }
+
+    fn end_times(&mut self) -> Result<(), String> {
+        let (from, times) = self
+            .repeated
+            .take()
+            .ok_or("`done` without `times` before it")?;
+        let items = self.items[from..].to_vec();
+        for _ in 1..times {
+            self.items.extend_from_slice(&items);
+        }
+        Ok(())
+    }
+
     fn asked(
         &self,
         size: Option<usize>,
@@ -234,6 +263,7 @@ impl Reader<'_> {
                 title: title.trim().into(),
                 line: number,
                 items: Vec::new(),
+                repeated: None,
             });
             return Ok(());
         }
@@ -241,6 +271,12 @@ impl Reader<'_> {
             .cases
             .last_mut()
             .ok_or("no case has begun: a line `case TITLE` is missing")?;
+        if let Some(times) = line.strip_prefix("times ") {
+            return case.begin_times(times);
+        }
+        if line == "done" {
+            return case.end_times();
+        }
         match line.strip_prefix('>') {
             Some(answer) => {
                 let item = case
@@ -333,18 +369,25 @@ fn answer_text(line: &str) -> Result<String, String> {
         ["data" | "output", ..] => with_bytes(&words, 3),
         ["used", _, "values", ..] => with_bytes(&words, 3),
         ["used", _, "data" | "output", ..] => with_bytes(&words, 5),
-        ["wrote", count, ..] => {
-            let last = words.iter().rposition(|word| !BEHIND.contains(word));
-            let (bytes, behind) = words.split_at(last.map_or(0, |last| last + 1));
-            let text = with_bytes(bytes, 2)?;
-            let shown = joined(&bytes[2..])?.len();
-            if count.parse() != Ok(shown) {
-                return Err(format!("`wrote {count}`, but {shown} bytes are shown"));
-            }
-            Ok([&[text.as_str()], behind].concat().join(" "))
-        }
+        ["wrote", count, ..] => written(&words, count, 2),
+        ["pumped", _, count, ..] => written(&words, count, 3),
         _ => plain(&words),
     }
+}
+
+/// The bytes from a place on are as many as the answer says.
+fn written(words: &[&str], count: &str, from: usize) -> Result<String, String> {
+    let last = words.iter().rposition(|word| !BEHIND.contains(word));
+    let (bytes, behind) = words.split_at(last.map_or(0, |last| last + 1));
+    let text = with_bytes(bytes, from)?;
+    let shown = joined(&bytes[from..])?.len();
+    if count.parse() != Ok(shown) {
+        return Err(format!(
+            "`{} {count}`, but {shown} bytes are shown",
+            words[0]
+        ));
+    }
+    Ok([&[text.as_str()], behind].concat().join(" "))
 }
 
 /// Words that come behind the bytes that were written.

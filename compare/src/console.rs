@@ -3,12 +3,14 @@
 pub mod correction;
 mod feed;
 pub mod poke;
+mod queue;
 mod readings;
 pub mod text;
 pub mod words;
 
 use crate::answer::{Event, Output, Refusal, Source, Step};
 use crate::pairs::{write_pair, Pair, Reading};
+use crate::queue::{Waits, QUEUE};
 use crate::readings::Reader;
 use crate::reply::reply;
 use crate::state::{area, Connection, AREA, STORE};
@@ -19,32 +21,62 @@ use words::{bytes, hex, id, number, room};
 pub const LONGEST_LINE: usize = 140_000;
 /// One byte more than a connection takes, so that a store that is too long can be lent.
 pub const WHOLE_STORE: usize = STORE + 1;
+/// The same for the queue.
+pub const WHOLE_QUEUE: usize = QUEUE + 1;
 /// What a lent buffer is filled with before the call.
 const FILL: u8 = 0xee;
 
-/// The whole store is kept here whatever part of it is lent.
+/// The whole store and the whole queue are kept here whatever part of them is lent.
 #[derive(Clone)]
 pub struct Console {
     pub connection: Connection,
+    pub waits: Waits,
     pub store: Vec<u8>,
     pub lent: usize,
+    pub queue: Vec<u8>,
+    pub lent_queue: usize,
     /// The event that `owed` replies to.
     pub event: Option<Event>,
     /// What reads a body of readings. It has nothing to do with the connection.
     pub reader: Reader,
-    /// State and store before a call that must not change them where it is refused.
-    before: (Connection, Vec<u8>),
+    /// What a call must not change where it is refused, as it was before.
+    before: Kept,
+}
+
+#[derive(Clone)]
+struct Kept {
+    connection: Connection,
+    waits: Waits,
+    store: Vec<u8>,
+    queue: Vec<u8>,
+}
+
+/// What is lent to a call.
+struct Lent<'a> {
+    connection: &'a mut Connection,
+    waits: &'a mut Waits,
+    store: &'a mut [u8],
+    queue: &'a mut [u8],
 }
 
 impl Default for Console {
     fn default() -> Self {
-        Console {
+        let new = Kept {
             connection: Connection::closed(),
+            waits: Waits::default(),
             store: vec![0; WHOLE_STORE],
+            queue: vec![0; WHOLE_QUEUE],
+        };
+        Console {
+            connection: new.connection.clone(),
+            waits: new.waits.clone(),
+            store: new.store.clone(),
             lent: STORE,
+            queue: new.queue.clone(),
+            lent_queue: QUEUE,
             event: None,
             reader: Reader::new(),
-            before: (Connection::closed(), vec![0; WHOLE_STORE]),
+            before: new,
         }
     }
 }
@@ -69,8 +101,8 @@ impl Console {
                 self.lent = number(n, WHOLE_STORE as u64)? as usize;
                 "ok".into()
             }
-            ["step", piece] => self.told(&bytes(piece)?, Connection::step),
-            ["next", piece] => self.told(&bytes(piece)?, Connection::next_event),
+            ["step", piece] => self.told(&bytes(piece)?, Waits::step),
+            ["next", piece] => self.told(&bytes(piece)?, Waits::next_event),
             ["feed", n, all] => self.feed(piece_size(n)?, &bytes(all)?),
             ["value", r, name, fallback] => self.value(id(r)?, &bytes(name)?, &bytes(fallback)?),
             ["pair", r, k] => self.pair(id(r)?, number(k, u64::MAX)?),
@@ -78,14 +110,17 @@ impl Console {
             ["say", r, stream, data, size] => {
                 let (r, output, data) = (id(r)?, output(stream)?, bytes(data)?);
                 let mut buffer = vec![FILL; room(size)?];
-                let wrote =
-                    self.held(|connection, _| connection.say(r, output, &data, &mut buffer));
+                let wrote = self.held(|lent| {
+                    lent.waits
+                        .say(lent.connection, r, output, &data, &mut buffer)
+                });
                 wrote_text(wrote, &buffer, "")
             }
             ["end", r, stream, size] => {
                 let (r, output) = (id(r)?, output(stream)?);
                 let mut buffer = vec![FILL; room(size)?];
-                let wrote = self.held(|connection, _| connection.end(r, output, &mut buffer));
+                let wrote =
+                    self.held(|lent| lent.waits.end(lent.connection, r, output, &mut buffer));
                 wrote_text(wrote, &buffer, "")
             }
             ["owed", size] => {
@@ -103,7 +138,7 @@ impl Console {
                 let status = number(status, u32::MAX.into())? as u32;
                 self.finish(id(r)?, status, room(size)?)
             }
-            ["active"] => match self.connection.active() {
+            ["active"] => match self.waits.active(&self.connection) {
                 Ok(n) => format!("active {n}"),
                 Err(refusal) => refused(refusal),
             },
@@ -111,31 +146,44 @@ impl Console {
             ["counts", r] => self.counts(id(r)?),
             ["store"] => self.places(),
             ["poke", ref field @ ..] => {
-                poke::poke(&mut self.connection, &mut self.store, field)?;
+                self.poke(field)?;
                 "ok".into()
             }
             ["correct", ..] => return correction::correction_command(words),
-            _ => return self.reading_command(words),
+            ["reading" | "read" | "body", ..] => return self.reading_command(words),
+            _ => return self.queue_command(words),
         })
     }
 
     fn start(&mut self) -> String {
         self.event = None;
-        match self.connection.start(&mut self.store[..self.lent]) {
+        match self
+            .waits
+            .start(&mut self.connection, &mut self.store[..self.lent])
+        {
             Ok(()) => "open".into(),
             Err(refusal) => refused(refusal),
         }
     }
 
-    /// Makes a call. Where it is refused, the answer says whether the state, the store or the gathered bytes changed.
-    fn held<T>(
-        &mut self,
-        call: impl FnOnce(&mut Connection, &mut [u8]) -> Result<T, Refusal>,
-    ) -> Result<T, String> {
-        self.before.0.clone_from(&self.connection);
-        self.before.1.copy_from_slice(&self.store);
-        call(&mut self.connection, &mut self.store[..self.lent]).map_err(|refusal| {
-            let same = self.before.0 == self.connection && self.before.1 == self.store;
+    /// Makes a call. Where it is refused, the answer says whether anything changed that it must not change.
+    fn held<T>(&mut self, call: impl FnOnce(Lent) -> Result<T, Refusal>) -> Result<T, String> {
+        self.before.connection.clone_from(&self.connection);
+        self.before.waits.clone_from(&self.waits);
+        self.before.store.copy_from_slice(&self.store);
+        self.before.queue.copy_from_slice(&self.queue);
+        let lent = Lent {
+            connection: &mut self.connection,
+            waits: &mut self.waits,
+            store: &mut self.store[..self.lent],
+            queue: &mut self.queue[..self.lent_queue],
+        };
+        call(lent).map_err(|refusal| {
+            let before = &self.before;
+            let same = before.connection == self.connection
+                && before.waits == self.waits
+                && before.store == self.store
+                && before.queue == self.queue;
             refused(refusal) + if same { "" } else { " changed" }
         })
     }
@@ -144,9 +192,9 @@ impl Console {
     fn told(
         &mut self,
         piece: &[u8],
-        call: impl FnOnce(&mut Connection, &mut [u8], &[u8]) -> Result<Step, Refusal>,
+        call: impl FnOnce(&mut Waits, &mut Connection, &mut [u8], &[u8]) -> Result<Step, Refusal>,
     ) -> String {
-        match self.held(|connection, store| call(connection, store, piece)) {
+        match self.held(|lent| call(lent.waits, lent.connection, lent.store, piece)) {
             Err(text) => text,
             Ok(Step { used, event }) => {
                 self.event = event;
@@ -162,8 +210,11 @@ impl Console {
 
     fn value(&self, id: u16, name: &[u8], fallback: &[u8]) -> String {
         let store = &self.store[..self.lent];
-        let value = hex(self.connection.value(store, id, name, fallback));
-        match self.connection.value_source(store, id, name) {
+        let value = self
+            .waits
+            .value(&self.connection, store, id, name, fallback);
+        let value = hex(value);
+        match self.waits.value_source(&self.connection, store, id, name) {
             Ok(Source::Store) => format!("store {value}"),
             Ok(Source::Fallback) => format!("fallback {value}"),
             Err(refusal) => format!("{} {value}", refused(refusal)),
@@ -171,14 +222,16 @@ impl Console {
     }
 
     fn pair(&self, id: u16, k: u64) -> String {
-        match self.connection.pair_at(&self.store[..self.lent], id, k) {
+        let store = &self.store[..self.lent];
+        match self.waits.pair_at(&self.connection, store, id, k) {
             Ok(pair) => format!("pair {}", numbers(pair).map(|n| n.to_string()).join(" ")),
             Err(refusal) => refused(refusal),
         }
     }
 
     fn walk(&self, id: u16) -> String {
-        let mut walk = match self.connection.walk(&self.store[..self.lent], id) {
+        let store = &self.store[..self.lent];
+        let mut walk = match self.waits.walk(&self.connection, store, id) {
             Ok(walk) => walk,
             Err(refusal) => return refused(refusal),
         };
@@ -195,7 +248,11 @@ impl Console {
 
     fn finish(&mut self, id: u16, status: u32, room: usize) -> String {
         let mut buffer = vec![FILL; room];
-        match self.held(|connection, store| connection.finish(store, id, status, &mut buffer)) {
+        let finished = self.held(|lent| {
+            lent.waits
+                .finish(lent.connection, lent.store, id, status, &mut buffer)
+        });
+        match finished {
             Ok(finished) => {
                 let end = if finished.closed { " closed" } else { " open" };
                 wrote_text(Ok(finished.wrote), &buffer, end)
@@ -282,19 +339,22 @@ mod tests {
 
     #[test]
     fn a_refused_call_that_changed_something() {
-        let changes: [fn(&mut Connection, &mut [u8]); 6] = [
-            |connection, _| connection.slots[15].err_used = true,
-            |connection, _| connection.slots[15].stdin_shown = 1,
-            |connection, _| connection.slots[0].data_shown = u32::MAX,
-            |connection, _| connection.query[511] = 1,
-            |connection, _| connection.body[7] = 1,
-            |_, store| store[STORE - 1] = 1,
+        let changes: [fn(Lent); 9] = [
+            |lent| lent.connection.slots[15].err_used = true,
+            |lent| lent.connection.slots[15].stdin_shown = 1,
+            |lent| lent.connection.slots[0].data_shown = u32::MAX,
+            |lent| lent.connection.query[511] = 1,
+            |lent| lent.connection.body[7] = 1,
+            |lent| lent.store[STORE - 1] = 1,
+            |lent| lent.waits.numbers[53] = 1,
+            |lent| lent.waits.marks[QUEUE - 1] = 1,
+            |lent| lent.queue[QUEUE - 1] = 1,
         ];
         for change in changes {
             let mut console = Console::default();
-            let refused = |console: &mut Console, change: fn(&mut Connection, &mut [u8])| {
-                console.held(|connection, store| {
-                    change(connection, store);
+            let refused = |console: &mut Console, change: fn(Lent)| {
+                console.held(|lent| {
+                    change(lent);
                     Err::<(), _>(Refusal::NoRoom)
                 })
             };

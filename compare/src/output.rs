@@ -9,7 +9,7 @@ pub const CHUNK: usize = 8_184;
 
 impl Connection {
     /// Rows 9, 1, 3, 4 and 5: the slot of a request that may write on this stream.
-    fn admit_output(&self, id: u16, output: Output) -> Result<usize, Refusal> {
+    pub(crate) fn admit_output(&self, id: u16, output: Output) -> Result<usize, Refusal> {
         let slot = self.admit_request(id)?;
         let request = &self.slots[slot];
         if !request.params_ended() && !request.spent() {
@@ -49,10 +49,7 @@ impl Connection {
         if buffer.len() < HEADER {
             return Err(Refusal::NoRoom);
         }
-        match output {
-            Output::Stdout => self.slots[slot].out_ended = true,
-            Output::Stderr => self.slots[slot].err_ended = true,
-        }
+        self.slots[slot].end_output(output);
         Ok(write_record(buffer, output as u8, id, &[]))
     }
 
@@ -68,18 +65,12 @@ impl Connection {
         Self::admit_store(store)?;
         let slot = self.admit_request(id)?;
         let request = self.slots[slot];
-        let end_out = !request.out_ended;
-        let end_err = request.err_used && !request.err_ended;
-        let length = HEADER * (usize::from(end_out) + usize::from(end_err)) + record_length(8);
-        if length > buffer.len() {
+        if request.finish_length() > buffer.len() {
             return Err(Refusal::NoRoom);
         }
         let mut at = 0;
-        if end_out {
-            at += write_record(&mut buffer[at..], kind::STDOUT, id, &[]);
-        }
-        if end_err {
-            at += write_record(&mut buffer[at..], kind::STDERR, id, &[]);
+        for output in request.ends_owed() {
+            at += write_record(&mut buffer[at..], output as u8, id, &[]);
         }
         at += write_record(&mut buffer[at..], kind::END, id, &end_body(status, 0));
         if request.keep {
@@ -93,15 +84,34 @@ impl Connection {
         })
     }
 
-    /// What is left of a record for this slot has nowhere to go any more. Held header bytes stay: their record is
-    /// judged when its header is whole.
-    fn free(&mut self, slot: usize, store: &mut [u8]) {
+    /// The slot is given back.
+    pub(crate) fn free(&mut self, slot: usize, store: &mut [u8]) {
         self.occupied &= !(1 << slot);
         self.slots[slot] = Request::FREE;
         store[area(slot)].fill(0);
+        self.skip_rest(slot);
+    }
+
+    /// What is left of a record for this slot has nowhere to go any more. Held header bytes stay: their record is
+    /// judged when its header is whole.
+    pub(crate) fn skip_rest(&mut self, slot: usize) {
         if self.target.slot().map(usize::from) == Some(slot) {
             self.target = Target::Skip;
         }
+    }
+}
+
+impl Request {
+    /// The ends that a finish writes, STDOUT's first. STDERR that was neither used nor ended gets none.
+    pub(crate) fn ends_owed(&self) -> impl Iterator<Item = Output> {
+        let out = (!self.out_ended).then_some(Output::Stdout);
+        let err = (self.err_used && !self.err_ended).then_some(Output::Stderr);
+        out.into_iter().chain(err)
+    }
+
+    /// The bytes that a finish takes.
+    pub(crate) fn finish_length(&self) -> usize {
+        HEADER * self.ends_owed().count() + record_length(8)
     }
 }
 

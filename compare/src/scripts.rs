@@ -2,7 +2,8 @@
 //! the state they meet: most are commands that do something.
 //!
 //! What the rules leave open is kept away from: bytes of a body past those gathered. A script that pokes how many
-//! bytes are gathered, or makes the content a body's, pokes the bytes, the target and the content with it.
+//! bytes are gathered, or makes the content a body's, pokes the bytes, the target and the content with it. And bytes of
+//! the queue, with their marks, past those that wait (`queue_pokes`).
 
 mod bodies;
 mod broken;
@@ -14,10 +15,14 @@ pub(crate) mod lists;
 mod odd;
 pub mod own;
 mod pokes;
+mod queue;
+mod queue_ends;
+mod queue_pokes;
 mod readings;
 pub(crate) mod records;
 mod row_nine;
 mod traffic;
+pub mod turns;
 
 use crate::console::words::hex;
 use crate::console::Console;
@@ -93,7 +98,7 @@ pub fn generate(seed: u64, lines: usize) -> Script {
         draft.every_call();
     }
     while draft.script.lines.len() < lines {
-        match draft.random.below(114) {
+        match draft.random.below(138) {
             0..=19 => draft.traffic(false),
             20..=31 => draft.bodies(),
             32..=49 => draft.traffic(true),
@@ -103,6 +108,7 @@ pub fn generate(seed: u64, lines: usize) -> Script {
             76..=89 => draft.poked_state(),
             90..=97 => draft.readings(),
             98..=103 => draft.corrections(),
+            104..=127 => draft.queued(),
             _ => draft.odd_lines(),
         }
     }

@@ -12,13 +12,15 @@ mod tail;
 mod tally;
 mod told;
 
-pub use run::{Run, Whose};
+pub use run::{events, used, Run, Whose};
 pub use tally::Tally;
 pub use told::Told;
 
 use crate::drive::shortened;
 use crate::random::Random;
+use crate::rounds;
 use crate::scripts::own::{own, Item, Own};
+use crate::scripts::Script;
 use crate::state::SLOTS;
 use std::collections::BTreeSet;
 use std::fmt;
@@ -94,6 +96,38 @@ impl Round {
                 Item::Record { calls, .. } => calls.len(),
             })
             .sum()
+    }
+}
+
+impl rounds::Round for Round {
+    type Tally = Tally;
+    const RUN: &'static str = "shuffle";
+    const RUNS: [&'static str; 2] = ["one", "other"];
+
+    fn new(seed: u64) -> Self {
+        round(seed)
+    }
+
+    fn seed(&self) -> u64 {
+        self.seed
+    }
+
+    fn scripts(&self) -> [&Script; 2] {
+        [&self.runs[0].script, &self.runs[1].script]
+    }
+
+    fn size(&self) -> (usize, usize) {
+        (self.requests.len(), self.calls())
+    }
+
+    fn compare(&self, answers: [&[Vec<u8>]; 2], tally: &mut Tally) -> Result<(), String> {
+        let [told, _] = self.compared(answers).map_err(|found| found.to_string())?;
+        tally.count(self, &told);
+        Ok(())
+    }
+
+    fn missing(tally: &Tally) -> Vec<&'static str> {
+        tally.missing()
     }
 }
 

@@ -91,6 +91,13 @@ impl Request {
             Output::Stderr => self.err_ended,
         }
     }
+
+    pub fn end_output(&mut self, output: Output) {
+        match output {
+            Output::Stdout => self.out_ended = true,
+            Output::Stderr => self.err_ended = true,
+        }
+    }
 }
 
 /// What the content of the record being read is for. A slot is a byte, so that one that is none can be given.

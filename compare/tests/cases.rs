@@ -1,6 +1,7 @@
 //! Case files: what they stand for, and what is said where something is wrong in them.
 
 use compare::cases::{expand, read, Asked, File};
+use compare::queue::QUEUE;
 use compare::state::STORE;
 
 fn file(text: &str) -> File {
@@ -22,7 +23,7 @@ fn first_run(text: &str) -> Vec<(String, String)> {
     all.into_iter()
         .filter(|asked| asked.size == size)
         .map(|asked| (asked.command, asked.answer))
-        .skip(2)
+        .skip(3)
         .collect()
 }
 
@@ -96,7 +97,8 @@ fn how_often_a_case_is_run() {
     let all = expanded("case one\nbytes 00\ncase two\nactive\n> active 0\n");
     let lines: Vec<&str> = all.iter().map(|asked| asked.command.as_str()).collect();
     let lend = format!("lend {STORE}");
-    let run = [lend.as_str(), "start"];
+    let lend_queue = format!("lend queue {QUEUE}");
+    let run = [lend.as_str(), lend_queue.as_str(), "start"];
     let feeds = ["feed 1 00", "feed 7 00", "feed 8 00", "feed 65536 00"];
     let mut wanted = Vec::new();
     for feed in feeds {
@@ -106,9 +108,9 @@ fn how_often_a_case_is_run() {
     wanted.extend(run);
     wanted.push("active");
     assert_eq!(lines, wanted);
-    assert_eq!(all[2].size, Some(1));
+    assert_eq!(all[3].size, Some(1));
     assert_eq!(
-        (all[14].size, all[14].line, &*all[14].title),
+        (all[19].size, all[19].line, &*all[19].title),
         (None, 4, "two")
     );
 }
@@ -166,6 +168,9 @@ fn answers() {
         ),
         ("wrote 0 -", "wrote 0 -"),
         ("wrote 0 - open", "wrote 0 - open"),
+        ("pumped 1 3 01 02 \"a\" open", "pumped 1 3 010261 open"),
+        ("pumped 0 0 - closed", "pumped 0 0 - closed"),
+        ("waits 1 - 7 \"a\" 07", "waits 1 - 7 61 07"),
         ("area -", "area -"),
         ("area 01 \"AB\"", "area 014142"),
         (
@@ -183,6 +188,14 @@ fn answers() {
     let all = first_run("case one\npoke held 8\nlend 5\nlend 9\n> what\n");
     let answers: Vec<&str> = all.iter().map(|(_, answer)| answer.as_str()).collect();
     assert_eq!(answers, ["ok", "ok", "what"]);
+}
+
+#[test]
+fn repetition() {
+    let text = "case one\nactive\n> a\ntimes 2\nactive\n> b\nstore\n> c\ndone\nstore\n> d\n";
+    let all = first_run(text);
+    let answers: Vec<&str> = all.iter().map(|(_, answer)| answer.as_str()).collect();
+    assert_eq!(answers, ["a", "b", "c", "b", "c", "d"]);
 }
 
 #[test]
@@ -204,7 +217,7 @@ fn readings() {
         expanded("case one\nread -\nbody end\n> clean\nreading 1 -2 3 9\n> wrote 3 01 03 03\n");
     let lines: Vec<(&str, &str)> = all.iter().map(|a| (&*a.command, &*a.answer)).collect();
     assert_eq!(
-        lines[1..],
+        lines[2..],
         [
             ("start", "open"),
             ("body new", "ok"),
@@ -248,6 +261,17 @@ fn what_is_wrong_and_where() {
         ("case a\nstdin 65536\n", "one.txt:2: `65536` is no id"),
         ("case a\nstdin\n", "one.txt:2: it is `stdin ID BYTES`"),
         ("case a\nabort 1 00\n", "one.txt:2: it is `abort ID`"),
+        ("case a\ntimes 0\n", "one.txt:2: it is `times N`"),
+        ("case a\ndone\n", "one.txt:2: `done` without `times`"),
+        (
+            "case a\ntimes 2\ntimes 2\n",
+            "one.txt:3: what is repeated has",
+        ),
+        ("case a\ntimes 2\nbytes 00\n", "one.txt:1: `times` without"),
+        (
+            "case a\nactive\n> pumped 1 3 01 open\n",
+            "one.txt:3: `pumped 3`, but 1 bytes",
+        ),
         ("case a\nbegin 1 responder\n", "one.txt:2: it is `begin ID"),
         ("case a\nbegin 1 robot keep\n", "one.txt:2: it is `begin ID"),
         ("case a\nrecord 256 1\n", "one.txt:2: `256` is no type"),

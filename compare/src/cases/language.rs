@@ -1,6 +1,7 @@
 //! What the lines of a case file can say: for the console, or for the bench.
 
 use super::records::{reply_record, request_record};
+use crate::queue::QUEUE;
 use crate::state::STORE;
 
 pub struct Language {
@@ -9,14 +10,15 @@ pub struct Language {
     pub(super) events: &'static [&'static str],
     /// The bytes of a line that stands for a record, or none where it does not.
     pub(super) record: fn(&[&str]) -> Result<Option<Vec<u8>>, String>,
-    /// Whether there is a store to be lent, and bodies of readings.
+    /// Whether there are a store and a queue to be lent, and bodies of readings.
     pub(super) station: bool,
 }
 
 pub static CONSOLE: Language = Language {
     commands: &[
         "start", "lend", "step", "next", "feed", "value", "pair", "walk", "say", "end", "owed",
-        "put", "finish", "active", "area", "counts", "store", "reading", "body", "correct", "poke",
+        "put", "finish", "queue", "pump", "active", "area", "counts", "waits", "numbers", "store",
+        "reading", "body", "correct", "poke",
     ],
     events: &[
         "open", "ready", "data", "end", "abort", "refuse", "fault", "query", "unknown", "closed",
@@ -41,6 +43,7 @@ impl Language {
         let mut before = Vec::new();
         if self.station {
             before.push((format!("lend {STORE}"), "ok"));
+            before.push((format!("lend queue {QUEUE}"), "ok"));
         }
         before.push(("start".into(), "open"));
         before

@@ -13,7 +13,7 @@ impl Console {
         while used < bytes.len() {
             let end = bytes.len().min((used / size + 1) * size);
             let piece = &bytes[used..end];
-            match self.held(|connection, store| connection.next_event(store, piece)) {
+            match self.held(|lent| lent.waits.next_event(lent.connection, lent.store, piece)) {
                 Ok(step) => {
                     used += step.used;
                     if let Some(event) = step.event {

@@ -1,44 +1,63 @@
 //! Fields of the state, and bytes of the store, set to anything that their types can hold.
 
 use super::words::{bytes, flag, id, number};
+use super::Console;
 use crate::answer::{Role, Stream};
-use crate::state::{Connection, Life, Request, Target, Turn, SLOTS, STORE};
+use crate::queue::{NUMBERS, QUEUE};
+use crate::state::{Life, Request, Target, Turn, SLOTS, STORE};
 
-/// Sets what the words behind `poke` name; none where they are no field or no value of it.
-pub fn poke(connection: &mut Connection, store: &mut [u8], words: &[&str]) -> Option<()> {
-    match *words {
-        ["open", word] => connection.open = flag(word)?,
-        ["occupied", word] => connection.occupied = id(word)?,
-        ["held", word] => connection.held = number(word, u64::MAX)?,
-        ["header", word] => connection.header = padded(word)?,
-        ["target", ref words @ ..] => connection.target = target(words)?,
-        ["content", word] => connection.content = number(word, u64::MAX)?,
-        ["padding", word] => connection.padding = number(word, u64::MAX)?,
-        ["gathered", word] => connection.gathered = number(word, u64::MAX)?,
-        ["body", word] => {
-            connection.query = padded(word)?;
-            connection.body.copy_from_slice(&connection.query[..8]);
+impl Console {
+    /// Sets what the words behind `poke` name; none where they are no field or no value of it.
+    pub(super) fn poke(&mut self, words: &[&str]) -> Option<()> {
+        let connection = &mut self.connection;
+        match *words {
+            ["open", word] => connection.open = flag(word)?,
+            ["occupied", word] => connection.occupied = id(word)?,
+            ["held", word] => connection.held = number(word, u64::MAX)?,
+            ["header", word] => connection.header = padded(word)?,
+            ["target", ref words @ ..] => connection.target = target(words)?,
+            ["content", word] => connection.content = number(word, u64::MAX)?,
+            ["padding", word] => connection.padding = number(word, u64::MAX)?,
+            ["gathered", word] => connection.gathered = number(word, u64::MAX)?,
+            ["body", word] => {
+                connection.query = padded(word)?;
+                connection.body.copy_from_slice(&connection.query[..8]);
+            }
+            ["byte", place, value] => {
+                let place = number(place, STORE as u64 - 1)? as usize;
+                self.store[place] = byte(value)?;
+            }
+            ["number", place, value] => {
+                let place = number(place, NUMBERS as u64 - 1)? as usize;
+                self.waits.numbers[place] = id(value)?;
+            }
+            ["mark", place, value] => self.waits.marks[queue_place(place)?] = byte(value)?,
+            ["queue", place, value] => self.queue[queue_place(place)?] = byte(value)?,
+            ["shown", slot, stream, value] => {
+                let stream = match stream {
+                    "stdin" => Stream::Stdin,
+                    "data" => Stream::Data,
+                    _ => return None,
+                };
+                let count = number(value, u32::MAX.into())? as u32;
+                *connection.slots[slot_number(slot)?].shown_mut(stream) = count;
+            }
+            [field, slot, value] => {
+                let slot = slot_number(slot)?;
+                poke_request(&mut connection.slots[slot], field, value)?;
+            }
+            _ => return None,
         }
-        ["byte", place, value] => {
-            let place = number(place, STORE as u64 - 1)? as usize;
-            store[place] = number(value, 255)? as u8;
-        }
-        ["shown", slot, stream, value] => {
-            let stream = match stream {
-                "stdin" => Stream::Stdin,
-                "data" => Stream::Data,
-                _ => return None,
-            };
-            let count = number(value, u32::MAX.into())? as u32;
-            *connection.slots[slot_number(slot)?].shown_mut(stream) = count;
-        }
-        [field, slot, value] => {
-            let slot = slot_number(slot)?;
-            poke_request(&mut connection.slots[slot], field, value)?;
-        }
-        _ => return None,
+        Some(())
     }
-    Some(())
+}
+
+fn byte(word: &str) -> Option<u8> {
+    number(word, 255).map(|n| n as u8)
+}
+
+fn queue_place(word: &str) -> Option<usize> {
+    number(word, QUEUE as u64 - 1).map(|n| n as usize)
 }
 
 fn slot_number(word: &str) -> Option<usize> {

@@ -33,7 +33,7 @@ impl Draft {
 
     pub(super) fn any_call(&mut self) {
         let id = self.some_id();
-        match self.random.below(107) {
+        match self.random.below(116) {
             0..=19 => self.value(id),
             20..=33 => self.pair(id),
             34..=43 => {
@@ -59,6 +59,7 @@ impl Draft {
             }
             97..=100 => self.reading_call(),
             101..=103 => self.correct_call(),
+            104..=112 => self.queue_call(id),
             _ => {
                 self.line("store");
             }
@@ -78,6 +79,7 @@ impl Draft {
         self.say(id);
         self.end(id);
         self.finish(id);
+        self.every_queue_call();
         self.owed();
         if self.random.one_in(4) {
             self.put();
@@ -91,6 +93,21 @@ impl Draft {
             self.owed();
         } else {
             self.piece_line(&piece);
+        }
+    }
+
+    /// The same of those about what waits, of another request. A turn comes last, since it may close the connection.
+    pub(super) fn every_queue_call(&mut self) {
+        let id = self.some_id();
+        self.queue_say(id);
+        self.queue_end(id);
+        if self.random.one_in(3) {
+            self.queue_finish(id);
+        }
+        self.line(format!("waits {id}"));
+        self.pump();
+        if self.random.one_in(4) {
+            self.line("numbers");
         }
     }
 
@@ -139,7 +156,7 @@ impl Draft {
         self.line(format!("pair {id} {k}"));
     }
 
-    fn stream(&mut self) -> &'static str {
+    pub(super) fn stream(&mut self) -> &'static str {
         self.random.pick(&["stdout", "stderr"])
     }
 

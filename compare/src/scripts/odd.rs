@@ -2,10 +2,11 @@
 
 use super::Draft;
 use crate::console::{LONGEST_LINE, WHOLE_STORE};
+use crate::queue::QUEUE;
 use crate::state::STORE;
 
 /// Whole lines: what is almost a command, and commands at the limits of their numbers.
-const LINES: [&str; 141] = [
+const LINES: [&str; 168] = [
     "",
     " ",
     "-",
@@ -142,6 +143,33 @@ const LINES: [&str; 141] = [
     "correct 000000000000000000 0100000000000000000000000000000000 -0 4294967295",
     "corrects 000000000000000000 0100000000000000000000000000000000 0 0",
     "correct 000000000000000000 0100000000000000000000000000000000 0 0 ",
+    "lend queue",
+    "lend queue ",
+    "lend queue -1",
+    "lend 1 queue",
+    "lend Queue 1",
+    "queue",
+    "queue 1",
+    "queue say 1 stdout",
+    "queue say 1 stdin 41",
+    "queue say 1 stdout 41 100",
+    "queue say 65536 stdout 41",
+    "queue say 1 stdout 4",
+    "queue end 1",
+    "queue end 1 stdout 8",
+    "queue end 1 data",
+    "queue finish 1",
+    "queue finish 1 4294967296",
+    "queue finish 1 0 32",
+    "queue pump 1 520",
+    "pump",
+    "pump 1",
+    "pump 0 70001",
+    "pump 18446744073709551616 0",
+    "pump 18446744073709551615 70000",
+    "waits",
+    "waits 65536",
+    "numbers 0",
     "poke",
     "poke ",
     "# a remark",
@@ -150,7 +178,7 @@ const LINES: [&str; 141] = [
 ];
 
 /// What stands behind `poke`, refused for one reason each.
-const POKES: [&str; 54] = [
+const POKES: [&str; 63] = [
     "open",
     "open 2",
     "open 0 0",
@@ -203,6 +231,15 @@ const POKES: [&str; 54] = [
     "gathered x",
     "byte 0 256",
     "byte 0",
+    "number 0",
+    "number 0 65536",
+    "number 0 0 0",
+    "mark 0 256",
+    "mark 0",
+    "marks 0 0",
+    "queue 0 256",
+    "queue 0",
+    "queue - 0",
     "field 0 0",
     "id  0 1",
 ];
@@ -219,13 +256,15 @@ impl Draft {
                     let line = self.random.pick(&POKES);
                     self.line(format!("poke {line}"));
                 }
-                48 | 49 => self.store_limit(),
+                48 => self.store_limit(),
+                49 => self.queue_limit(),
                 50..=57 => self.damaged_line(),
                 _ if self.random.one_in(10) => self.greatest_read(),
                 _ => self.greatest_line(),
             }
         }
         self.line(format!("lend {STORE}"));
+        self.line(format!("lend queue {QUEUE}"));
         if self.random.one_in(40) {
             let body = "00".repeat(513);
             self.line(format!("poke body {body}"));
@@ -291,6 +330,7 @@ impl Draft {
             0 => ("value 1 ", " -"),
             1 => ("put - ", " 70000"),
             2 => self.random.pick(&[
+                ("queue say 10 stdout ", ""),
                 ("step ", ""),
                 ("next ", ""),
                 ("feed 4096 ", ""),

@@ -91,6 +91,8 @@ impl Draft {
             self.line("poke target skip");
             self.line(format!("poke content {}", was.content.min(20)));
         }
+        // Nor is what waits: it only has to be in shape.
+        self.mend_waits();
     }
 
     fn restore_request(&mut self, slot: usize, is: &Request, was: &Request) {
@@ -197,7 +199,7 @@ impl Draft {
     /// A slot's field, the reader's counts, or the target with all that belongs to it.
     fn poke_any(&mut self) {
         let slot = self.random.index(SLOTS);
-        match self.random.below(30) {
+        match self.random.below(40) {
             0 => {
                 let open = self.random.index(2);
                 self.line(format!("poke open {open}"));
@@ -241,6 +243,7 @@ impl Draft {
             21 | 22 => self.poke_live(),
             23 => self.poke_shown(slot),
             24 => self.poke_stated(slot),
+            25..=34 => self.poke_waits(),
             _ => self.poke_due(slot),
         }
     }

@@ -2,6 +2,7 @@
 
 use super::records::begin_body;
 use super::Draft;
+use crate::queue::QUEUE;
 use crate::state::{AREA, SLOTS, STORE};
 
 impl Draft {
@@ -10,7 +11,7 @@ impl Draft {
         self.poked_table();
         let was = self.console.connection.clone();
         for _ in 0..self.random.within(4, 16) {
-            let condition = self.random.below(13);
+            let condition = self.random.below(17);
             let broken = self.random.one_in(2);
             self.script.states += 1;
             if !self.break_condition(condition, broken) {
@@ -25,6 +26,12 @@ impl Draft {
                 self.line(format!("lend {n}"));
                 self.every_call();
                 self.line(format!("lend {STORE}"));
+            }
+            if self.random.one_in(4) {
+                let n = self.random.pick(&[QUEUE - 1, QUEUE + 1]);
+                self.line(format!("lend queue {n}"));
+                self.every_queue_call();
+                self.line(format!("lend queue {QUEUE}"));
             }
             self.every_call();
             let n = self.random.within(1, 20);
@@ -147,6 +154,7 @@ impl Draft {
                 self.line(format!("poke target {kind} {slot}"));
                 self.line(format!("poke content {left}"));
             }
+            13..=16 => return self.break_waits(condition, broken),
             _ => {
                 let slot = self.taken_slot();
                 let left = self.random.pick(&[0, 1, 2, 40, AREA - 1, AREA]);
@@ -161,6 +169,29 @@ impl Draft {
             }
         }
         true
+    }
+
+    /// More data waits than there is room for, or anything waits in a free slot; or the room is full, or it waits in a
+    /// taken one.
+    fn break_waits(&mut self, condition: u64, broken: bool) -> bool {
+        if condition < 15 {
+            let id = self.taken_id();
+            let slot = self.console.connection.find(id).unwrap_or(0);
+            return if broken {
+                self.poke_too_much(id, slot)
+            } else {
+                self.fill_room(id, slot)
+            };
+        }
+        let slot = if broken {
+            self.free_slot()
+        } else {
+            Some(self.taken_slot())
+        };
+        if let Some(slot) = slot {
+            self.poke_free(slot);
+        }
+        slot.is_some()
     }
 
     /// Bodies: held and missing bytes that are not 8, or pass 512, also when their sum passes 64 bits; a BEGIN body

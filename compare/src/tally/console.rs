@@ -1,6 +1,7 @@
 //! The kinds of lines and answers of the console.
 
 mod correction;
+mod queue;
 
 /// What a `feed` tells is counted event by event.
 pub fn kinds(line: &[u8], answer: &str) -> Vec<String> {
@@ -10,6 +11,7 @@ pub fn kinds(line: &[u8], answer: &str) -> Vec<String> {
             .into_iter()
             .map(String::from),
     );
+    kinds.extend(queue::kinds(line, answer).into_iter().map(String::from));
     kinds
 }
 
@@ -43,6 +45,7 @@ pub fn wanted() -> Vec<String> {
     wanted.push(format!("read: refused 34 {AGAIN}"));
     wanted.extend(OTHERS.map(String::from));
     wanted.extend(correction::WANTED.map(String::from));
+    wanted.extend(queue::WANTED.map(String::from));
     wanted
 }
 
@@ -88,7 +91,7 @@ const OTHERS: [&str; 17] = [
 const FULL: &str = "4294967295";
 
 /// The numbers that each call can give.
-const REFUSALS: [(&str, &[u8]); 16] = [
+const REFUSALS: [(&str, &[u8]); 20] = [
     ("start", &[2]),
     ("step", &[2, 9, 1]),
     ("next", &[2, 9, 1]),
@@ -96,9 +99,13 @@ const REFUSALS: [(&str, &[u8]); 16] = [
     ("value", &[2, 9, 1, 3, 4]),
     ("pair", &[2, 9, 1, 3, 4, 7]),
     ("walk", &[2, 9, 1, 3, 4]),
-    ("say", &[9, 1, 3, 4, 5, 6]),
-    ("end", &[9, 1, 3, 4, 5, 6]),
-    ("finish", &[2, 9, 1, 3, 6]),
+    ("say", &[9, 1, 3, 4, 5, 6, 10]),
+    ("end", &[9, 1, 3, 4, 5, 6, 10]),
+    ("finish", &[2, 9, 1, 3, 5, 6, 10]),
+    ("queue say", &[2, 9, 1, 3, 4, 5, 10]),
+    ("queue end", &[9, 1, 3, 4, 5]),
+    ("queue finish", &[9, 1, 3, 5]),
+    ("pump", &[2, 9, 1, 6]),
     ("owed", &[6]),
     ("put", &[8, 6]),
     ("active", &[9, 1]),
@@ -124,11 +131,13 @@ fn kind(line: &[u8], answer: &str) -> String {
         ["reading", _, tenths, _] if tenths.starts_with('-') => "reading below zero".into(),
         ["reading", ..] => "reading from zero up".into(),
         ["refused", n, ..] => format!("refused {n}"),
-        ["wrote", _, _, end] => end.into(),
+        ["wrote", _, _, end] | ["pumped", _, _, _, end] => end.into(),
         _ => event_kind(&words),
     };
-    let call = line.split(|&b| b == b' ').next().unwrap_or_default();
-    format!("{}: {what}", String::from_utf8_lossy(call))
+    let line = String::from_utf8_lossy(line);
+    let words = if line.starts_with("queue ") { 2 } else { 1 };
+    let call: Vec<&str> = line.split(' ').take(words).collect();
+    format!("{}: {what}", call.join(" "))
 }
 
 /// An event without the id and with what says which of its kind it is; of other answers the first word.

@@ -37,7 +37,7 @@ pub struct Finished {
 }
 
 // An empty STDOUT record is owed if STDOUT is not ended.
-fn owes_out(m: RequestState) -> bool
+pub fn owes_out(m: RequestState) -> bool
     ensures { λ r. ⌜ r ≡ owesOut m ⌝ }
 {
     if m.out_ended {
@@ -47,7 +47,7 @@ fn owes_out(m: RequestState) -> bool
 }
 
 // An empty STDERR record is owed if STDERR was used and is not ended.
-fn owes_err(m: RequestState) -> bool
+pub fn owes_err(m: RequestState) -> bool
     ensures { λ r. ⌜ r ≡ owesErr m ⌝ }
 {
     if m.err_used {
@@ -60,7 +60,7 @@ fn owes_err(m: RequestState) -> bool
 }
 
 // An empty record takes eight bytes, the END_REQUEST record sixteen.
-fn owed_length(m: RequestState) -> usize
+pub fn owed_length(m: RequestState) -> usize
     ensures { λ r. ⌜ r ≡ owedLength m ⌝ }
 {
     if owes_out(m) {
@@ -112,7 +112,7 @@ fn skip_own(i: usize, j: u8, kept: Target) -> Target
 }
 
 // The rest of a half-read record of the request in slot i is skipped.
-fn redirect(i: usize, target: Target) -> Target
+pub fn redirect(i: usize, target: Target) -> Target
     ensures { λ r. ⌜ r ≡ redirected i target ⌝ }
 {
     match target {
@@ -126,7 +126,7 @@ fn redirect(i: usize, target: Target) -> Target
 }
 
 // The connection without the request in slot i.
-fn release(c: Conn, i: usize) -> Conn
+pub fn release(c: Conn, i: usize) -> Conn
     ensures { λ r. ⌜ r ≡ released c i ⌝ }
 {
     let table = c.table;

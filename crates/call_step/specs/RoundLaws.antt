@@ -64,6 +64,7 @@ refused-last Refusal.NoRoom n = refl
 refused-last Refusal.NoPair n = refl
 refused-last Refusal.TooLong n = refl
 refused-last Refusal.OutOfShape n = refl
+refused-last Refusal.Waiting n = refl
 
 -- Before the first step nothing is used.
 pub reached-start : (on : Bool) (refusal : ℕ) (event : Event) (st : State) (store piece : List ℕ) → stepsBy on st store piece ≡ reached on true refusal event 0 st store piece

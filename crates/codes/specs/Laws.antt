@@ -16,3 +16,4 @@ refusal-some Refusal.NoRoom = refl
 refusal-some Refusal.NoPair = refl
 refusal-some Refusal.TooLong = refl
 refusal-some Refusal.OutOfShape = refl
+refusal-some Refusal.Waiting = refl

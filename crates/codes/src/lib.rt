@@ -117,5 +117,6 @@ pub fn refusal_number(refusal: Refusal) -> u8
         Refusal::NoPair => 7,
         Refusal::TooLong => 8,
         Refusal::OutOfShape => 9,
+        Refusal::Waiting => 10,
     }
 }

@@ -84,6 +84,7 @@ refusalNumber Refusal.NoRoom = 6
 refusalNumber Refusal.NoPair = 7
 refusalNumber Refusal.TooLong = 8
 refusalNumber Refusal.OutOfShape = 9
+refusalNumber Refusal.Waiting = 10
 
 -- what a call wrote: the number of its refusal, 0 for none, and the bytes
 abbrev pub wroteRefusal : Wrote → ℕ

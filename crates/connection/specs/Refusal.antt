@@ -6,7 +6,7 @@ use mathlib.Core.List.{List, [], _∷_}
 use Rattle.wire.specs.Test.{if_then_else_, _=?_}
 
 abbrev pub refusalOrder : List ℕ
-refusalOrder = 2 ∷ 9 ∷ 1 ∷ 3 ∷ 4 ∷ 5 ∷ 7 ∷ 8 ∷ 6 ∷ []
+refusalOrder = 2 ∷ 9 ∷ 1 ∷ 3 ∷ 4 ∷ 5 ∷ 7 ∷ 8 ∷ 6 ∷ 10 ∷ []
 
 -- a row: its number, and whether its condition holds
 pub record Row : Type 0 where

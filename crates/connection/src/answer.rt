@@ -2,7 +2,7 @@
 use crate::event::Event;
 use crate::state::Conn;
 
-// Why a call is refused, in the order of the table of refusals: 1 to 9.
+// Why a call is refused, in the order of the table of refusals: 1 to 10. The last is for calls with a queue.
 pub enum Refusal {
     Closed,
     StoreSize,
@@ -13,6 +13,7 @@ pub enum Refusal {
     NoPair,
     TooLong,
     OutOfShape,
+    Waiting,
 }
 
 // An output stream.

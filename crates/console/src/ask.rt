@@ -3,30 +3,36 @@ use crate::command::ACTIVE;
 use crate::command::AREA_OF;
 use crate::command::CORRECT;
 use crate::command::COUNTS;
+use crate::command::NUMBERS;
 use crate::command::PAIR;
 use crate::command::STORE;
 use crate::command::VALUE;
+use crate::command::WAITS_OF;
 use crate::command::WALK;
 use crate::correction::ask_correct;
-use call_walk::list_of;
-use call_walk::list_refusal;
 use connection::request::Shown;
 use connection::state::Slot;
 use connection::state::Table;
-use fastcgi::AREA;
-use fastcgi::Conn;
-use fastcgi::Count;
-use fastcgi::Numbered;
-use fastcgi::Pair;
-use fastcgi::ReadFrom;
-use fastcgi::SLOTS;
-use fastcgi::Source;
-use fastcgi::active_count;
-use fastcgi::pair_at;
-use fastcgi::pair_from;
-use fastcgi::refusal_number;
-use fastcgi::value;
-use fastcgi::value_source;
+use console_queue::waiting::ask_numbers;
+use console_queue::waiting::ask_waits;
+use fastcgi_queue::AREA;
+use fastcgi_queue::Conn;
+use fastcgi_queue::Count;
+use fastcgi_queue::Numbered;
+use fastcgi_queue::Pair;
+use fastcgi_queue::QUEUE;
+use fastcgi_queue::ReadFrom;
+use fastcgi_queue::SLOTS;
+use fastcgi_queue::Source;
+use fastcgi_queue::WAITS;
+use fastcgi_queue::active_count;
+use fastcgi_queue::pair_at;
+use fastcgi_queue::pair_from;
+use fastcgi_queue::refusal_number;
+use fastcgi_queue::value;
+use fastcgi_queue::value_source;
+use queue_list::list_of;
+use queue_list::list_refusal;
 use reading::tenths_of;
 use script::form::Form;
 use script::lines::LONG;
@@ -56,14 +62,15 @@ fn put_source(page: &mut [u8], at: usize, source: Source) -> usize {
 fn ask_value<'a>(
     page: &mut [u8],
     c: Conn,
+    waits: &[u16; WAITS],
     lent: &'a [u8],
     id: u16,
     name: &[u8],
     fallback: &'a [u8],
 ) -> usize {
-    let source = value_source(c, lent, id, name);
+    let source = value_source(c, waits, lent, id, name);
     let place = put_source(page, 0, source);
-    let found = value(c, lent, id, name, fallback);
+    let found = value(c, waits, lent, id, name, fallback);
     put_hex(page, place, found)
 }
 
@@ -76,8 +83,15 @@ fn put_pair(page: &mut [u8], at: usize, p: Pair, mark: &[u8]) -> usize {
 }
 
 // A pair by its number.
-fn ask_pair(page: &mut [u8], c: Conn, lent: &[u8], id: u16, k: usize) -> usize {
-    let found = pair_at(c, lent, id, k);
+fn ask_pair(
+    page: &mut [u8],
+    c: Conn,
+    waits: &[u16; WAITS],
+    lent: &[u8],
+    id: u16,
+    k: usize,
+) -> usize {
+    let found = pair_at(c, waits, lent, id, k);
     match found {
         Numbered::Pair(p) => {
             let a = put(page, 0, b"pair");
@@ -105,12 +119,19 @@ fn put_stop(page: &mut [u8], at: usize, read: ReadFrom, place: usize) -> usize {
 
 // The pairs that reading on gives, and the place where it gives none. A proved loop has to end: so it counts its turns
 // down, from a number that no list uses up.
-fn put_walk(page: &mut [u8], at: usize, c: Conn, lent: &[u8], id: u16) -> usize {
+fn put_walk(
+    page: &mut [u8],
+    at: usize,
+    c: Conn,
+    waits: &[u16; WAITS],
+    lent: &[u8],
+    id: u16,
+) -> usize {
     let mut next = at;
     let mut place: usize = 0;
     let mut turns = u64::MAX;
     while turns > 0 {
-        let read = pair_from(c, lent, id, place);
+        let read = pair_from(c, waits, lent, id, place);
         let ReadFrom::Pair(p, after) = read else {
             return put_stop(page, next, read, place);
         };
@@ -131,21 +152,21 @@ fn put_no_walk(page: &mut [u8], why: u8, length: usize) -> usize {
 }
 
 // The list's length and its pairs.
-fn ask_walk(page: &mut [u8], c: Conn, lent: &[u8], id: u16) -> usize {
-    let why = list_refusal(c, lent, id);
-    let list = list_of(c, lent, id);
+fn ask_walk(page: &mut [u8], c: Conn, waits: &[u16; WAITS], lent: &[u8], id: u16) -> usize {
+    let why = list_refusal(c, waits, lent, id);
+    let list = list_of(c, waits, lent, id);
     let length = list.len();
     if 0 < why {
         return put_no_walk(page, why, length);
     }
     let a = put(page, 0, b"walk");
     let b = put_number(page, a, b" ", length as u64);
-    put_walk(page, b, c, lent, id)
+    put_walk(page, b, c, waits, lent, id)
 }
 
 // How many requests are active.
-fn ask_active(page: &mut [u8], c: Conn) -> usize {
-    let count = active_count(c);
+fn ask_active(page: &mut [u8], c: Conn, waits: &[u16; WAITS]) -> usize {
+    let count = active_count(c, waits);
     match count {
         Count::Active(n) => {
             let a = put(page, 0, b"active");
@@ -218,6 +239,22 @@ fn ask_counts(page: &mut [u8], c: Conn, id: u16) -> usize {
     put_counts(page, a, m.shown)
 }
 
+// What waits in the first taken slot with that id.
+fn ask_queue(
+    page: &mut [u8],
+    c: Conn,
+    id: u16,
+    waits: &[u16; WAITS],
+    marks: &[u8; QUEUE],
+    queue: &[u8],
+) -> usize {
+    let slot = first_with(c.table, id);
+    let Slot::At(i) = slot else {
+        return put(page, 0, b"none");
+    };
+    ask_waits(page, i, waits, marks, queue)
+}
+
 // The place of the first byte that is not zero; 0 where all are.
 fn first_set(store: &[u8]) -> usize {
     let mut i: usize = 0;
@@ -255,6 +292,19 @@ fn ask_store(page: &mut [u8], store: &[u8]) -> usize {
     put_number(page, d, b" ", last_set(store) as u64)
 }
 
+// A raw count corrected by two cards.
+fn ask_cards(page: &mut [u8], values: [u64; 4], bytes: &[u8]) -> usize {
+    let k = values[0] as usize;
+    let n = values[1] as usize;
+    ask_correct(
+        page,
+        part(bytes, 0, k),
+        part(bytes, k, n),
+        tenths_of(low32(values[2])),
+        low32(values[3]),
+    )
+}
+
 // What a question is answered, over the store and as much of it as is lent.
 fn put_answer<'a>(
     page: &mut [u8],
@@ -262,36 +312,55 @@ fn put_answer<'a>(
     f: Form,
     store: &'a [u8],
     seen: &'a [u8],
+    waits: &[u16; WAITS],
     bytes: &'a [u8],
 ) -> usize {
     let values = f.values;
     let id = low16(values[0]);
-    let k = values[0] as usize;
     let n = values[1] as usize;
     let m = values[2] as usize;
     let kind = f.kind;
     match kind {
-        ACTIVE => ask_active(page, c),
+        ACTIVE => ask_active(page, c, waits),
         STORE => ask_store(page, store),
-        WALK => ask_walk(page, c, seen, id),
+        NUMBERS => ask_numbers(page, waits),
+        WALK => ask_walk(page, c, waits, seen, id),
         AREA_OF => ask_area(page, c, store, id),
         COUNTS => ask_counts(page, c, id),
-        PAIR => ask_pair(page, c, seen, id, n),
-        VALUE => ask_value(page, c, seen, id, part(bytes, 0, n), part(bytes, n, m)),
-        CORRECT => ask_correct(
+        PAIR => ask_pair(page, c, waits, seen, id, n),
+        VALUE => ask_value(
             page,
-            part(bytes, 0, k),
-            part(bytes, k, n),
-            tenths_of(low32(values[2])),
-            low32(values[3]),
+            c,
+            waits,
+            seen,
+            id,
+            part(bytes, 0, n),
+            part(bytes, n, m),
         ),
+        CORRECT => ask_cards(page, values, bytes),
         LONG => put(page, 0, b"long"),
         _ => put(page, 0, b"what"),
     }
 }
 
 // Answers a question.
-pub fn ask<'a>(page: &mut [u8], c: Conn, f: Form, store: &'a [u8], lent: usize, bytes: &'a [u8]) {
-    let at = put_answer(page, c, f, store, part(store, 0, lent), bytes);
+pub fn ask<'a>(
+    page: &mut [u8],
+    c: Conn,
+    f: Form,
+    store: &'a [u8],
+    lent: usize,
+    waits: &[u16; WAITS],
+    marks: &[u8; QUEUE],
+    queue: &[u8],
+    bytes: &'a [u8],
+) {
+    if f.kind == WAITS_OF {
+        let values = f.values;
+        let at = ask_queue(page, c, low16(values[0]), waits, marks, queue);
+        end_line(page, at);
+        return;
+    }
+    let at = put_answer(page, c, f, store, part(store, 0, lent), waits, bytes);
     end_line(page, at);
 }

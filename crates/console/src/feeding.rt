@@ -1,21 +1,22 @@
 // Bytes fed in pieces, and all that the calls tell on one line. A call by itself is fed in the same way.
-use crate::kept::is_changed;
-use crate::kept::keep;
 use crate::state::State;
 use crate::told::put_event;
 use crate::told::put_mark;
 use crate::told::put_step;
 use crate::told::put_used;
-use fastcgi::Conn;
-use fastcgi::Event;
-use fastcgi::QUERY;
-use fastcgi::StepResult;
-use fastcgi::Stepped;
-use fastcgi::Stream;
-use fastcgi::next_event;
-use fastcgi::refusal_number;
-use fastcgi::step;
-use fastcgi::stream_type;
+use console_queue::kept::is_changed;
+use console_queue::kept::keep;
+use fastcgi_queue::Conn;
+use fastcgi_queue::Event;
+use fastcgi_queue::QUERY;
+use fastcgi_queue::StepResult;
+use fastcgi_queue::Stepped;
+use fastcgi_queue::Stream;
+use fastcgi_queue::WAITS;
+use fastcgi_queue::next_event;
+use fastcgi_queue::refusal_number;
+use fastcgi_queue::step;
+use fastcgi_queue::stream_type;
 use script::page::end_line;
 use script::page::put_pairs;
 use script::pieces::piece_end;
@@ -136,14 +137,15 @@ fn kept_step(
     on: bool,
     lent: &mut [u8],
     gathered: &mut [u8; QUERY],
+    waits: &mut [u16; WAITS],
     kept: &mut [u8],
     piece: &[u8],
 ) -> Stepped {
-    keep(kept, c, lent, gathered);
+    keep(kept, c, lent, gathered, waits);
     if on {
-        return next_event(c, lent, gathered, piece);
+        return next_event(c, lent, gathered, waits, piece);
     }
-    step(c, lent, gathered, piece)
+    step(c, lent, gathered, waits, piece)
 }
 
 // A call over what is left of a piece.
@@ -153,10 +155,11 @@ fn take_step(
     piece: &[u8],
     lent: &mut [u8],
     gathered: &mut [u8; QUERY],
+    waits: &mut [u16; WAITS],
     kept: &mut [u8],
     page: &mut [u8],
 ) -> Fed {
-    let stepped = kept_step(f.conn, on, lent, gathered, kept, piece);
+    let stepped = kept_step(f.conn, on, lent, gathered, waits, kept, piece);
     let tale = tell_step(page, f.tale, stepped, piece);
     let conn = stepped.conn;
     Fed {
@@ -222,6 +225,7 @@ fn feed_all(
     input: &[u8],
     lent: &mut [u8],
     gathered: &mut [u8; QUERY],
+    waits: &mut [u16; WAITS],
     kept: &mut [u8],
     page: &mut [u8],
 ) -> Fed {
@@ -230,7 +234,16 @@ fn feed_all(
     let mut from: usize = 0;
     while from < end {
         let e = piece_end(from, size, input.len());
-        fed = take_step(fed, on, part(input, from, e), lent, gathered, kept, page);
+        fed = take_step(
+            fed,
+            on,
+            part(input, from, e),
+            lent,
+            gathered,
+            waits,
+            kept,
+            page,
+        );
         from = next_place(from, end, fed.tale);
     }
     fed
@@ -270,9 +283,10 @@ fn put_rest(
     kept: &[u8],
     lent: &[u8],
     gathered: &[u8; QUERY],
+    waits: &[u16; WAITS],
     input: &[u8],
 ) {
-    let changed = is_changed(kept, f.conn, lent, gathered);
+    let changed = is_changed(kept, f.conn, lent, gathered, waits);
     let at = put_last(page, f.tale, changed, input);
     end_line(page, at);
 }
@@ -296,8 +310,26 @@ fn behind_feed(s: State, f: Fed) -> State {
         conn: conn,
         event: last_told(before, f.tale),
         lent: s.lent,
+        lent_queue: s.lent_queue,
         reader: reader,
     }
+}
+
+// Feeds bytes, and tells what the calls told.
+fn feed_and_tell(
+    c: Conn,
+    size: usize,
+    on: bool,
+    input: &[u8],
+    lent: &mut [u8],
+    gathered: &mut [u8; QUERY],
+    waits: &mut [u16; WAITS],
+    kept: &mut [u8],
+    page: &mut [u8],
+) -> Fed {
+    let fed = feed_all(c, size, on, input, lent, gathered, waits, kept, page);
+    put_rest(page, fed, kept, lent, gathered, waits, input);
+    fed
 }
 
 // Feeds bytes in pieces of that size; of size 0, makes a single call over all of them. A call goes `on` to the next
@@ -309,10 +341,10 @@ pub fn feed(
     input: &[u8],
     lent: &mut [u8],
     gathered: &mut [u8; QUERY],
+    waits: &mut [u16; WAITS],
     kept: &mut [u8],
     page: &mut [u8],
 ) -> State {
-    let fed = feed_all(s.conn, size, on, input, lent, gathered, kept, page);
-    put_rest(page, fed, kept, lent, gathered, input);
+    let fed = feed_and_tell(s.conn, size, on, input, lent, gathered, waits, kept, page);
     behind_feed(s, fed)
 }

@@ -4,8 +4,6 @@ mod ask;
 mod command;
 mod correction;
 mod feeding;
-mod image;
-mod kept;
 mod poke;
 mod readings;
 mod state;
@@ -14,14 +12,27 @@ mod write;
 
 use crate::answer::answer;
 use crate::command::read_line;
-use crate::kept::KEPT;
-use crate::state::WHOLE;
 use crate::state::fresh;
-use fastcgi::QUERY;
+use console_queue::kept::KEPT;
+use console_queue::sizes::WHOLE;
+use console_queue::sizes::WHOLE_QUEUE;
+use fastcgi_queue::QUERY;
+use fastcgi_queue::QUEUE;
+use fastcgi_queue::WAITS;
 use script::form::BYTES;
 use script::input::Input;
 use script::input::LINE;
 use script::input::next_line;
+
+// Before the first line.
+fn unread() -> Input {
+    Input {
+        from: 0,
+        to: 0,
+        held: 0,
+        more: true,
+    }
+}
 
 // Answers every line. A proved loop has to end, and nothing says that the input does: so it counts its turns down, from
 // a number that no run uses up.
@@ -30,17 +41,15 @@ fn answer_all(
     line: &mut [u8],
     store: &mut [u8],
     gathered: &mut [u8; QUERY],
+    waits: &mut [u16; WAITS],
+    marks: &mut [u8; QUEUE],
+    queue: &mut [u8],
     kept: &mut [u8],
     bytes: &mut [u8],
     out: &mut [u8],
     page: &mut [u8],
 ) {
-    let mut input = Input {
-        from: 0,
-        to: 0,
-        held: 0,
-        more: true,
-    };
+    let mut input = unread();
     let mut state = fresh();
     let mut turns = u64::MAX;
     while turns > 0 {
@@ -50,7 +59,19 @@ fn answer_all(
             return;
         }
         let f = read_line(line, input.held, bytes);
-        state = answer(state, f, store, gathered, kept, bytes, out, page);
+        state = answer(
+            state,
+            f,
+            store,
+            gathered,
+            waits,
+            marks,
+            queue,
+            kept,
+            bytes,
+            out,
+            page,
+        );
     }
 }
 
@@ -58,6 +79,9 @@ fn answer_all(
 fn main() {
     let mut store = [0u8; WHOLE];
     let mut gathered = [0u8; QUERY];
+    let mut waits = [0u16; WAITS];
+    let mut marks = [0u8; QUEUE];
+    let mut queue = [0u8; WHOLE_QUEUE];
     let mut piece = io::large_buffer();
     let mut line = [0u8; LINE];
     let mut kept = [0u8; KEPT];
@@ -69,6 +93,9 @@ fn main() {
         &mut line,
         &mut store,
         &mut gathered,
+        &mut waits,
+        &mut marks,
+        &mut queue,
         &mut kept,
         &mut bytes,
         &mut out,

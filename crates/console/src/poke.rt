@@ -1,8 +1,8 @@
 // Fields of the state set to whatever is given.
 use connection::state::Frame;
 use connection::state::Target;
-use fastcgi::Conn;
-use fastcgi::QUERY;
+use fastcgi_queue::Conn;
+use fastcgi_queue::QUERY;
 use script::fields::BESIDE;
 use script::fields::BODY;
 use script::fields::GATHERED;

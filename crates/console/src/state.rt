@@ -1,30 +1,30 @@
 // What the console keeps from line to line, beside the buffers.
 use conn_frame::closed;
-use fastcgi::Conn;
-use fastcgi::Event;
 use fastcgi::Reader;
-use fastcgi::STORE;
 use fastcgi::new_reader;
+use fastcgi_queue::Conn;
+use fastcgi_queue::Event;
+use fastcgi_queue::QUEUE;
+use fastcgi_queue::STORE;
 
-// The store has one byte more than a connection takes, so that one that is too long can be lent.
-pub const WHOLE: usize = STORE + 1;
-
-// The connection, the event of the last step that was not refused, how many bytes of the store are lent, and the reader
-// of a body.
+// The connection, the event of the last step that was not refused, how many bytes of the store and of the queue are
+// lent, and the reader of a body.
 pub struct State {
     pub conn: Conn,
     pub event: Event,
     pub lent: usize,
+    pub lent_queue: usize,
     pub reader: Reader,
 }
 
-// A closed connection, no event, and a store of the right size lent.
+// A closed connection, no event, and a store and a queue of the right size lent.
 pub fn fresh() -> State {
     let c = closed();
     State {
         conn: c,
         event: Event::Nothing,
         lent: STORE,
+        lent_queue: QUEUE,
         reader: new_reader(),
     }
 }
@@ -37,6 +37,7 @@ pub fn with_conn(s: State, c: Conn) -> State {
         conn: c,
         event: e,
         lent: s.lent,
+        lent_queue: s.lent_queue,
         reader: reader,
     }
 }
@@ -49,6 +50,7 @@ pub fn with_reader(s: State, r: Reader) -> State {
         conn: c,
         event: e,
         lent: s.lent,
+        lent_queue: s.lent_queue,
         reader: r,
     }
 }

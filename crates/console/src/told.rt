@@ -1,8 +1,8 @@
 // What steps tell.
 use event_text::LONGEST;
 use event_text::write_line;
-use fastcgi::Event;
-use fastcgi::Stream;
+use fastcgi_queue::Event;
+use fastcgi_queue::Stream;
 use script::page::put;
 use script::page::put_hex;
 use script::page::put_number;

@@ -4,29 +4,31 @@ use crate::command::FINISH;
 use crate::command::PUT;
 use crate::command::READING;
 use crate::command::SAY;
-use crate::kept::is_changed;
-use crate::kept::keep;
 use crate::state::State;
-use fastcgi::Conn;
-use fastcgi::Event;
-use fastcgi::FinishResult;
-use fastcgi::Output;
-use fastcgi::PairWrote;
-use fastcgi::QUERY;
+use console_queue::calls::output_of;
+use console_queue::kept::is_changed;
+use console_queue::kept::keep;
 use fastcgi::Reading;
 use fastcgi::ReadingFault;
 use fastcgi::ReadingWrote;
-use fastcgi::Refusal;
-use fastcgi::Written;
-use fastcgi::Wrote;
-use fastcgi::end_output;
-use fastcgi::finish;
-use fastcgi::owed_reply;
 use fastcgi::reading_fault_number;
-use fastcgi::refusal_number;
-use fastcgi::write_output;
-use fastcgi::write_pair;
 use fastcgi::write_reading;
+use fastcgi_queue::Conn;
+use fastcgi_queue::Event;
+use fastcgi_queue::FinishResult;
+use fastcgi_queue::Output;
+use fastcgi_queue::PairWrote;
+use fastcgi_queue::QUERY;
+use fastcgi_queue::Refusal;
+use fastcgi_queue::WAITS;
+use fastcgi_queue::Written;
+use fastcgi_queue::Wrote;
+use fastcgi_queue::end_output;
+use fastcgi_queue::finish;
+use fastcgi_queue::owed_reply;
+use fastcgi_queue::refusal_number;
+use fastcgi_queue::write_output;
+use fastcgi_queue::write_pair;
 use reading::tenths_of;
 use script::form::Form;
 use script::number::low16;
@@ -114,13 +116,20 @@ fn of_written(written: Written) -> Called {
 }
 
 // Data to a request's STDOUT or STDERR.
-fn say(c: Conn, id: u16, output: Output, bytes: &[u8], room: &mut [u8]) -> Called {
-    of_written(write_output(c, id, output, bytes, room))
+fn say(
+    c: Conn,
+    waits: &[u16; WAITS],
+    id: u16,
+    output: Output,
+    bytes: &[u8],
+    room: &mut [u8],
+) -> Called {
+    of_written(write_output(c, waits, id, output, bytes, room))
 }
 
 // The end of one of them.
-fn end_stream(c: Conn, id: u16, output: Output, room: &mut [u8]) -> Called {
-    of_written(end_output(c, id, output, room))
+fn end_stream(c: Conn, waits: &[u16; WAITS], id: u16, output: Output, room: &mut [u8]) -> Called {
+    of_written(end_output(c, waits, id, output, room))
 }
 
 // The reply that an event owes.
@@ -142,21 +151,20 @@ fn pair(c: Conn, name: &[u8], value: &[u8], room: &mut [u8]) -> Called {
 }
 
 // The end of a request.
-fn finish_one(c: Conn, store: &mut [u8], id: u16, status: u32, room: &mut [u8]) -> Called {
-    let finished = finish(c, store, id, status, room);
+fn finish_one(
+    c: Conn,
+    store: &mut [u8],
+    waits: &mut [u16; WAITS],
+    id: u16,
+    status: u32,
+    room: &mut [u8],
+) -> Called {
+    let finished = finish(c, waits, store, id, status, room);
     let end = finished.result;
     let conn = finished.conn;
     Called {
         effect: of_finish(end),
         conn: conn,
-    }
-}
-
-// The stream of a number.
-fn output_of(n: u64) -> Output {
-    match n {
-        0 => Output::Stdout,
-        _ => Output::Stderr,
     }
 }
 
@@ -167,6 +175,7 @@ fn call(
     kind: u64,
     values: [u64; 4],
     store: &mut [u8],
+    waits: &mut [u16; WAITS],
     bytes: &[u8],
     room: &mut [u8],
 ) -> Called {
@@ -175,10 +184,10 @@ fn call(
     let b = values[1];
     let m = values[2] as usize;
     match kind {
-        SAY => say(c, id, output_of(b), part(bytes, 0, m), room),
-        END => end_stream(c, id, output_of(b), room),
+        SAY => say(c, waits, id, output_of(b), part(bytes, 0, m), room),
+        END => end_stream(c, waits, id, output_of(b), room),
         PUT => pair(c, part(bytes, 0, a), part(bytes, a, b as usize), room),
-        FINISH => finish_one(c, store, id, low32(b), room),
+        FINISH => finish_one(c, store, waits, id, low32(b), room),
         READING => reading(
             c,
             low32(values[0]),
@@ -191,11 +200,18 @@ fn call(
 }
 
 // The same call, into a room that is filled first.
-fn fill_and_call(s: State, f: Form, store: &mut [u8], bytes: &[u8], room: &mut [u8]) -> Called {
+fn fill_and_call(
+    s: State,
+    f: Form,
+    store: &mut [u8],
+    waits: &mut [u16; WAITS],
+    bytes: &[u8],
+    room: &mut [u8],
+) -> Called {
     let e = s.event;
     let values = f.values;
     fill(room);
-    call(s.conn, e, f.kind, values, store, bytes, room)
+    call(s.conn, e, f.kind, values, store, waits, bytes, room)
 }
 
 // The same call; what it finds is kept.
@@ -204,12 +220,13 @@ pub fn kept_call(
     f: Form,
     store: &mut [u8],
     gathered: &[u8; QUERY],
+    waits: &mut [u16; WAITS],
     kept: &mut [u8],
     bytes: &[u8],
     room: &mut [u8],
 ) -> Called {
-    keep(kept, s.conn, store, gathered);
-    fill_and_call(s, f, store, bytes, room)
+    keep(kept, s.conn, store, gathered, waits);
+    fill_and_call(s, f, store, waits, bytes, room)
 }
 
 // What a call came to and left in the room.
@@ -241,9 +258,10 @@ pub fn put_effect(
     kept: &[u8],
     store: &[u8],
     gathered: &[u8; QUERY],
+    waits: &[u16; WAITS],
     room: &[u8],
 ) {
-    let changed = is_changed(kept, called.conn, store, gathered);
+    let changed = is_changed(kept, called.conn, store, gathered, waits);
     let e = called.effect;
     let at = put_call(page, 0, e, changed, room);
     end_line(page, at);

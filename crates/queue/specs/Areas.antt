@@ -4,14 +4,16 @@ use Prim.Native.Nat.{ℕ, _+_, _-_, _*_, _≤_, _<_}
 use mathlib.Core.Bool.{true, false}
 use mathlib.Core.List.{List, _++_, append-assoc}
 use native.Mathlib.Omega.{arith}
-use lib.ListN.{length, take, drop, length-append, length-take, length-drop, length-set, take-append-drop}
-use lib.Seq.{getD-set-same, getD-set-other, length-take-le, take-at, drop-at, take-append-le, drop-append-le, drop-append-add}
+use lib.ListN.{length, take, drop, length-append, length-take, length-drop, take-append-drop}
+use lib.Seq.{length-take-le, take-at, drop-at, take-append-le, drop-append-le, drop-append-add}
 use lib.Dec.{ltb}
 use borrow.Author.Tests.{ltb-true, ltb-false}
 use Rattle.wire.specs.Test.{byTest}
 use Rattle.connection.specs.Sizes.{SLOTS}
-use Rattle.queue_slot.specs.Wait.{ROOM, NoEnds, Wait}
+use Rattle.queue_slot.specs.Wait.{ROOM, Wait}
 use Rattle.queue_slot.specs.WaitLaws.{Sized}
+use Rattle.queue.specs.Numbers.{WAITS}
+use Rattle.queue.specs.NumberLaws.{numbers-length, count-of-put, front-of-put, last-of-put, status-of-put, count-of-other, front-of-other, last-of-other, status-of-other}
 use Rattle.queue.specs.Calls.{QUEUE, QueueMemory, roomAt, putRoom, waitAt, putWait}
 
 -- an area in the first of two lists, and one behind it
@@ -63,12 +65,9 @@ module _ (store : List ℕ) (i : ℕ) (area : List ℕ) (full : length store ≡
           ∙ ap (λ (l : List ℕ). roomAt l j) (take-append-drop (i * ROOM + ROOM) store)
 
 -- ---- what waits in a slot
--- The arrays, the queue and the marks have their sizes.
+-- The numbers, the queue and the marks have their sizes.
 pub record Roomy (m : QueueMemory) : Type 0 where
-  pub counts : length (m .waits .counts) ≡ SLOTS
-  pub fronts : length (m .waits .fronts) ≡ SLOTS
-  pub lasts : length (m .waits .lasts) ≡ SLOTS
-  pub statuses : length (m .waits .statuses) ≡ SLOTS
+  pub waits : length (m .waits) ≡ WAITS
   pub queue : length (m .queue) ≡ QUEUE
   pub marks : length (m .marks) ≡ QUEUE
 
@@ -78,23 +77,23 @@ module _ (m : QueueMemory) (i : ℕ) (w : Wait) (z : Roomy m) (low : i < SLOTS) 
   unfolding waitAt putWait
   wait-of-put =
       rw (
-        getD-set-same (m .waits .counts) i (w .count) 0 (omega (arith, z .counts)),
-        getD-set-same (m .waits .fronts) i (w .front) NoEnds (omega (arith, z .fronts)),
-        getD-set-same (m .waits .lasts) i (w .last) false (omega (arith, z .lasts)),
-        getD-set-same (m .waits .statuses) i (w .status) 0 (omega (arith, z .statuses)),
+        count-of-put (m .waits) i w (z .waits) low,
+        front-of-put (m .waits) i w (z .waits) low,
+        last-of-put (m .waits) i w (z .waits) low,
+        status-of-put (m .waits) i w (z .waits) low,
         room-of-put (m .queue) i (w .bytes) (z .queue) low (s .bytes-size),
         room-of-put (m .marks) i (w .marks) (z .marks) low (s .marks-size),
       )
 
   -- Another slot stays.
-  pub wait-of-other : (j : ℕ) → (j ≡ i → ⊥) → waitAt (putWait m i w) j ≡ waitAt m j
+  pub wait-of-other : (j : ℕ) → j < SLOTS → (j ≡ i → ⊥) → waitAt (putWait m i w) j ≡ waitAt m j
   unfolding waitAt putWait
-  wait-of-other j d =
+  wait-of-other j h d =
       rw (
-        getD-set-other (m .waits .counts) i j (w .count) 0 d,
-        getD-set-other (m .waits .fronts) i j (w .front) NoEnds d,
-        getD-set-other (m .waits .lasts) i j (w .last) false d,
-        getD-set-other (m .waits .statuses) i j (w .status) 0 d,
+        count-of-other (m .waits) i w (z .waits) low j h d,
+        front-of-other (m .waits) i w (z .waits) low j h d,
+        last-of-other (m .waits) i w (z .waits) low j h d,
+        status-of-other (m .waits) i w (z .waits) low j h d,
         room-of-other (m .queue) i (w .bytes) (z .queue) low (s .bytes-size) j d,
         room-of-other (m .marks) i (w .marks) (z .marks) low (s .marks-size) j d,
       )
@@ -103,10 +102,7 @@ module _ (m : QueueMemory) (i : ℕ) (w : Wait) (z : Roomy m) (low : i < SLOTS) 
   pub roomy-put : Roomy (putWait m i w)
   unfolding putWait
   roomy-put = record {
-    counts = length-set (m .waits .counts) i (w .count) ∙ z .counts;
-    fronts = length-set (m .waits .fronts) i (w .front) ∙ z .fronts;
-    lasts = length-set (m .waits .lasts) i (w .last) ∙ z .lasts;
-    statuses = length-set (m .waits .statuses) i (w .status) ∙ z .statuses;
+    waits = numbers-length (m .waits) i w (z .waits) low;
     queue = put-room-length (m .queue) i (w .bytes) (z .queue) low (s .bytes-size);
     marks = put-room-length (m .marks) i (w .marks) (z .marks) low (s .marks-size);
   }

@@ -5,7 +5,7 @@ use Prim.Native.Nat.{ℕ, zero, suc, _+_, _*_, _/_}
 use mathlib.Core.Bool.{Bool, true, false, not}
 use mathlib.Core.List.{List, [], _∷_, _++_, flatten}
 use mathlib.Core.Option.{Option, none, some}
-use lib.ListN.{length, take, drop, getD, set, replicate}
+use lib.ListN.{length, take, drop, getD, set}
 use Rattle.wire.specs.Test.{if_then_else_, _<?_, _≤?_, _=?_}
 use Rattle.wire.specs.Buffer.{putAt, zeros}
 use Rattle.slot_word.specs.Word.{taken}
@@ -18,7 +18,7 @@ use Rattle.connection.specs.declared.state.Conn.{Conn}
 use Rattle.connection.specs.declared.answer.Output.{Output}
 use Rattle.connection.specs.Sizes.{SLOTS, STORE}
 use Rattle.connection.specs.Codes.{outputType}
-use Rattle.connection.specs.Refusal.{refusalOrder, Row, _when_, firstIn}
+use Rattle.connection.specs.Refusal.{Row, _when_, refusal}
 use Rattle.connection.specs.RequestCalls as Of
 use Rattle.connection.specs.Slots.{requestAt, areaAt, putArea, find, isFound}
 use Rattle.connection.specs.Shape.{inShape, _and_}
@@ -26,33 +26,29 @@ use Rattle.connection.specs.Step.{Stepped, stepped, stays, closedConn}
 use Rattle.connection.specs.Calls as C
 use Rattle.connection.specs.Run.{Memory}
 use Rattle.queue_slot.specs.Finishing.{spentBy}
-use Rattle.queue_slot.specs.Wait.{ROOM, Ends, NoEnds, Wait, nothingIn, anything, hasRoomFor, waitData, waitEnd, waitFinish, Served, ServesNothing, ServesEnd, ServesData, ServesLast, served}
+use Rattle.queue.specs.Numbers.{NEXT, nobodyWaits, countAt, frontAt, lastAt, statusAt, numbersAt}
+use Rattle.queue_slot.specs.Wait.{ROOM, Wait, nothingIn, someWaits, anything, hasRoomFor, waitData, waitEnd, waitFinish, Served, ServesNothing, ServesEnd, ServesData, ServesLast, served}
 
 -- ---- the state
--- By value, slot by slot: how many data bytes wait, the ends before them, whether END waits and its application status;
--- and the slot that the pump looks at first.
-pub record Waits : Type 0 where
-  pub counts : List ℕ
-  pub fronts : List Ends
-  pub lasts : List Bool
-  pub statuses : List ℕ
-  pub next : ℕ
-
 -- the queue: ROOM bytes to a slot
 abbrev pub QUEUE : ℕ
 QUEUE = SLOTS * ROOM
 
--- nothing waits anywhere, and the pump begins with slot 0
-abbrev pub nobodyWaits : Waits
-nobodyWaits = record { counts = replicate SLOTS 0; fronts = replicate SLOTS NoEnds; lasts = replicate SLOTS false; statuses = replicate SLOTS 0; next = 0 }
-
--- State and store as before; what waits by value; the marks, which are lent beside the state as the gathered bytes are;
--- the queue.
+-- State and store as before; what waits, by numbers and marks, which are lent beside the state as the gathered bytes
+-- are; the queue.
 pub record QueueMemory : Type 0 where
   pub memory : Memory
-  pub waits : Waits
+  pub waits : List ℕ
   pub marks : List ℕ
   pub queue : List ℕ
+
+-- state and store with what waits beside them
+abbrev pub beside : Memory → List ℕ → List ℕ → List ℕ → QueueMemory
+beside memory waits marks queue = record { memory = memory; waits = waits; marks = marks; queue = queue }
+
+-- a connection's value and all that is lent beside it
+abbrev pub lent : Conn → List ℕ → List ℕ → List ℕ → List ℕ → List ℕ → QueueMemory
+lent c gathered store waits marks queue = beside (record { state = record { conn = c; gathered = gathered }; store = store }) waits marks queue
 
 -- the connection's value
 abbrev pub connOf : QueueMemory → Conn
@@ -70,43 +66,34 @@ putRoom l i x = take (i * ROOM) l ++ (x ++ drop (i * ROOM + ROOM) l)
 unfoldable pub waitAt : QueueMemory → ℕ → Wait
 waitAt m i =
     record {
-      count = getD (m .waits .counts) i 0;
-      front = getD (m .waits .fronts) i NoEnds;
-      last = getD (m .waits .lasts) i false;
-      status = getD (m .waits .statuses) i 0;
+      count = countAt (m .waits) i;
+      front = frontAt (m .waits) i;
+      last = lastAt (m .waits) i;
+      status = statusAt (m .waits) i;
       bytes = roomAt (m .queue) i;
       marks = roomAt (m .marks) i;
     }
 
--- the numbers of slot i as those of a slot, and the slot that the pump looks at first
-abbrev pub numbersAt : Waits → ℕ → Wait → ℕ → Waits
-numbersAt a i w next =
-    record { counts = set (a .counts) i (w .count); fronts = set (a .fronts) i (w .front); lasts = set (a .lasts) i (w .last); statuses = set (a .statuses) i (w .status); next = next }
-
 -- what waits in slot i is now this
 unfoldable pub putWait : QueueMemory → ℕ → Wait → QueueMemory
-putWait m i w = record { memory = m .memory; waits = numbersAt (m .waits) i w (m .waits .next); marks = putRoom (m .marks) i (w .marks); queue = putRoom (m .queue) i (w .bytes) }
+putWait m i w = record { memory = m .memory; waits = numbersAt (m .waits) i w; marks = putRoom (m .marks) i (w .marks); queue = putRoom (m .queue) i (w .bytes) }
 
 -- with another value of the connection
 abbrev pub withConn : QueueMemory → Conn → QueueMemory
 withConn m c = record { memory = record { state = record { conn = c; gathered = m .memory .state .gathered }; store = m .memory .store }; waits = m .waits; marks = m .marks; queue = m .queue }
 
 -- ---- shape: over ROOM waiting in an area, anything in a free slot
-unfoldable pub waitFits : QueueMemory → ℕ → Bool
-waitFits m i = (getD (m .waits .counts) i 0 ≤? ROOM) and (if taken i (connOf m .table .occupied) then true else not (anything (waitAt m i)))
+unfoldable pub waitFits : List ℕ → ℕ → ℕ → Bool
+waitFits waits occupied i = (countAt waits i ≤? ROOM) and (if taken i occupied then true else not (someWaits (countAt waits i) (frontAt waits i) (lastAt waits i)))
 
 -- n slots from i on
-unfoldable pub waitsFit : ℕ → QueueMemory → ℕ → Bool
-waitsFit zero m i = true
-waitsFit (suc n) m i = waitFits m i and waitsFit n m (i + 1)
+unfoldable pub waitsFit : ℕ → List ℕ → ℕ → ℕ → Bool
+waitsFit zero waits occupied i = true
+waitsFit (suc n) waits occupied i = waitFits waits occupied i and waitsFit n waits occupied (i + 1)
 
 -- row 9 is that this does not hold
 unfoldable pub queueInShape : QueueMemory → Bool
-queueInShape m = inShape (connOf m) and waitsFit SLOTS m 0
-
--- the order of refusals, 10 last
-abbrev pub firstRefusal : List Row → ℕ
-firstRefusal rows = firstIn (refusalOrder ++ 10 ∷ []) rows
+queueInShape m = inShape (connOf m) and waitsFit SLOTS (m .waits) (connOf m .table .occupied) 0
 
 -- rows 9, 1 and 3
 abbrev pub rowsOf : QueueMemory → ℕ → List Row → List Row
@@ -122,7 +109,7 @@ requestOf m id = requestAt (connOf m .table) (slotOf m id)
 
 -- the request is between its finish and its END
 abbrev pub isLeaving : QueueMemory → ℕ → Bool
-isLeaving m id = getD (m .waits .lasts) (slotOf m id) false
+isLeaving m id = lastAt (m .waits) (slotOf m id)
 
 -- one of two conditions
 abbrev pub or : Bool → Bool → Bool
@@ -135,7 +122,7 @@ streamRows m id o rows =
 
 -- ---- a step
 unfoldable pub queueStepRefusal : QueueMemory → ℕ
-queueStepRefusal m = firstRefusal ((2 when not (length (m .memory .store) =? STORE)) ∷ (9 when not (queueInShape m)) ∷ (1 when not (connOf m .«open»)) ∷ [])
+queueStepRefusal m = refusal ((2 when not (length (m .memory .store) =? STORE)) ∷ (9 when not (queueInShape m)) ∷ (1 when not (connOf m .«open»)) ∷ [])
 
 -- A step is as it is without a queue; only row 9 is wider. What waits it does not see.
 unfoldable pub queueStep : QueueMemory → List ℕ → Stepped
@@ -154,7 +141,7 @@ putBoth m i r w = putWait (withConn m (C.putsRequest (connOf m) i r)) i w
 -- rows of a queued say: the queue has its size; 10, last, where the data has no room
 unfoldable pub sayRefusal : QueueMemory → ℕ → Output → List ℕ → ℕ
 sayRefusal m id o content =
-    firstRefusal ((2 when not (length (m .queue) =? QUEUE)) ∷ rowsOf m id (streamRows m id o ((10 when not (hasRoomFor (waitAt m (slotOf m id)) content)) ∷ [])))
+    refusal ((2 when not (length (m .queue) =? QUEUE)) ∷ rowsOf m id (streamRows m id o ((10 when not (hasRoomFor (waitAt m (slotOf m id)) content)) ∷ [])))
 
 -- Data comes to wait, and the request is as if it had been said.
 unfoldable pub queueSay : QueueMemory → ℕ → Output → List ℕ → Queueing
@@ -165,8 +152,8 @@ queueSay m id o content =
 -- The end of a stream comes to wait; the stream is ended at once.
 unfoldable pub queueEnd : QueueMemory → ℕ → Output → Queueing
 queueEnd m id o =
-    if firstRefusal (rowsOf m id (streamRows m id o [])) =? 0 then record { refusal = 0; left = putBoth m (slotOf m id) (Of.endedOn (requestOf m id) o) (waitEnd (waitAt m (slotOf m id)) o) }
-    else record { refusal = firstRefusal (rowsOf m id (streamRows m id o [])); left = m }
+    if refusal (rowsOf m id (streamRows m id o [])) =? 0 then record { refusal = 0; left = putBoth m (slotOf m id) (Of.endedOn (requestOf m id) o) (waitEnd (waitAt m (slotOf m id)) o) }
+    else record { refusal = refusal (rowsOf m id (streamRows m id o [])); left = m }
 
 -- the rest of a half-read record of the slot is skipped
 abbrev pub skipping : Conn → ℕ → Conn
@@ -180,15 +167,15 @@ skipping c i =
 -- The ends that are owed and END come to wait. The request is spent, and the rest of its half-read record is skipped.
 unfoldable pub queueFinish : QueueMemory → ℕ → ℕ → Queueing
 queueFinish m id status =
-    if firstRefusal (rowsOf m id ((5 when isLeaving m id) ∷ [])) =? 0 then record {
+    if refusal (rowsOf m id ((5 when isLeaving m id) ∷ [])) =? 0 then record {
       refusal = 0;
       left = putBoth (withConn m (skipping (connOf m) (slotOf m id))) (slotOf m id) (spentBy (requestOf m id)) (waitFinish (waitAt m (slotOf m id)) (requestOf m id .state) status);
     }
-    else record { refusal = firstRefusal (rowsOf m id ((5 when isLeaving m id) ∷ [])); left = m }
+    else record { refusal = refusal (rowsOf m id ((5 when isLeaving m id) ∷ [])); left = m }
 
 -- ---- calls that read: as before, with what waits in shape
 unfoldable pub lentRefusal : QueueMemory → ℕ → ℕ
-lentRefusal m id = firstRefusal ((2 when not (length (m .memory .store) =? STORE)) ∷ rowsOf m id [])
+lentRefusal m id = refusal ((2 when not (length (m .memory .store) =? STORE)) ∷ rowsOf m id [])
 
 -- the value of a name, or the fallback
 unfoldable pub queueValue : QueueMemory → ℕ → List ℕ → List ℕ → List ℕ
@@ -206,22 +193,28 @@ queuePair m id k = if lentRefusal m id =? 0 then C.pairAtNumber (connOf m) (m .m
 unfoldable pub queueWalk : QueueMemory → ℕ → Of.Walk
 queueWalk m id = if lentRefusal m id =? 0 then C.walk (connOf m) (m .memory .store) id else Of.noWalk (lentRefusal m id)
 
+-- how many requests are active; one between finish and END is
+unfoldable pub queueCount : QueueMemory → C.Counted
+queueCount m =
+    let n = refusal ((9 when not (queueInShape m)) ∷ (1 when not (connOf m .«open»)) ∷ []) in
+    if n =? 0 then C.activeCount (connOf m) else record { refusal = n; count = 0 }
+
 -- ---- straight calls: as before, but 5 between finish and END, and 10, last, while anything of the request waits
 unfoldable pub straightSay : QueueMemory → ℕ → Output → List ℕ → List ℕ → C.Written
 straightSay m id o content buffer =
-    let n = firstRefusal (rowsOf m id (streamRows m id o ((6 when (length buffer <? length (Of.sayBytes (requestOf m id) o content))) ∷ (10 when anything (waitAt m (slotOf m id))) ∷ []))) in
+    let n = refusal (rowsOf m id (streamRows m id o ((6 when (length buffer <? length (Of.sayBytes (requestOf m id) o content))) ∷ (10 when anything (waitAt m (slotOf m id))) ∷ []))) in
     if n =? 0 then C.say (connOf m) id o content buffer else C.unwritten n (connOf m) buffer
 
 -- the end of a stream, straight out
 unfoldable pub straightEnd : QueueMemory → ℕ → Output → List ℕ → C.Written
 straightEnd m id o buffer =
-    let n = firstRefusal (rowsOf m id (streamRows m id o ((6 when (length buffer <? length (Of.endBytes (requestOf m id) o))) ∷ (10 when anything (waitAt m (slotOf m id))) ∷ []))) in
+    let n = refusal (rowsOf m id (streamRows m id o ((6 when (length buffer <? length (Of.endBytes (requestOf m id) o))) ∷ (10 when anything (waitAt m (slotOf m id))) ∷ []))) in
     if n =? 0 then C.endStream (connOf m) id o buffer else C.unwritten n (connOf m) buffer
 
 -- finish, straight out
 unfoldable pub straightFinish : QueueMemory → ℕ → ℕ → List ℕ → C.Finished
 straightFinish m id status buffer =
-    let n = firstRefusal ((2 when not (length (m .memory .store) =? STORE)) ∷ rowsOf m id ((5 when isLeaving m id) ∷ (6 when (length buffer <? length (Of.finishBytes (requestOf m id) status))) ∷ (10 when anything (waitAt m (slotOf m id))) ∷ [])) in
+    let n = refusal ((2 when not (length (m .memory .store) =? STORE)) ∷ rowsOf m id ((5 when isLeaving m id) ∷ (6 when (length buffer <? length (Of.finishBytes (requestOf m id) status))) ∷ (10 when anything (waitAt m (slotOf m id))) ∷ [])) in
     if n =? 0 then C.finish (connOf m) (m .memory .store) id status buffer else C.unfinished n (connOf m) (m .memory .store) buffer
 
 -- ---- the pump
@@ -232,7 +225,7 @@ pub record PumpedRecord : Type 0 where
 
 -- slot i was served: the next turn begins with the slot after it
 abbrev pub servedLast : QueueMemory → ℕ → QueueMemory
-servedLast m i = record { memory = m .memory; waits = numbersAt (m .waits) i (waitAt m i) (slotAfter SLOTS i); marks = m .marks; queue = m .queue }
+servedLast m i = record { memory = m .memory; waits = set (m .waits) NEXT (slotAfter SLOTS i); marks = m .marks; queue = m .queue }
 
 -- END is written: slot, area and id are given back; without KEEP_CONN the connection closes
 abbrev pub releasedSlot : QueueMemory → ℕ → Bool → QueueMemory
@@ -240,7 +233,7 @@ releasedSlot m i true =
     let c = m .memory in
     record {
       memory = record { state = record { conn = C.released (c .state .conn) i; gathered = c .state .gathered }; store = putArea (c .store) i (zeros (length (areaAt (c .store) i))) };
-      waits = numbersAt (m .waits) i (nothingIn [] []) (m .waits .next);
+      waits = numbersAt (m .waits) i (nothingIn [] []);
       marks = m .marks;
       queue = m .queue;
     }
@@ -280,7 +273,7 @@ firstSlot n = if n <? SLOTS then n else 0
 unfoldable pub turned : ℕ → QueueMemory → Turned
 turned zero m = record { records = []; left = m }
 turned (suc k) m =
-    onSome (nextWaiting SLOTS SLOTS (slotWaits m) (firstSlot (m .waits .next)))
+    onSome (nextWaiting SLOTS SLOTS (slotWaits m) (firstSlot (getD (m .waits) NEXT 0)))
     (λ i. let p = pumpSlot m i in let t = turned k (p .left) in record { records = p .bytes ∷ t .records; left = t .left })
     (record { records = []; left = m })
 
@@ -298,7 +291,7 @@ pub record Pumped : Type 0 where
 -- overflow.)
 unfoldable pub pumpRefusal : QueueMemory → ℕ → List ℕ → ℕ
 pumpRefusal m allowance buffer =
-    firstRefusal
+    refusal
     ((2 when or (not (length (m .memory .store) =? STORE)) (not (length (m .queue) =? QUEUE)))
     ∷ (9 when not (queueInShape m))
     ∷ (1 when not (connOf m .«open»))

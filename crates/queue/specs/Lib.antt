@@ -1,7 +1,10 @@
+pub mod Numbers
 pub mod Calls
+pub mod Answer
 pub mod Run
 pub mod Isolation
 pub mod Fairness
 pub mod NothingLost
+pub mod NumberLaws
 pub mod Areas
 pub mod PumpTests

@@ -27,18 +27,23 @@ use Rattle.connection.specs.Calls as C
 use Rattle.connection.specs.Run.{startOf}
 use Rattle.connection.specs.Bytewise.{showing}
 use Rattle.queue_slot.specs.Wait.{markOf, markStream, endsOf, markEnds, markEnded, anything, hasRoomFor, waitData, waitEnd, waitFinish, runLength, withoutFirst, serveRun, serveData}
+use Rattle.queue.specs.Numbers.{nobodyWaits, countAt, frontAt, lastAt, statusAt, putCount, putFront, putLast, numbersAt}
 use Rattle.queue.specs.Calls as T
-use Rattle.queue.specs.Calls.{queueStep, QueueMemory, QUEUE, nobodyWaits, pump}
+use Rattle.queue.specs.Calls.{queueStep, QueueMemory, QUEUE, pump}
 use Rattle.queue.specs.Run.{Asking, Answering, Straightly, Queued, QueueOperation, StepOver, CallFor, TurnWith, Straight, ToSay, ToEnd, ToFinish, queueCalled, queueAfter, finalQueue, bytesIn}
 
 -- a fresh start
-abbrev begins : QueueMemory
+abbrev pub begins : QueueMemory
 begins = record { memory = startOf (zeros QUERY) (zeros STORE); waits = nobodyWaits; marks = zeros QUEUE; queue = zeros QUEUE }
 
--- request id opened with KEEP_CONN, its PARAMS ended
-abbrev opening : ℕ → List QueueOperation
-opening id =
-    StepOver (1 ∷ 1 ∷ 0 ∷ id ∷ 0 ∷ 8 ∷ 0 ∷ 0 ∷ []) ∷ StepOver (0 ∷ 1 ∷ 1 ∷ 0 ∷ 0 ∷ 0 ∷ 0 ∷ 0 ∷ []) ∷ StepOver (1 ∷ 4 ∷ 0 ∷ id ∷ 0 ∷ 0 ∷ 0 ∷ 0 ∷ []) ∷ []
+-- request id opened with these flags, its PARAMS ended
+abbrev openingWith : ℕ → ℕ → List QueueOperation
+openingWith flags id =
+    StepOver (1 ∷ 1 ∷ 0 ∷ id ∷ 0 ∷ 8 ∷ 0 ∷ 0 ∷ []) ∷ StepOver (0 ∷ 1 ∷ flags ∷ 0 ∷ 0 ∷ 0 ∷ 0 ∷ 0 ∷ []) ∷ StepOver (1 ∷ 4 ∷ 0 ∷ id ∷ 0 ∷ 0 ∷ 0 ∷ 0 ∷ []) ∷ []
+
+-- with KEEP_CONN
+abbrev pub opening : ℕ → List QueueOperation
+opening id = openingWith 1 id
 
 -- 5 and 9 open; 5 says two bytes and finishes, 9 says one byte
 abbrev said : QueueMemory
@@ -46,8 +51,9 @@ said =
     finalQueue begins
     (opening 5 ++ (opening 9 ++ (CallFor 5 (ToSay Output.Stdout (97 ∷ 98 ∷ [])) ∷ CallFor 5 (ToFinish 7) ∷ CallFor 9 (ToSay Output.Stderr (99 ∷ [])) ∷ [])))
 
-unfoldable computing : Unit {0}
-unfolding copied taken lowestFree withBit withSlot withoutBit withoutSlot inHeader advanced headerOf headerBytes beginBodyOf endBodyBytes paddingOf recordBytes pairsIn pairsFrom endingOf wellFormed repeatsIn repeats slotAfter nextWaiting withTurn withLife faulted turned paramsFault paramsEnded onParams onStdin counted aborted onInput onLive onHeader opened Of.saidOn Of.endedOn Of.owesOut Of.owesErr requestAt areaAt putRequest putArea takeSlot freeSlot holdsId findFrom idFits slotsFit positionFits inShape onInactive onActive judged opens begun ofBegin ofRequest advances stepRefusal stepped started startOf showing markOf markStream endsOf markEnds markEnded anything hasRoomFor waitData waitEnd waitFinish spentBy runLength withoutFirst serveRun serveData T.waitAt T.putWait T.waitFits T.waitsFit T.queueInShape T.queueStepRefusal T.queueStep T.sayRefusal T.queueSay T.queueEnd T.queueFinish T.writeServed T.pumpSlot T.turned T.pumpRefusal pump queueCalled queueAfter finalQueue bytesIn flatten T.straightSay T.straightEnd T.straightFinish Of.writes Of.sayIn Of.finishBytes Of.finishIn C.lentRefusal C.callRefusal C.say C.released C.finishes C.finish C.pairAtNumber Of.pairIn streamBytes chunks chunksIn
+-- what a run is computed with
+unfoldable pub computing : Unit {0}
+unfolding copied taken lowestFree withBit withSlot withoutBit withoutSlot inHeader advanced headerOf headerBytes beginBodyOf endBodyBytes paddingOf recordBytes pairsIn pairsFrom endingOf wellFormed repeatsIn repeats slotAfter nextWaiting withTurn withLife faulted turned paramsFault paramsEnded onParams onStdin counted aborted onInput onLive onHeader opened Of.saidOn Of.endedOn Of.owesOut Of.owesErr requestAt areaAt putRequest putArea takeSlot freeSlot holdsId findFrom idFits slotsFit positionFits inShape onInactive onActive judged opens begun ofBegin ofRequest advances stepRefusal stepped started startOf showing markOf markStream endsOf markEnds markEnded anything hasRoomFor waitData waitEnd waitFinish spentBy runLength withoutFirst serveRun serveData countAt frontAt lastAt statusAt putCount putFront putLast numbersAt T.waitAt T.putWait T.waitFits T.waitsFit T.queueInShape T.queueStepRefusal T.queueStep T.sayRefusal T.queueSay T.queueEnd T.queueFinish T.writeServed T.pumpSlot T.turned T.pumpRefusal pump queueCalled queueAfter finalQueue bytesIn flatten T.straightSay T.straightEnd T.straightFinish Of.writes Of.sayIn Of.finishBytes Of.finishIn C.lentRefusal C.callRefusal C.say C.released C.finishes C.finish C.pairAtNumber Of.pairIn streamBytes chunks chunksIn
 computing = tt
 
 -- A turn of three: a record of 5, one of 9, one of 5.
@@ -56,7 +62,7 @@ unfolding computing
 three-records = refl
 
 -- what a call is refused by
-abbrev numberOf : Answering → ℕ
+abbrev pub numberOf : Answering → ℕ
 numberOf (Straightly (Wrote n written buffer)) = n
 numberOf (Straightly (FinishedWith n written closed buffer)) = n
 numberOf (Straightly (ValueIs v)) = 0
@@ -65,7 +71,7 @@ numberOf (Straightly (PairAnswer v)) = 0
 numberOf (Straightly (WalkIs v)) = 0
 numberOf (Queued n) = n
 
-abbrev refusalOf : QueueMemory → ℕ → Asking → ℕ
+abbrev pub refusalOf : QueueMemory → ℕ → Asking → ℕ
 refusalOf m id a = numberOf (queueCalled m id a .answer)
 
 -- Between finish and END: 5. While something waits: a straight call 10, but 6 first. Over 1,024 bytes: 10. A stream
@@ -100,3 +106,14 @@ pub retired : (queueStep said (abort 5) .event ≡ Event.None) × (queueStep sai
     × (queueStep (finalQueue said (StepOver (twoBytes 9) ∷ CallFor 9 (ToFinish 0) ∷ [])) (1 ∷ 2 ∷ []) .event ≡ Event.None)
 unfolding computing
 retired = (refl, refl, refl, refl)
+
+-- ---- a close
+-- 5 is open with KEEP_CONN and 9 without; a byte of 5 waits
+abbrev half : QueueMemory
+half = finalQueue begins (opening 5 ++ (openingWith 0 9 ++ (CallFor 5 (ToSay Output.Stdout (97 ∷ [])) ∷ [])))
+
+-- A finish of 9, straight out, closes the connection, and then nothing waits anywhere; so does the pump's END of 9.
+pub dropped : (countAt (half .waits) 0 ≡ 1) × (queueAfter half (CallFor 9 (Straight (ForFinish 0 (zeros 64)))) .waits ≡ nobodyWaits)
+    × (finalQueue half (CallFor 9 (ToFinish 0) ∷ TurnWith 3 (zeros 1560) ∷ []) .waits ≡ nobodyWaits)
+unfolding computing
+dropped = (refl, refl, refl)

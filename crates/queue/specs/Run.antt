@@ -5,7 +5,7 @@ use mathlib.Core.Bool.{Bool, false}
 use mathlib.Core.List.{List, [], _∷_, _++_}
 use mathlib.Core.Option.{Option, none}
 use Prim.Native.Nat.{ℕ}
-use lib.ListN.{length, take, getD}
+use lib.ListN.{length, take}
 use Rattle.wire.specs.Test.{if_then_else_, _=?_}
 use Rattle.record.specs.Split.{Record, split}
 use Rattle.machine.specs.Timeline.{RequestCall, CountCall, Item, CallItem, byteItems}
@@ -20,7 +20,8 @@ use Rattle.connection.specs.Run.{Memory, requestOf, eventId, startOf}
 use Rattle.wire.specs.Bytes.{AllBytes}
 use Rattle.queue_slot.specs.Atoms.{Atom, recordAtoms}
 use Rattle.queue_slot.specs.Wait.{atomsIn}
-use Rattle.queue.specs.Calls.{QUEUE, nobodyWaits, QueueMemory, connOf, waitAt, queueStep, queueSay, queueEnd, queueFinish, queueValue, queueSource, queuePair, queueWalk, straightSay, straightEnd, straightFinish, pump}
+use Rattle.queue.specs.Numbers.{nobodyWaits, keptWaits, lastAt}
+use Rattle.queue.specs.Calls.{QUEUE, QueueMemory, connOf, waitAt, queueStep, queueSay, queueEnd, queueFinish, queueValue, queueSource, queuePair, queueWalk, straightSay, straightEnd, straightFinish, pump}
 
 -- ---- operations
 -- What is asked of a request: straight, or queued.
@@ -48,9 +49,9 @@ pub record QueueResult : Type 0 where
   pub left : QueueMemory
   pub answer : Answering
 
--- a close drops what waits
+-- with what a call left of state and store; a close drops what waits
 abbrev pub withMemory : QueueMemory → Memory → QueueMemory
-withMemory m n = record { memory = n; waits = if n .state .conn .«open» then m .waits else nobodyWaits; marks = m .marks; queue = m .queue }
+withMemory m n = record { memory = n; waits = keptWaits (connOf m .«open») (n .state .conn .«open») (m .waits); marks = m .marks; queue = m .queue }
 
 -- a call that writes
 abbrev pub changedBy : QueueMemory → C.Written → QueueResult
@@ -103,7 +104,7 @@ waitsOf R m = if connOf m .«open» then onSlot (find (connOf m .table) R) (λ i
 
 -- R is between its finish and its END
 unfoldable pub leavingOf : ℕ → QueueMemory → Bool
-leavingOf R m = if connOf m .«open» then onSlot (find (connOf m .table) R) (λ i. getD (m .waits .lasts) i false) false else false
+leavingOf R m = if connOf m .«open» then onSlot (find (connOf m .table) R) (λ i. lastAt (m .waits) i) false else false
 
 -- R's request and area; between finish and END they are not looked at
 unfoldable pub requestShown : ℕ → QueueMemory → Option Held

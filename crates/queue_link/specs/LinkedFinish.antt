@@ -35,7 +35,7 @@ use Rattle.machine.specs.Slots.{HeldBy, Absent, lookup}
 use Rattle.machine.specs.Machine.{Slots, Reading, Open, Closed, Stays, Retires, CallAnswer, readingWithout, callDecided, requestCalled, onItem}
 use Rattle.machine.specs.Shape.{WellShaped}
 use Rattle.connection.specs.declared.state.Target.{Target as Aim}
-use Rattle.connection.specs.Refusal.{_when_}
+use Rattle.connection.specs.Refusal.{_when_, refusal}
 use Rattle.connection.specs.Slots.{requestAt, areaAt, find}
 use Rattle.connection.specs.Laws.ShapeLaws.{Aimed, shaped, in-shape}
 use Rattle.connection.specs.Runs.ReceiverLaws.{SameList}
@@ -51,7 +51,7 @@ use Rattle.queue_slot.specs.WaitKept.{finish-kept}
 use Rattle.queue.specs.Areas.{Roomy}
 use Rattle.queue_link.specs.LoadedTurn.{Good}
 use Rattle.queue_machine.specs.EndsRight.{ends-laws}
-use Rattle.queue.specs.Calls.{QUEUE, QueueMemory, connOf, waitAt, withConn, putBoth, skipping, sayRefusal, rowsOf, streamRows, firstRefusal, isLeaving, lentRefusal, queueValue, queueSource, queuePair, queueWalk, straightSay, straightEnd, straightFinish}
+use Rattle.queue.specs.Calls.{QUEUE, QueueMemory, connOf, waitAt, withConn, putBoth, queueInShape, skipping, sayRefusal, rowsOf, streamRows, isLeaving, lentRefusal, queueValue, queueSource, queuePair, queueWalk, straightSay, straightEnd, straightFinish}
 use Rattle.queue.specs.Run.{Asking, Answering, QueueResult, queueCalled, withMemory}
 use Rattle.queue_link.specs.LinkedStraight.{asked, toldOf, answerIn, CallIs, same-with, stays-is}
 use Rattle.queue_link.specs.LinkedWriters.{straight-is}
@@ -66,10 +66,12 @@ aimed-skip t i (Aim.Params j) gathered left a = byTest (eqb j i) (λ e. simp e t
 aimed-skip t i (Aim.Stdin j) gathered left a = byTest (eqb j i) (λ e. simp e tt) (λ e. simp e a)
 aimed-skip t i (Aim.Data j) gathered left a = byTest (eqb j i) (λ e. simp e tt) (λ e. simp e a)
 
-abbrev skipped : Memory → ℕ → Memory
+-- with the rest of a half-read record of slot i skipped
+abbrev pub skipped : Memory → ℕ → Memory
 skipped m i = record { state = record { conn = skipping (m .state .conn) i; gathered = m .state .gathered }; store = m .store }
 
-steady-skip : (m : Memory) (i : ℕ) → Steady m → Steady (skipped m i)
+-- It stays steady.
+pub steady-skip : (m : Memory) (i : ℕ) → Steady m → Steady (skipped m i)
 steady-skip m i z =
     let c = m .state .conn in
     let s = shaped c (z .shape) in
@@ -88,7 +90,8 @@ skip-reading m i =
     ap (readingAt (f .position .content) (f .position .padding) (take (f .position .held) (f .position .header))) (redirected-target i (f .target) (f .gathered) (f .body) g)
     ∙ redirected-reading i (f .position .content) (f .position .padding) (take (f .position .held) (f .position .header)) (loadedTarget (f .target) (f .gathered) (f .body) g)
 
-spent-list : (r : Request) → SameList r (spentBy r)
+-- A spent request keeps id and list.
+pub spent-list : (r : Request) → SameList r (spentBy r)
 unfolding spentBy
 spent-list r = record { id = refl; length = refl }
 
@@ -143,11 +146,11 @@ module _ (m : QueueMemory) (g : Good m) (is-open : connOf m .«open» ≡ true) 
       free = subst (λ s. FreeIn (waitingOf skipMemory) s) (sym skip-loaded) (subst (λ f. NothingFree f slots) (sym same-waiting) slots-free);
       dropped = λ o. let q : _≡_ {A = ℕ} 0 1 = cc (is-open, o) in absurd (omega arith);
     };
-    roomy = record { counts = y .counts; fronts = y .fronts; lasts = y .lasts; statuses = y .statuses; queue = y .queue; marks = y .marks };
+    roomy = record { waits = y .waits; queue = y .queue; marks = y .marks };
   }
 
   abbrev finishNumber : ℕ
-  finishNumber = firstRefusal (rowsOf m id ((5 when isLeaving m id) ∷ []))
+  finishNumber = refusal (rowsOf m id ((5 when isLeaving m id) ∷ []))
 
   finish-number : finishNumber ≡ (if endWaits (waitingOf m i) then 5 else 0)
   unfolding waitAt
@@ -201,7 +204,8 @@ module _ (m : QueueMemory) (g : Good m) (is-open : connOf m .«open» ≡ true) 
   queue-finish-is status w = byTest (endWaits (waitingOf m i)) (λ e. stays-is m g is-open id i found (D.ToFinish status) (D.Queued 5) (finish-refused status e) (leaving-five status e)) (λ e. finish-is status w e)
 
 -- ---- refused
-abbrev refusedAs : ℕ → Asking → Answering
+-- the answer of a call that is refused by n
+abbrev pub refusedAs : ℕ → Asking → Answering
 refusedAs n (D.Straight a) = D.Straightly (refused n a)
 refusedAs n (D.ToSay o content) = D.Queued n
 refusedAs n (D.ToEnd o) = D.Queued n
@@ -214,51 +218,54 @@ refused-told n (D.ToSay o content) = refl
 refused-told n (D.ToEnd o) = refl
 refused-told n (D.ToFinish status) = refl
 
-abbrev refusedWith : QueueMemory → ℕ → Asking → QueueResult
+-- and nothing else is left of it
+abbrev pub refusedWith : QueueMemory → ℕ → Asking → QueueResult
 refusedWith m n a = record { left = m; answer = refusedAs n a }
 
-kept-with : (m : QueueMemory) (n : Answering) → QueueSteady m → _≡_ {A = QueueResult} (record { left = withMemory m (m .memory); answer = n }) (record { left = m; answer = n })
-kept-with m n z = ap (λ (x : QueueMemory). record { left = x; answer = n }) (same-with m z)
+kept-with : (m : QueueMemory) (n : Answering) → _≡_ {A = QueueResult} (record { left = withMemory m (m .memory); answer = n }) (record { left = m; answer = n })
+kept-with m n = ap (λ (x : QueueMemory). record { left = x; answer = n }) (same-with m)
 
 -- the refusal of straight say
 abbrev pub sayRows : QueueMemory → ℕ → Output → List ℕ → List ℕ → ℕ
 sayRows m id o content buffer =
-    firstRefusal (rowsOf m id (streamRows m id o ((6 when (ltb (length buffer) (length (Of.sayBytes (T.requestOf m id) o content)))) ∷ (10 when anything (waitAt m (T.slotOf m id))) ∷ [])))
+    refusal (rowsOf m id (streamRows m id o ((6 when (ltb (length buffer) (length (Of.sayBytes (T.requestOf m id) o content)))) ∷ (10 when anything (waitAt m (T.slotOf m id))) ∷ [])))
 
 -- of straight end
 abbrev pub endRows : QueueMemory → ℕ → Output → List ℕ → ℕ
 endRows m id o buffer =
-    firstRefusal (rowsOf m id (streamRows m id o ((6 when (ltb (length buffer) (length (Of.endBytes (T.requestOf m id) o)))) ∷ (10 when anything (waitAt m (T.slotOf m id))) ∷ [])))
+    refusal (rowsOf m id (streamRows m id o ((6 when (ltb (length buffer) (length (Of.endBytes (T.requestOf m id) o)))) ∷ (10 when anything (waitAt m (T.slotOf m id))) ∷ [])))
 
 -- of straight finish
 abbrev pub finishRows : QueueMemory → ℕ → ℕ → List ℕ → ℕ
 finishRows m id status buffer =
-    firstRefusal ((2 when not (eqb (length (m .memory .store)) STORE)) ∷ rowsOf m id ((5 when isLeaving m id) ∷ (6 when (ltb (length buffer) (length (Of.finishBytes (T.requestOf m id) status)))) ∷ (10 when anything (waitAt m (T.slotOf m id))) ∷ []))
+    refusal ((2 when not (eqb (length (m .memory .store)) STORE)) ∷ rowsOf m id ((5 when isLeaving m id) ∷ (6 when (ltb (length buffer) (length (Of.finishBytes (T.requestOf m id) status)))) ∷ (10 when anything (waitAt m (T.slotOf m id))) ∷ []))
 
-unsaid : (m : QueueMemory) (id : ℕ) (o : Output) (content buffer : List ℕ) (n : ℕ) → QueueSteady m → sayRows m id o content buffer ≡ suc n → queueCalled m id (D.Straight (ForSay o content buffer)) ≡ refusedWith m (suc n) (D.Straight (ForSay o content buffer))
+unsaid : (m : QueueMemory) (id : ℕ) (o : Output) (content buffer : List ℕ) (n : ℕ) → sayRows m id o content buffer ≡ suc n → queueCalled m id (D.Straight (ForSay o content buffer)) ≡ refusedWith m (suc n) (D.Straight (ForSay o content buffer))
 unfolding queueCalled straightSay refused
-unsaid m id o content buffer n z e = rw (e, ne-eqb (suc n) 0 (λ d. omega arith)) (kept-with m (D.Straightly (Wrote (suc n) 0 buffer)) z)
+unsaid m id o content buffer n e = rw (e, ne-eqb (suc n) 0 (λ d. omega arith)) (kept-with m (D.Straightly (Wrote (suc n) 0 buffer)))
 
-unended : (m : QueueMemory) (id : ℕ) (o : Output) (buffer : List ℕ) (n : ℕ) → QueueSteady m → endRows m id o buffer ≡ suc n → queueCalled m id (D.Straight (ForEnd o buffer)) ≡ refusedWith m (suc n) (D.Straight (ForEnd o buffer))
+unended : (m : QueueMemory) (id : ℕ) (o : Output) (buffer : List ℕ) (n : ℕ) → endRows m id o buffer ≡ suc n → queueCalled m id (D.Straight (ForEnd o buffer)) ≡ refusedWith m (suc n) (D.Straight (ForEnd o buffer))
 unfolding queueCalled straightEnd refused
-unended m id o buffer n z e = rw (e, ne-eqb (suc n) 0 (λ d. omega arith)) (kept-with m (D.Straightly (Wrote (suc n) 0 buffer)) z)
+unended m id o buffer n e = rw (e, ne-eqb (suc n) 0 (λ d. omega arith)) (kept-with m (D.Straightly (Wrote (suc n) 0 buffer)))
 
-unfinished : (m : QueueMemory) (id status : ℕ) (buffer : List ℕ) (n : ℕ) → QueueSteady m → finishRows m id status buffer ≡ suc n → queueCalled m id (D.Straight (ForFinish status buffer)) ≡ refusedWith m (suc n) (D.Straight (ForFinish status buffer))
+unfinished : (m : QueueMemory) (id status : ℕ) (buffer : List ℕ) (n : ℕ) → finishRows m id status buffer ≡ suc n → queueCalled m id (D.Straight (ForFinish status buffer)) ≡ refusedWith m (suc n) (D.Straight (ForFinish status buffer))
 unfolding queueCalled straightFinish refused
-unfinished m id status buffer n z e = rw (e, ne-eqb (suc n) 0 (λ d. omega arith)) (kept-with m (D.Straightly (FinishedWith (suc n) 0 false buffer)) z)
+unfinished m id status buffer n e = rw (e, ne-eqb (suc n) 0 (λ d. omega arith)) (kept-with m (D.Straightly (FinishedWith (suc n) 0 false buffer)))
 
-closed-called : (m : QueueMemory) (id : ℕ) (a : Asking) → Good m → connOf m .«open» ≡ false → queueCalled m id a ≡ refusedWith m 1 a
+-- A call on a closed connection in shape is refused by 1, with store and queue of their sizes.
+pub closed-called : (m : QueueMemory) (id : ℕ) (a : Asking) → queueInShape m ≡ true → length (m .memory .store) ≡ STORE → length (m .queue) ≡ QUEUE → connOf m .«open» ≡ false
+    → queueCalled m id a ≡ refusedWith m 1 a
 unfolding queueCalled refused lentRefusal queueValue queueSource queuePair queueWalk straightSay straightEnd straightFinish sayRefusal T.queueSay T.queueEnd T.queueFinish
-closed-called m id (D.Straight (ForValue name fallback)) g o = let h = queue-shape m (g .steady) in let q = eq-eqb (length (m .memory .store)) STORE (g .steady .steady .sizes .full) in rw (q, h, o)
-closed-called m id (D.Straight (ForSource name)) g o = let h = queue-shape m (g .steady) in let q = eq-eqb (length (m .memory .store)) STORE (g .steady .steady .sizes .full) in rw (q, h, o)
-closed-called m id (D.Straight (ForPair k)) g o = let h = queue-shape m (g .steady) in let q = eq-eqb (length (m .memory .store)) STORE (g .steady .steady .sizes .full) in rw (q, h, o)
-closed-called m id (D.Straight ForWalk) g o = let h = queue-shape m (g .steady) in let q = eq-eqb (length (m .memory .store)) STORE (g .steady .steady .sizes .full) in rw (q, h, o)
-closed-called m id (D.Straight (ForSay out content buffer)) g o = let h = queue-shape m (g .steady) in unsaid m id out content buffer 0 (g .steady) (rw (h, o))
-closed-called m id (D.Straight (ForEnd out buffer)) g o = let h = queue-shape m (g .steady) in unended m id out buffer 0 (g .steady) (rw (h, o))
-closed-called m id (D.Straight (ForFinish status buffer)) g o = let h = queue-shape m (g .steady) in let q = eq-eqb (length (m .memory .store)) STORE (g .steady .steady .sizes .full) in unfinished m id status buffer 0 (g .steady) (rw (q, h, o))
-closed-called m id (D.ToSay out content) g o = let h = queue-shape m (g .steady) in let q = eq-eqb (length (m .queue)) QUEUE (g .roomy .queue) in rw (q, h, o)
-closed-called m id (D.ToEnd out) g o = let h = queue-shape m (g .steady) in rw (h, o)
-closed-called m id (D.ToFinish status) g o = let h = queue-shape m (g .steady) in rw (h, o)
+closed-called m id (D.Straight (ForValue name fallback)) h f y o = rw (eq-eqb (length (m .memory .store)) STORE f, h, o)
+closed-called m id (D.Straight (ForSource name)) h f y o = rw (eq-eqb (length (m .memory .store)) STORE f, h, o)
+closed-called m id (D.Straight (ForPair k)) h f y o = rw (eq-eqb (length (m .memory .store)) STORE f, h, o)
+closed-called m id (D.Straight ForWalk) h f y o = rw (eq-eqb (length (m .memory .store)) STORE f, h, o)
+closed-called m id (D.Straight (ForSay out content buffer)) h f y o = unsaid m id out content buffer 0 (rw (h, o))
+closed-called m id (D.Straight (ForEnd out buffer)) h f y o = unended m id out buffer 0 (rw (h, o))
+closed-called m id (D.Straight (ForFinish status buffer)) h f y o = let q = eq-eqb (length (m .memory .store)) STORE f in unfinished m id status buffer 0 (rw (q, h, o))
+closed-called m id (D.ToSay out content) h f y o = rw (eq-eqb (length (m .queue)) QUEUE y, h, o)
+closed-called m id (D.ToEnd out) h f y o = rw (h, o)
+closed-called m id (D.ToFinish status) h f y o = rw (h, o)
 
 absent-called : (m : QueueMemory) (id : ℕ) (a : Asking) → Good m → connOf m .«open» ≡ true → find (connOf m .table) id ≡ Slot.Nowhere → queueCalled m id a ≡ refusedWith m 3 a
 unfolding queueCalled refused lentRefusal queueValue queueSource queuePair queueWalk straightSay straightEnd straightFinish sayRefusal T.queueSay T.queueEnd T.queueFinish
@@ -266,9 +273,9 @@ absent-called m id (D.Straight (ForValue name fallback)) g o f = let h = queue-s
 absent-called m id (D.Straight (ForSource name)) g o f = let h = queue-shape m (g .steady) in let q = eq-eqb (length (m .memory .store)) STORE (g .steady .steady .sizes .full) in rw (q, h, o, f)
 absent-called m id (D.Straight (ForPair k)) g o f = let h = queue-shape m (g .steady) in let q = eq-eqb (length (m .memory .store)) STORE (g .steady .steady .sizes .full) in rw (q, h, o, f)
 absent-called m id (D.Straight ForWalk) g o f = let h = queue-shape m (g .steady) in let q = eq-eqb (length (m .memory .store)) STORE (g .steady .steady .sizes .full) in rw (q, h, o, f)
-absent-called m id (D.Straight (ForSay out content buffer)) g o f = let h = queue-shape m (g .steady) in unsaid m id out content buffer 2 (g .steady) (rw (h, o, f))
-absent-called m id (D.Straight (ForEnd out buffer)) g o f = let h = queue-shape m (g .steady) in unended m id out buffer 2 (g .steady) (rw (h, o, f))
-absent-called m id (D.Straight (ForFinish status buffer)) g o f = let h = queue-shape m (g .steady) in let q = eq-eqb (length (m .memory .store)) STORE (g .steady .steady .sizes .full) in unfinished m id status buffer 2 (g .steady) (rw (q, h, o, f))
+absent-called m id (D.Straight (ForSay out content buffer)) g o f = let h = queue-shape m (g .steady) in unsaid m id out content buffer 2 (rw (h, o, f))
+absent-called m id (D.Straight (ForEnd out buffer)) g o f = let h = queue-shape m (g .steady) in unended m id out buffer 2 (rw (h, o, f))
+absent-called m id (D.Straight (ForFinish status buffer)) g o f = let h = queue-shape m (g .steady) in let q = eq-eqb (length (m .memory .store)) STORE (g .steady .steady .sizes .full) in unfinished m id status buffer 2 (rw (q, h, o, f))
 absent-called m id (D.ToSay out content) g o f = let h = queue-shape m (g .steady) in let q = eq-eqb (length (m .queue)) QUEUE (g .roomy .queue) in rw (q, h, o, f)
 absent-called m id (D.ToEnd out) g o f = let h = queue-shape m (g .steady) in rw (h, o, f)
 absent-called m id (D.ToFinish status) g o f = let h = queue-shape m (g .steady) in rw (h, o, f)
@@ -276,7 +283,7 @@ absent-called m id (D.ToFinish status) g o f = let h = queue-shape m (g .steady)
 closed-is : (m : QueueMemory) (id : ℕ) (a : Asking) → Good m → connOf m .«open» ≡ false → CallIs m id a
 unfolding onItem answerIn
 closed-is m id a g o =
-    let c = closed-called m id a g o in
+    let c = closed-called m id a (queue-shape m (g .steady)) (g .steady .steady .sizes .full) (g .roomy .queue) o in
     let shut : loadedQueue m ≡ Closed = ap (liftConnection (waitingOf m)) (closed-loaded (m .memory) o) in
     record {
       state = ap (λ (r : QueueResult). loadedQueue (r .left)) c ∙ shut ∙ sym (ap (λ s. (onItem queueingReceiver s (CallItem (RequestCall id (asked a)))) .0) shut);

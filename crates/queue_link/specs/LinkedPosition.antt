@@ -5,7 +5,7 @@ use mathlib.Core.Option.{Option, none, some}
 use mathlib.Core.Bool.{Bool, true, false}
 use Prim.Native.Nat.{ℕ, zero, suc}
 use native.Mathlib.Omega.{arith}
-use lib.ListN.{length, take}
+use lib.ListN.{length, take, getD}
 use lib.Dec.{eqb}
 use Rattle.wire.specs.Test.{if_then_else_, byTest}
 use Rattle.record_reader.specs.Position.{after}
@@ -24,7 +24,7 @@ use Rattle.connection.specs.declared.state.Conn.{Conn}
 use Rattle.connection.specs.Sizes.{SLOTS}
 use Rattle.connection.specs.RequestCalls as Of
 use Rattle.wire.specs.Buffer.{zeros}
-use Rattle.connection.specs.Refusal.{_when_}
+use Rattle.connection.specs.Refusal.{_when_, refusal}
 use Rattle.connection.specs.Slots.{requestAt, areaAt, putArea}
 use Rattle.connection.specs.Step.{Stepped, closedConn}
 use Rattle.connection.specs.Calls as C
@@ -39,6 +39,7 @@ use Rattle.queue_machine.specs.Lift.{liftConnection}
 use Rattle.queue_link.specs.Loaded.{waitingOf, loadedQueue, queueStep-is}
 use Rattle.queue_link.specs.LinkedFinish.{sayRows, endRows, finishRows}
 use Rattle.queue_link.specs.LinkedRuns.{machineItems, Fine, PieceOk, op-is, op-fine, pump-done, pump-refused}
+use Rattle.queue.specs.Numbers.{NEXT}
 use Rattle.queue.specs.Calls as T
 use Rattle.queue.specs.Calls.{QueueMemory, connOf, putWait, straightSay, straightEnd, straightFinish, slotWaits, firstSlot, onSome, Turned, turned, servedLast, releasedSlot, writeServed, pumpSlot, pumpRefusal}
 use Rattle.queue.specs.Run as D
@@ -152,12 +153,12 @@ module _ (m : QueueMemory) where
   queue-end-stands : (id : ℕ) (o : Output) → Stands p (T.queueEnd m id o .left)
   unfolding T.queueEnd
   queue-end-stands id o =
-      queue-if (eqb (T.firstRefusal (T.rowsOf m id (T.streamRows m id o []))) 0) (T.firstRefusal (T.rowsOf m id (T.streamRows m id o []))) (T.putBoth m (T.slotOf m id) (Of.endedOn (T.requestOf m id) o) (waitEnd (T.waitAt m (T.slotOf m id)) o)) (both-stands m _ _ _ refl)
+      queue-if (eqb (refusal (T.rowsOf m id (T.streamRows m id o []))) 0) (refusal (T.rowsOf m id (T.streamRows m id o []))) (T.putBoth m (T.slotOf m id) (Of.endedOn (T.requestOf m id) o) (waitEnd (T.waitAt m (T.slotOf m id)) o)) (both-stands m _ _ _ refl)
 
   queue-finish-stands : (id status : ℕ) → Stands p (T.queueFinish m id status .left)
   unfolding T.queueFinish
   queue-finish-stands id status =
-      queue-if (eqb (T.firstRefusal (T.rowsOf m id ((5 when T.isLeaving m id) ∷ []))) 0) (T.firstRefusal (T.rowsOf m id ((5 when T.isLeaving m id) ∷ [])))
+      queue-if (eqb (refusal (T.rowsOf m id ((5 when T.isLeaving m id) ∷ []))) 0) (refusal (T.rowsOf m id ((5 when T.isLeaving m id) ∷ [])))
       (T.putBoth (T.withConn m (T.skipping (connOf m) (T.slotOf m id))) (T.slotOf m id) (spentBy (T.requestOf m id)) (waitFinish (T.waitAt m (T.slotOf m id)) (T.requestOf m id .state) status)) (both-stands (T.withConn m (T.skipping (connOf m) (T.slotOf m id))) _ _ _ refl)
 
   call-stands : (id : ℕ) (a : Asking) → Stands p (queueCalled m id a .left)
@@ -210,7 +211,7 @@ module _ (m : QueueMemory) where
 turn-stands : (q : Position) (k : ℕ) (m : QueueMemory) → Stands q m → Stands q (turned k m .left)
 unfolding turned
 turn-stands q zero m h = h
-turn-stands q (suc k) m h = go (nextWaiting SLOTS SLOTS (slotWaits m) (firstSlot (m .waits .next))) (λ i. turn-stands q k (pumpSlot m i .left) (λ e. slot-stands m i e ∙ h (slot-open m i e)))
+turn-stands q (suc k) m h = go (nextWaiting SLOTS SLOTS (slotWaits m) (firstSlot (getD (m .waits) NEXT 0))) (λ i. turn-stands q k (pumpSlot m i .left) (λ e. slot-stands m i e ∙ h (slot-open m i e)))
   where
     go : (o : Option ℕ) → ((i : ℕ) → Stands q (turned k (pumpSlot m i .left) .left))
         → Stands q (turnedLeft (onSome o (λ i. let p = pumpSlot m i in let t = turned k (p .left) in record { records = p .bytes ∷ t .records; left = t .left }) (record { records = []; left = m })))

@@ -8,6 +8,7 @@ use lib.ListN.{length, set}
 use lib.Dec.{eqb, ltb}
 use borrow.Author.Tests.{eqb-true, eqb-false}
 use Rattle.wire.specs.Test.{if_then_else_, byTest}
+use Rattle.connection.specs.Refusal.{refusal}
 use Rattle.connection.specs.declared.request.Request.{Request}
 use Rattle.connection.specs.declared.state.Slot.{Slot}
 use Rattle.connection.specs.declared.answer.Output.{Output}
@@ -21,7 +22,7 @@ use Rattle.queue_machine.specs.Queued as Q
 use Rattle.queue_machine.specs.Queued.{outcomeAnswer, Queued, Asked, QueueAnswer, queuedCall, queueingReceiver}
 use Rattle.queue_machine.specs.Lift.{liftSlot, liftSlots, liftReading, NothingFree, lift-at}
 use Rattle.queue_machine.specs.LiftRuns.{FreeIn}
-use Rattle.queue_link.specs.Loaded.{waitingOf, loadedQueue, QueueSteady}
+use Rattle.queue_link.specs.Loaded.{waitingOf, loadedQueue, QueueSteady, slot-below}
 use Rattle.queue_link.specs.LoadedCalls as L
 use Rattle.queue.specs.Calls as T
 use Rattle.queue.specs.Run as D
@@ -42,7 +43,7 @@ use Rattle.queue_slot.specs.WaitKept.{Kept, room-is}
 use Rattle.queue.specs.Areas.{Roomy, wait-of-put, wait-of-other, roomy-put}
 use Rattle.queue_link.specs.LoadedTurn.{Good, free-changed}
 use Rattle.queue_machine.specs.EndsRight.{ends-laws}
-use Rattle.queue.specs.Calls.{QueueMemory, connOf, waitAt, putWait, withConn, putBoth, sayRefusal, rowsOf, streamRows, firstRefusal}
+use Rattle.queue.specs.Calls.{QueueMemory, connOf, waitAt, putWait, withConn, putBoth, sayRefusal, rowsOf, streamRows}
 use Rattle.queue.specs.Run.{queueCalled}
 use Rattle.queue_link.specs.LinkedStraight.{answerIn, CallIs}
 
@@ -101,16 +102,16 @@ module _ (m : QueueMemory) (g : Good m) (is-open : connOf m .«open» ≡ true) 
       let n = putBoth m i r w in
       let k = withConn m (C.putsRequest (connOf m) i r) in
       let ky = L.roomy-with m z y is-open id i found r in
-      let there : (j : ℕ) → (j ≡ i → ⊥) → waitAt n j ≡ waitAt m j = λ j d. wait-of-other k i w ky low s j d ∙ L.same-wait m z y is-open id i found r j in
+      let there : (j : ℕ) → j < SLOTS → (j ≡ i → ⊥) → waitAt n j ≡ waitAt m j = λ j h d. wait-of-other k i w ky low s j h d ∙ L.same-wait m z y is-open id i found r j in
       let t : loadedSlots (putRequest (connOf m .table) i r) (m .memory .store) ≡ set slots i (HeldBy (r .id) (record { request = r; area = areaAt (m .memory .store) i })) =
       loaded-states (connOf m .table) (m .memory .store) i r (z .steady .sizes .table) (z .steady .sizes .full) (L.in-use m z y is-open id i found) in
       record {
         steady = record {
           steady = both-memory r w same;
           sized = λ j h. byTest (eqb j i) (λ e. let x : waitAt n j ≡ w = ap (waitAt n) (eqb-true j i e) ∙ wait-of-put k i w ky low s in subst (λ x. Sized x) (sym x) s)
-              (λ e. subst (λ x. Sized x) (sym (there j (eqb-false j i e))) (z .sized j h));
+              (λ e. subst (λ x. Sized x) (sym (there j h (eqb-false j i e))) (z .sized j h));
           free = subst (λ w. FreeIn (waitingOf n) w) (sym (L.put-memory m z y is-open id i found r w))
-              (subst (λ T. NothingFree (waitingOf n) T) (sym t) (free-changed (waitingOf n) i (HeldBy (r .id) (record { request = r; area = areaAt (m .memory .store) i })) (λ j d. ap atomsIn (there j d)) tt slots-free));
+              (subst (λ T. NothingFree (waitingOf n) T) (sym t) (free-changed (waitingOf n) i (HeldBy (r .id) (record { request = r; area = areaAt (m .memory .store) i })) (λ j h d. ap atomsIn (there j (slot-below (connOf m .table) (m .memory .store) j h) d)) tt slots-free));
           dropped = λ o. let q : _≡_ {A = ℕ} 0 1 = cc (both-open r w, o) in absurd (omega arith);
         };
         roomy = roomy-put k i w ky low s;
@@ -177,7 +178,7 @@ module _ (m : QueueMemory) (g : Good m) (is-open : connOf m .«open» ≡ true) 
 
   -- ---- end
   abbrev endNumber : Output → ℕ
-  endNumber o = firstRefusal (rowsOf m id (streamRows m id o []))
+  endNumber o = refusal (rowsOf m id (streamRows m id o []))
 
   end-told : (o : Output) → T.queueEnd m id o .refusal ≡ endNumber o
   unfolding T.queueEnd

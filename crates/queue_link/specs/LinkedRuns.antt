@@ -5,7 +5,6 @@ use mathlib.Core.List.{List, [], _∷_, _++_}
 use mathlib.Core.Option.{Option, none, some}
 use mathlib.Core.Bool.{Bool, true, false}
 use Prim.Native.Nat.{ℕ}
-use lib.ListN.{getD}
 use lib.Dec.{eqb}
 use Rattle.wire.specs.Test.{if_then_else_, byTest}
 use Rattle.machine.specs.Slots.{Lookup, Absent, FoundAt, lookup}
@@ -37,6 +36,7 @@ use Rattle.queue_machine.specs.EndsRight.{ends-laws}
 use Rattle.machine_queue.specs.IdsBelow.{IdsBelow, below-after}
 use Rattle.queue_link.specs.LinkedStraight.{asked, roomy-with}
 use Rattle.queue_link.specs.LinkedFinish.{call-is}
+use Rattle.queue.specs.Numbers.{lastAt}
 use Rattle.queue.specs.Calls as T
 use Rattle.queue.specs.Calls.{QueueMemory, connOf, waitAt, queueStep, pumpRefusal, pump, pumpedWith, turned}
 use Rattle.queue.specs.Run as D
@@ -198,16 +198,16 @@ module _ (R : ℕ) (m : QueueMemory) where
   abbrev there : Slot → Option Queued
   there s = onSlot s (λ i. some (queued (heldAt (connOf m .table) (m .memory .store) i) (waitingOf m i))) none
 
-  last : (i : ℕ) → endWaits (atomsIn (waitAt m i)) ≡ getD (m .waits .lasts) i false
+  last : (i : ℕ) → endWaits (atomsIn (waitAt m i)) ≡ lastAt (m .waits) i
   unfolding waitAt
   last i = last-is (waitAt m i)
 
-  leaving-slot : (s : Slot) → isLeaving queueingReceiver waitingQueue (there s) ≡ onSlot s (λ i. getD (m .waits .lasts) i false) false
+  leaving-slot : (s : Slot) → isLeaving queueingReceiver waitingQueue (there s) ≡ onSlot s (λ i. lastAt (m .waits) i) false
   unfolding isLeaving
   leaving-slot (Slot.At i) = last i
   leaving-slot Slot.Nowhere = refl
 
-  leaving-open : connOf m .«open» ≡ true → leavingOf R m ≡ onSlot (find (connOf m .table) R) (λ i. getD (m .waits .lasts) i false) false
+  leaving-open : connOf m .«open» ≡ true → leavingOf R m ≡ onSlot (find (connOf m .table) R) (λ i. lastAt (m .waits) i) false
   unfolding leavingOf
   leaving-open o = rw o
 
@@ -240,7 +240,7 @@ module _ (R : ℕ) (m : QueueMemory) where
   waits-are = byTest (connOf m .«open») (λ o. ap (waitsIn queueingReceiver waitingQueue) (request-open R m o) ∙ waits-slot (find (connOf m .table) R) ∙ sym (waits-open o))
       (λ o. ap (waitsIn queueingReceiver waitingQueue) (request-closed R m o) ∙ sym (waits-closed o))
 
-  core-slot : (s : Slot) → coreOf queueingReceiver waitingQueue (there s) ≡ (if onSlot s (λ i. getD (m .waits .lasts) i false) false then none else onSlot s (λ i. some (heldAt (connOf m .table) (m .memory .store) i)) none)
+  core-slot : (s : Slot) → coreOf queueingReceiver waitingQueue (there s) ≡ (if onSlot s (λ i. lastAt (m .waits) i) false then none else onSlot s (λ i. some (heldAt (connOf m .table) (m .memory .store) i)) none)
   unfolding coreOf
   core-slot (Slot.At i) = ap (λ (b : Bool). if b then none else some (heldAt (connOf m .table) (m .memory .store) i)) (last i)
   core-slot Slot.Nowhere = refl

@@ -4,7 +4,7 @@ use mathlib.Core.List.{List, [], _∷_, _++_}
 use mathlib.Core.Option.{Option, none, some}
 use mathlib.Core.Bool.{true}
 use Prim.Native.Nat.{ℕ}
-use Rattle.wire.specs.Test.{byTest}
+use lib.ListN.{length}
 use Rattle.machine.specs.Slots.{Vacant, HeldBy}
 use Rattle.machine.specs.Timeline.{RequestCall, CallItem}
 use Rattle.machine.specs.Machine.{Slots, Reading, Open, CallOutcome, Stays, Retires, Leaves, Closes, Observation, RequestEvent, NoticeEvent, CloseEvent, CountAnswer, CallAnswer, callDecided, requestCalled, onItem, stateAfter, observations, asList}
@@ -26,13 +26,14 @@ use Rattle.queue_machine.specs.Queued.{Queued, Asked, QueueAnswer, queuedCall, 
 use Rattle.queue_machine.specs.QueuedLaws.{Clear, clear-leaves}
 use Rattle.queue_machine.specs.Lift.{Waiting, liftSlots, liftReading, liftConnection, lift-set, NothingFree}
 use Rattle.queue_machine.specs.LiftRuns.{FreeIn, free-set}
+use Rattle.queue.specs.Numbers.{WAITS}
 use Rattle.queue.specs.Areas.{Roomy}
-use Rattle.queue_link.specs.Loaded.{waitingOf, loadedQueue, QueueSteady, with-memory, steady-with}
+use Rattle.queue_link.specs.Loaded.{waitingOf, loadedQueue, QueueSteady, kept-same, kept-either, with-memory, steady-with}
 use Rattle.queue_link.specs.LoadedCalls as L
 use Rattle.queue_link.specs.LoadedPump.{lift-without}
 use Rattle.queue_link.specs.LoadedTurn.{Good, free-changed}
 use Rattle.queue.specs.Calls as T
-use Rattle.queue.specs.Calls.{QueueMemory, connOf}
+use Rattle.queue.specs.Calls.{QueueMemory, beside, connOf}
 use Rattle.queue.specs.Run as D
 use Rattle.queue.specs.Run.{Asking, Answering, QueueResult, queueCalled, withMemory}
 
@@ -64,14 +65,12 @@ pub record CallIs (m : QueueMemory) (id : ℕ) (a : Asking) : Type 0 where
   pub good : Good (queueCalled m id a .left)
 
 -- ---- the same memory
-pub same-with : (m : QueueMemory) → QueueSteady m → withMemory m (m .memory) ≡ m
-same-with m z = byTest (connOf m .«open») (λ o. rw o) (λ o. rw (o, z .dropped o))
+pub same-with : (m : QueueMemory) → withMemory m (m .memory) ≡ m
+same-with m = ap (λ w. beside (m .memory) w (m .marks) (m .queue)) (kept-same (connOf m .«open») (m .waits))
 
 -- the sizes stay
 pub roomy-with : (m : QueueMemory) (n : Memory) → Roomy m → Roomy (withMemory m n)
-roomy-with m n y = byTest (n .state .conn .«open»)
-    (λ o. rw o (record { counts = y .counts; fronts = y .fronts; lasts = y .lasts; statuses = y .statuses; queue = y .queue; marks = y .marks }))
-    (λ o. rw o (record { counts = refl; fronts = refl; lasts = refl; statuses = refl; queue = y .queue; marks = y .marks }))
+roomy-with m n y = record { waits = kept-either (λ w. length w ≡ WAITS) (connOf m .«open») (n .state .conn .«open») (m .waits) (y .waits) refl; queue = y .queue; marks = y .marks }
 
 -- ---- a call that the request decides as before
 lift-decided : (f : Waiting) (o : CallOutcome Held Answer) (i : ℕ) (h : Held) (q : Queued) (id : ℕ) (a : Argument) (b : Asked) (T : Slots receiver) (F : Reading receiver)
@@ -87,7 +86,7 @@ free-decided : (f : Waiting) (o : CallOutcome Held Answer) (i : ℕ) (h : Held) 
 unfolding callDecided
 free-decided f (Stays r n) i h id a T F c z = free-set i id r z
 free-decided f (Retires r n) i h id a T F c z = free-set i id r z
-free-decided f (Leaves n) i h id a T F c z = free-changed f i (Vacant (receiver .clean)) (λ j d. refl) (clear-leaves n (f i) c) z
+free-decided f (Leaves n) i h id a T F c z = free-changed f i (Vacant (receiver .clean)) (λ j l d. refl) (clear-leaves n (f i) c) z
 free-decided f (Closes n) i h id a T F c z = tt
 
 -- the answer of a call without a queue

@@ -4,7 +4,7 @@ use mathlib.Core.List.{List, [], _∷_}
 use mathlib.Core.Bool.{Bool, true, false, not}
 use mathlib.Core.Logic.{inr}
 use Prim.Native.Nat.{ℕ, _<_}
-use lib.ListN.{length, getD}
+use lib.ListN.{length}
 use lib.Dec.{eqb, ltb}
 use borrow.Author.Tests.{eqb-true, eq-eqb, eqb-false}
 use Rattle.wire.specs.Test.{if_then_else_, byTest}
@@ -28,15 +28,16 @@ use Rattle.queue_slot.specs.WaitRefines.{anything-is}
 use Rattle.queue_machine.specs.Queued as Q
 use Rattle.queue_machine.specs.Queued.{Queued, queuedCall, isWriter, refusalOf, lifted, heldUp, straightWriter, straightCall}
 use Rattle.queue_machine.specs.QueuedLaws.{reader-silent, writer-clear, not-both}
+use Rattle.queue.specs.Numbers.{lastAt}
 use Rattle.queue.specs.Areas.{Roomy}
 use Rattle.queue_link.specs.Loaded.{waitingOf, QueueSteady, queue-shape}
 use Rattle.queue_link.specs.LoadedCalls as L
 use Rattle.queue_link.specs.LoadedTurn.{Good}
 use Rattle.queue.specs.Calls as T
-use Rattle.queue.specs.Calls.{queueValue, queueSource, queuePair, queueWalk, straightSay, straightEnd, straightFinish, rowsOf, streamRows, isLeaving, firstRefusal, QueueMemory, connOf, waitAt, lentRefusal}
+use Rattle.queue.specs.Calls.{queueValue, queueSource, queuePair, queueWalk, straightSay, straightEnd, straightFinish, rowsOf, streamRows, isLeaving, QueueMemory, connOf, waitAt, lentRefusal}
 use Rattle.queue.specs.Run as D
 use Rattle.queue.specs.Run.{QueueResult, queueCalled, changedBy, finishedBy}
-use Rattle.connection.specs.Refusal.{_when_}
+use Rattle.connection.specs.Refusal.{_when_, refusal}
 use Rattle.queue_link.specs.LinkedStraight.{CallIs, same-with, asBefore, asIs, before-is, stays-is}
 
 some-is : (w : Wait) → Sized w → isSome (atomsIn w) ≡ anything w
@@ -94,10 +95,10 @@ module _ (m : QueueMemory) (g : Good m) (is-open : connOf m .«open» ≡ true) 
 
   reader-before : (a : Argument) → isWriter a ≡ false → queueCalled m id (D.Straight a) ≡ asBefore m id a
   unfolding queueCalled called
-  reader-before (ForValue name fallback) w = ap₂ (λ (x : QueueMemory) v. record { left = x; answer = D.Straightly (ValueIs v) }) (sym (same-with m z)) (value-is name fallback)
-  reader-before (ForSource name) w = ap₂ (λ (x : QueueMemory) v. record { left = x; answer = D.Straightly (SourceIs v) }) (sym (same-with m z)) (source-is name)
-  reader-before (ForPair k) w = ap₂ (λ (x : QueueMemory) v. record { left = x; answer = D.Straightly (PairAnswer v) }) (sym (same-with m z)) (pair-is k)
-  reader-before ForWalk w = ap₂ (λ (x : QueueMemory) v. record { left = x; answer = D.Straightly (WalkIs v) }) (sym (same-with m z)) walk-is
+  reader-before (ForValue name fallback) w = ap₂ (λ (x : QueueMemory) v. record { left = x; answer = D.Straightly (ValueIs v) }) (sym (same-with m)) (value-is name fallback)
+  reader-before (ForSource name) w = ap₂ (λ (x : QueueMemory) v. record { left = x; answer = D.Straightly (SourceIs v) }) (sym (same-with m)) (source-is name)
+  reader-before (ForPair k) w = ap₂ (λ (x : QueueMemory) v. record { left = x; answer = D.Straightly (PairAnswer v) }) (sym (same-with m)) (pair-is k)
+  reader-before ForWalk w = ap₂ (λ (x : QueueMemory) v. record { left = x; answer = D.Straightly (WalkIs v) }) (sym (same-with m)) walk-is
   reader-before (ForSay o content buffer) w = absurd (not-both refl w)
   reader-before (ForEnd o buffer) w = absurd (not-both refl w)
   reader-before (ForFinish status buffer) w = absurd (not-both refl w)
@@ -156,7 +157,7 @@ module _ (m : QueueMemory) (g : Good m) (is-open : connOf m .«open» ≡ true) 
   -- say
   abbrev sayNumber : Output → List ℕ → List ℕ → ℕ
   sayNumber o content buffer =
-      firstRefusal (rowsOf m id (streamRows m id o ((6 when (ltb (length buffer) (length (Of.sayBytes (T.requestOf m id) o content)))) ∷ (10 when anything (waitAt m (T.slotOf m id))) ∷ [])))
+      refusal (rowsOf m id (streamRows m id o ((6 when (ltb (length buffer) (length (Of.sayBytes (T.requestOf m id) o content)))) ∷ (10 when anything (waitAt m (T.slotOf m id))) ∷ [])))
 
   stream-cases : (l n e s y : Bool)
       → _≡_ {A = ℕ} (if (if l then false else n) then 4 else if T.or l e then 5 else if s then 6 else if y then 10 else 0)
@@ -177,7 +178,7 @@ module _ (m : QueueMemory) (g : Good m) (is-open : connOf m .«open» ≡ true) 
   say-number o content buffer =
       let h = queue-shape m z in
       rw (say-own o content buffer, some-is (waitAt m i) (z .sized i low), L.leaving-is m z y is-open id i found, h, is-open, found)
-      (stream-cases (getD (m .waits .lasts) i false) (Of.noOutput (requestAt (connOf m .table) i)) (Of.isEnded o (requestAt (connOf m .table) i .state)) (ltb (length buffer) (length (Of.sayBytes (requestAt (connOf m .table) i) o content))) (anything (waitAt m i)))
+      (stream-cases (lastAt (m .waits) i) (Of.noOutput (requestAt (connOf m .table) i)) (Of.isEnded o (requestAt (connOf m .table) i .state)) (ltb (length buffer) (length (Of.sayBytes (requestAt (connOf m .table) i) o content))) (anything (waitAt m i)))
 
   say-called : (o : Output) (content buffer : List ℕ) → queueCalled m id (D.Straight (ForSay o content buffer)) ≡ pick (sayNumber o content buffer) (ForSay o content buffer)
   unfolding queueCalled straightSay called refused
@@ -185,7 +186,7 @@ module _ (m : QueueMemory) (g : Good m) (is-open : connOf m .«open» ≡ true) 
     where
       go : (b : Bool) (n : ℕ) → changedBy m (if b then C.say (connOf m) id o content buffer else C.unwritten n (connOf m) buffer) ≡ (if b then asBefore m id (ForSay o content buffer) else asIs m (Wrote n 0 buffer))
       go true n = refl
-      go false n = ap (λ (x : QueueMemory). record { left = x; answer = D.Straightly (Wrote n 0 buffer) }) (same-with m z)
+      go false n = ap (λ (x : QueueMemory). record { left = x; answer = D.Straightly (Wrote n 0 buffer) }) (same-with m)
 
   say-refused : (o : Output) (content buffer : List ℕ) → (refusalOf (receiveCall (ForSay o content buffer) own) ≡ 0 → ⊥)
       → receiveCall (ForSay o content buffer) own ≡ Stays own (refused (refusalOf (receiveCall (ForSay o content buffer) own)) (ForSay o content buffer))
@@ -202,7 +203,7 @@ module _ (m : QueueMemory) (g : Good m) (is-open : connOf m .«open» ≡ true) 
   -- end
   abbrev endNumber : Output → List ℕ → ℕ
   endNumber o buffer =
-      firstRefusal (rowsOf m id (streamRows m id o ((6 when (ltb (length buffer) (length (Of.endBytes (T.requestOf m id) o)))) ∷ (10 when anything (waitAt m (T.slotOf m id))) ∷ [])))
+      refusal (rowsOf m id (streamRows m id o ((6 when (ltb (length buffer) (length (Of.endBytes (T.requestOf m id) o)))) ∷ (10 when anything (waitAt m (T.slotOf m id))) ∷ [])))
 
   end-own : (o : Output) (buffer : List ℕ) → refusalOf (receiveCall (ForEnd o buffer) own) ≡ Of.outputRefusal (requestAt (connOf m .table) i) o (Of.endBytes (requestAt (connOf m .table) i) o) buffer
   unfolding receiveCall Of.endIn
@@ -213,7 +214,7 @@ module _ (m : QueueMemory) (g : Good m) (is-open : connOf m .«open» ≡ true) 
   end-number o buffer =
       let h = queue-shape m z in
       rw (end-own o buffer, some-is (waitAt m i) (z .sized i low), L.leaving-is m z y is-open id i found, h, is-open, found)
-      (stream-cases (getD (m .waits .lasts) i false) (Of.noOutput (requestAt (connOf m .table) i)) (Of.isEnded o (requestAt (connOf m .table) i .state)) (ltb (length buffer) (length (Of.endBytes (requestAt (connOf m .table) i) o))) (anything (waitAt m i)))
+      (stream-cases (lastAt (m .waits) i) (Of.noOutput (requestAt (connOf m .table) i)) (Of.isEnded o (requestAt (connOf m .table) i .state)) (ltb (length buffer) (length (Of.endBytes (requestAt (connOf m .table) i) o))) (anything (waitAt m i)))
 
   end-called : (o : Output) (buffer : List ℕ) → queueCalled m id (D.Straight (ForEnd o buffer)) ≡ pick (endNumber o buffer) (ForEnd o buffer)
   unfolding queueCalled straightEnd called refused
@@ -221,7 +222,7 @@ module _ (m : QueueMemory) (g : Good m) (is-open : connOf m .«open» ≡ true) 
     where
       go : (b : Bool) (n : ℕ) → changedBy m (if b then C.endStream (connOf m) id o buffer else C.unwritten n (connOf m) buffer) ≡ (if b then asBefore m id (ForEnd o buffer) else asIs m (Wrote n 0 buffer))
       go true n = refl
-      go false n = ap (λ (x : QueueMemory). record { left = x; answer = D.Straightly (Wrote n 0 buffer) }) (same-with m z)
+      go false n = ap (λ (x : QueueMemory). record { left = x; answer = D.Straightly (Wrote n 0 buffer) }) (same-with m)
 
   end-refused : (o : Output) (buffer : List ℕ) → (refusalOf (receiveCall (ForEnd o buffer) own) ≡ 0 → ⊥)
       → receiveCall (ForEnd o buffer) own ≡ Stays own (refused (refusalOf (receiveCall (ForEnd o buffer) own)) (ForEnd o buffer))
@@ -238,7 +239,7 @@ module _ (m : QueueMemory) (g : Good m) (is-open : connOf m .«open» ≡ true) 
   -- finish
   abbrev finishNumber : ℕ → List ℕ → ℕ
   finishNumber status buffer =
-      firstRefusal ((2 when not (eqb (length (m .memory .store)) STORE)) ∷ rowsOf m id ((5 when isLeaving m id) ∷ (6 when (ltb (length buffer) (length (Of.finishBytes (T.requestOf m id) status)))) ∷ (10 when anything (waitAt m (T.slotOf m id))) ∷ []))
+      refusal ((2 when not (eqb (length (m .memory .store)) STORE)) ∷ rowsOf m id ((5 when isLeaving m id) ∷ (6 when (ltb (length buffer) (length (Of.finishBytes (T.requestOf m id) status)))) ∷ (10 when anything (waitAt m (T.slotOf m id))) ∷ []))
 
   finish-cases : (l s y : Bool)
       → _≡_ {A = ℕ} (if l then 5 else if s then 6 else if y then 10 else 0)
@@ -258,7 +259,7 @@ module _ (m : QueueMemory) (g : Good m) (is-open : connOf m .«open» ≡ true) 
       let h = queue-shape m z in
       let q = eq-eqb (length (m .memory .store)) STORE (z .steady .sizes .full) in
       rw (finish-own status buffer, some-is (waitAt m i) (z .sized i low), L.leaving-is m z y is-open id i found, q, h, is-open, found)
-      (finish-cases (getD (m .waits .lasts) i false) (ltb (length buffer) (length (Of.finishBytes (requestAt (connOf m .table) i) status))) (anything (waitAt m i)))
+      (finish-cases (lastAt (m .waits) i) (ltb (length buffer) (length (Of.finishBytes (requestAt (connOf m .table) i) status))) (anything (waitAt m i)))
 
   finish-called : (status : ℕ) (buffer : List ℕ) → queueCalled m id (D.Straight (ForFinish status buffer)) ≡ pick (finishNumber status buffer) (ForFinish status buffer)
   unfolding queueCalled straightFinish called refused
@@ -267,7 +268,7 @@ module _ (m : QueueMemory) (g : Good m) (is-open : connOf m .«open» ≡ true) 
       go : (b : Bool) (n : ℕ) → finishedBy m (if b then C.finish (connOf m) (m .memory .store) id status buffer else C.unfinished n (connOf m) (m .memory .store) buffer)
           ≡ (if b then asBefore m id (ForFinish status buffer) else asIs m (FinishedWith n 0 false buffer))
       go true n = refl
-      go false n = ap (λ (x : QueueMemory). record { left = x; answer = D.Straightly (FinishedWith n 0 false buffer) }) (same-with m z)
+      go false n = ap (λ (x : QueueMemory). record { left = x; answer = D.Straightly (FinishedWith n 0 false buffer) }) (same-with m)
 
   finish-refused : (status : ℕ) (buffer : List ℕ) → (refusalOf (receiveCall (ForFinish status buffer) own) ≡ 0 → ⊥)
       → receiveCall (ForFinish status buffer) own ≡ Stays own (refused (refusalOf (receiveCall (ForFinish status buffer) own)) (ForFinish status buffer))

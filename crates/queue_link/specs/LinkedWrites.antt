@@ -29,7 +29,7 @@ use Rattle.connection.specs.Runs.Receiver.{receiver}
 use Rattle.connection.specs.Runs.Loading.{loadedSlots, loadedReading}
 use Rattle.connection.specs.Runs.LoadingLaws.{lookup-loaded}
 use Rattle.connection.specs.Runs.LinkingStep.{open-loaded, closed-loaded}
-use Rattle.queue_slot.specs.Atoms.{Atom, atomsOf, recordAtoms, next}
+use Rattle.queue_slot.specs.Atoms.{Atom, atomsOf, recordAtoms}
 use Rattle.queue_slot.specs.AtomLaws.{atoms-none}
 use Rattle.queue_slot.specs.Wait.{anything, Served, ServesNothing, ServesEnd, ServesData, ServesLast, served}
 use Rattle.queue_slot.specs.ServeLaws.{ServedWell, served-well, put-front}
@@ -53,6 +53,7 @@ use Rattle.queue_link.specs.Observing.{served-seen}
 use Rattle.queue_link.specs.LinkedRuns.{servedBy, machineItems, machineTimeline, Fine, PieceOk, op-is, op-fine, piece-ok, pump-done, pump-refused}
 use Rattle.queue_link.specs.LinkedShown.{step-observed, call-observed}
 use Rattle.queue_link.specs.LinkedWritten.{readOf, ifOwn, records-none, records-record, Own, own-one, toldBytes, own-asked, own-refusal, wrote-bytes}
+use Rattle.queue.specs.Numbers.{NEXT}
 use Rattle.queue.specs.Calls as T
 use Rattle.queue.specs.Calls.{QUEUE, queueInShape, QueueMemory, connOf, waitAt, firstSlot, slotWaits, onSome, Turned, turned, servedLast, writeServed, pumpSlot, pumpRefusal}
 use Rattle.queue.specs.Run as D
@@ -216,7 +217,7 @@ serve-told s id bytes e R =
 turn-writes : (R k : ℕ) (m : QueueMemory) → Fine m → TurnWrites R k m (turned k m) (servedIn k m)
 unfolding turned servedIn servesOf observations flatten observed writtenAll
 turn-writes R zero m g = record { written = records-none R; fits = omega arith }
-turn-writes R (suc k) m g = go (nextWaiting SLOTS SLOTS (slotWaits m) (firstSlot (m .waits .next))) refl (λ i h. turn-writes R k (pumpSlot m i .left) h)
+turn-writes R (suc k) m g = go (nextWaiting SLOTS SLOTS (slotWaits m) (firstSlot (getD (m .waits) NEXT 0))) refl (λ i h. turn-writes R k (pumpSlot m i .left) h)
   where
     afterwards : Option ℕ → Turned
     afterwards o = onSome o (λ i. let p = pumpSlot m i in let t = turned k (p .left) in record { records = p .bytes ∷ t .records; left = t .left }) (record { records = []; left = m })
@@ -228,7 +229,7 @@ turn-writes R (suc k) m g = go (nextWaiting SLOTS SLOTS (slotWaits m) (firstSlot
         → (Fine (pumpSlot m i .left) → TurnWrites R k (pumpSlot m i .left) (turned k (pumpSlot m i .left)) (servedIn k (pumpSlot m i .left)))
         → TurnWrites R (suc k) m (afterwards (some i)) (ids (some i))
     more i h w f =
-        let o = waits-open m i (g .good .steady) h w in
+        let o = waits-open m i (g .good .steady) w in
         let id = getD (connOf m .table .ids) i 0 in
         let e = waits-found m i (g .good .steady) h o w in
         let r = f (slot-fine m g o id i e) in
@@ -244,12 +245,12 @@ turn-writes R (suc k) m g = go (nextWaiting SLOTS SLOTS (slotWaits m) (firstSlot
           fits = omega (arith, length-append bytes rest, p .fits, r .fits);
         }
 
-    go : (o : Option ℕ) → nextWaiting SLOTS SLOTS (slotWaits m) (firstSlot (m .waits .next)) ≡ o
+    go : (o : Option ℕ) → nextWaiting SLOTS SLOTS (slotWaits m) (firstSlot (getD (m .waits) NEXT 0)) ≡ o
         → ((i : ℕ) → Fine (pumpSlot m i .left) → TurnWrites R k (pumpSlot m i .left) (turned k (pumpSlot m i .left)) (servedIn k (pumpSlot m i .left)))
         → TurnWrites R (suc k) m (afterwards o) (ids o)
     go none e f = record { written = records-none R; fits = omega arith }
     go (some i) e f =
-        more i (waiting-below SLOTS SLOTS (slotWaits m) (firstSlot (m .waits .next)) i (first-below (m .waits .next)) e) (waiting-is SLOTS SLOTS (slotWaits m) (firstSlot (m .waits .next)) i e) (f i)
+        more i (waiting-below SLOTS SLOTS (slotWaits m) (firstSlot (getD (m .waits) NEXT 0)) i (first-below (getD (m .waits) NEXT 0)) e) (waiting-is SLOTS SLOTS (slotWaits m) (firstSlot (getD (m .waits) NEXT 0)) i e) (f i)
 
 none-written : (R : ℕ) (s : Connection queueingReceiver) → writtenOf R (observations queueingReceiver s (servesOf [])) ≡ []
 unfolding observations servesOf observed writtenAll

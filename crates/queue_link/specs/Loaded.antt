@@ -3,12 +3,13 @@ use mathlib.Core.Path.{_≡_, refl, ap, sym, _∙_, subst}
 use mathlib.Core.List.{List, [], _∷_}
 use mathlib.Core.Option.{none}
 use mathlib.Core.Bool.{Bool, true, false, not}
-use Prim.Native.Nat.{ℕ, zero, suc, _+_, _≤_, _<_}
+use Prim.Native.Nat.{ℕ, zero, suc, _+_, _<_}
 use native.Mathlib.Omega.{arith}
-use lib.ListN.{length, getD, take, getD-replicate}
+use lib.ListN.{length, take}
 use borrow.Author.Tests.{eq-eqb, le-leb}
 use Rattle.wire.specs.Test.{if_then_else_, byTest}
 use Rattle.slot_word.specs.Word.{taken}
+use Rattle.slot_word.specs.WordLaws.{taken-out}
 use Rattle.machine.specs.Slots.{SlotState, Vacant, HeldBy}
 use Rattle.machine.specs.Timeline.{byteItems}
 use Rattle.machine.specs.Machine.{Connection, stateAfter}
@@ -23,13 +24,14 @@ use Rattle.connection.specs.Runs.Receiver.{receiver}
 use Rattle.connection.specs.Runs.Loading.{elements, loadedSlot, slotOf, loadedSlots}
 use Rattle.connection.specs.Runs.LinkingStep.{loadedOf, open-loaded, closed-loaded, Steady, Linked, step-linked}
 use Rattle.queue_slot.specs.Atoms.{Atom}
-use Rattle.queue_slot.specs.Wait.{ROOM, NoEnds, anything, atomsIn}
+use Rattle.queue_slot.specs.Wait.{ROOM, anything, atomsIn}
 use Rattle.queue_slot.specs.WaitLaws.{Sized}
 use Rattle.queue_slot.specs.WaitRefines.{anything-is}
 use Rattle.queue_machine.specs.Queued.{queueingReceiver}
 use Rattle.queue_machine.specs.Lift.{Waiting, liftConnection, NothingFree, FreeEnd, FreeVacant, FreeHeld}
 use Rattle.queue_machine.specs.LiftRuns.{FreeIn, lift-bytes}
-use Rattle.queue.specs.Calls.{nobodyWaits, QueueMemory, connOf, waitAt, waitFits, waitsFit, queueInShape, queueStepRefusal, queueStep}
+use Rattle.queue.specs.Numbers.{nobodyWaits, keptWaits, countAt, frontAt, lastAt}
+use Rattle.queue.specs.Calls.{QueueMemory, beside, connOf, waitAt, waitFits, waitsFit, queueInShape, queueStepRefusal, queueStep}
 use Rattle.queue.specs.Run.{StepOver as QueueStep, queueAfter, withMemory}
 
 -- what waits in each slot, and the machine's connection
@@ -84,6 +86,11 @@ elements-free g f i (suc n) k h r = go (g i) refl k h r (λ j l t. elements-free
     go (HeldBy id q) e zero h (FreeHeld r) w = first 0 (ap g here) (rw e tt)
     go (HeldBy id q) e (suc k) h (FreeHeld r) w = later k (w k (omega arith) r)
 
+-- there are as many slots as SLOTS says
+pub slot-below : (t : Table) (store : List ℕ) (j : ℕ) → j < length (loadedSlots t store) → j < SLOTS
+unfolding loadedSlots elements
+slot-below t store j h = h
+
 -- a free slot
 free-slot : (t : Table) (store : List ℕ) (i : ℕ) (l : List Atom) → taken i (t .occupied) ≡ false → FreeAt l (slotOf t store i) → l ≡ []
 unfolding slotOf loadedSlot
@@ -101,42 +108,42 @@ slot-free m i z o h e =
     anything-is (waitAt m i) (z .sized i h) (free-slot t (m .memory .store) i (waitingOf m i) e b)
 
 -- ---- shape
-fits-all : (m : QueueMemory) (n i : ℕ) → ((k : ℕ) → k < i + n → waitFits m k ≡ true) → waitsFit n m i ≡ true
+fits-all : (waits : List ℕ) (occupied n i : ℕ) → ((k : ℕ) → k < i + n → waitFits waits occupied k ≡ true) → waitsFit n waits occupied i ≡ true
 unfolding waitsFit
-fits-all m zero i h = refl
-fits-all m (suc n) i h = rw (h i (omega arith)) (fits-all m n (i + 1) (λ k l. h k (omega arith)))
+fits-all waits occupied zero i h = refl
+fits-all waits occupied (suc n) i h = rw (h i (omega arith)) (fits-all waits occupied n (i + 1) (λ k l. h k (omega arith)))
 
-fits-one : (m : QueueMemory) (i : ℕ) → getD (m .waits .counts) i 0 ≤ ROOM → (taken i (connOf m .table .occupied) ≡ false → anything (waitAt m i) ≡ false) → waitFits m i ≡ true
-unfolding waitFits
-fits-one m i c f = rw (le-leb (getD (m .waits .counts) i 0) ROOM c) (go (taken i (connOf m .table .occupied)) refl)
+fits-one : (m : QueueMemory) (i : ℕ) → Sized (waitAt m i) → (taken i (connOf m .table .occupied) ≡ false → anything (waitAt m i) ≡ false)
+    → waitFits (m .waits) (connOf m .table .occupied) i ≡ true
+unfolding waitFits waitAt anything
+fits-one m i s f = rw (le-leb (waitAt m i .count) ROOM (s .count-fits)) (go (taken i (connOf m .table .occupied)) refl)
   where
     go : (b : Bool) → taken i (connOf m .table .occupied) ≡ b → (if b then true else not (anything (waitAt m i))) ≡ true
     go true e = refl
     go false e = rw (f e)
 
 -- where nothing waits anywhere
-pub nobody-at : (m : QueueMemory) (i : ℕ) → i < SLOTS → m .waits ≡ nobodyWaits → anything (waitAt m i) ≡ false
-unfolding anything waitAt
-nobody-at m i h e =
-    let c : getD (m .waits .counts) i 0 ≡ 0 = rw e (getD-replicate {A = ℕ} 16 i 0 0 h) in
-    let f : getD (m .waits .fronts) i NoEnds ≡ NoEnds = rw e (getD-replicate 16 i NoEnds NoEnds h) in
-    let l : getD (m .waits .lasts) i false ≡ false = rw e (getD-replicate 16 i false false h) in
-    rw (c, f, l)
+no-bit : (i : ℕ) → taken i 0 ≡ false
+no-bit i = taken-out 0 i 0 (omega arith) (omega arith)
 
-count-at : (m : QueueMemory) (i : ℕ) → waitAt m i .count ≤ ROOM → getD (m .waits .counts) i 0 ≤ ROOM
-unfolding waitAt
-count-at m i h = h
+pub nobody-count : (i : ℕ) → countAt nobodyWaits i ≡ 0
+unfolding countAt
+nobody-count i = rw (no-bit i)
+
+pub nobody-at : (m : QueueMemory) (i : ℕ) → m .waits ≡ nobodyWaits → anything (waitAt m i) ≡ false
+unfolding anything waitAt countAt frontAt lastAt
+nobody-at m i e = rw (e, no-bit i)
 
 free-at : (m : QueueMemory) (i : ℕ) (o : Bool) → connOf m .«open» ≡ o → QueueSteady m → i < SLOTS → taken i (connOf m .table .occupied) ≡ false → anything (waitAt m i) ≡ false
 free-at m i true o z h e = slot-free m i z o h e
-free-at m i false o z h e = nobody-at m i h (z .dropped o)
+free-at m i false o z h e = nobody-at m i (z .dropped o)
 
 -- such a state is in shape
 pub queue-shape : (m : QueueMemory) → QueueSteady m → queueInShape m ≡ true
 unfolding queueInShape
 queue-shape m z =
     rw (z .steady .shape)
-    (fits-all m SLOTS 0 (λ k l. let h : k < SLOTS = omega arith in fits-one m k (count-at m k (z .sized k h .count-fits)) (λ e. free-at m k (connOf m .«open») refl z h e)))
+    (fits-all (m .waits) (connOf m .table .occupied) SLOTS 0 (λ k l. let h : k < SLOTS = omega arith in fits-one m k (z .sized k h) (λ e. free-at m k (connOf m .«open») refl z h e)))
 
 -- ---- a step
 closed-refusal : (m : Memory) → Steady m → m .state .conn .«open» ≡ false → stepRefusal (m .state .conn) (m .store) ≡ 1
@@ -164,16 +171,37 @@ pub linked-state : (m : Memory) (piece : List ℕ) → Linked m (StepOver piece)
 unfolding memoryAfter itemsOf
 linked-state m piece k = k .state
 
-kept-waits : (m : QueueMemory) (n : Memory) → n .state .conn .«open» ≡ true → loadedQueue (withMemory m n) ≡ liftConnection (waitingOf m) (loadedOf n)
+-- ---- what a call or a step keeps of what waits
+-- where the connection is open behind it, and where it does nothing to it: all
+pub kept-open : (b : Bool) (w : List ℕ) → keptWaits b true w ≡ w
+kept-open true w = refl
+kept-open false w = refl
+
+pub kept-same : (b : Bool) (w : List ℕ) → keptWaits b b w ≡ w
+kept-same true w = refl
+kept-same false w = refl
+
+-- all of it or nothing
+pub kept-either : (P : List ℕ → Type 0) (a b : Bool) (w : List ℕ) → P w → P nobodyWaits → P (keptWaits a b w)
+kept-either P true true w h n = h
+kept-either P true false w h n = n
+kept-either P false b w h n = h
+
+-- nothing where it is closed behind it
+kept-closed : (a : Bool) (w : List ℕ) → (a ≡ false → w ≡ nobodyWaits) → keptWaits a false w ≡ nobodyWaits
+kept-closed true w h = refl
+kept-closed false w h = h refl
+
+same-waiting : (m : QueueMemory) (n : Memory) → n .state .conn .«open» ≡ true → waitingOf (withMemory m n) ≡ waitingOf m
 unfolding waitAt
-kept-waits m n o = rw o
+same-waiting m n o = rw (o, kept-open (connOf m .«open») (m .waits))
 
 -- with another memory: what waits stays, or is dropped by a close
 pub with-memory : (m : QueueMemory) (n : Memory) → loadedQueue (withMemory m n) ≡ liftConnection (waitingOf m) (loadedOf n)
 with-memory m n = go (n .state .conn .«open») refl
   where
     go : (o : Bool) → n .state .conn .«open» ≡ o → loadedQueue (withMemory m n) ≡ liftConnection (waitingOf m) (loadedOf n)
-    go true o = kept-waits m n o
+    go true o = ap (λ (f : Waiting). liftConnection f (loadedOf n)) (same-waiting m n o)
     go false o = ap (liftConnection (waitingOf (withMemory m n))) (closed-loaded n o) ∙ sym (ap (liftConnection (waitingOf m)) (closed-loaded n o))
 
 -- the state behind a step: the machine's, and every request keeps what waits
@@ -189,15 +217,12 @@ step-loaded m piece z all =
     rw (queueStep-is m piece z) (with-memory m n ∙ ap (liftConnection (waitingOf m)) same ∙ sym (r .state))
 
 -- ---- what every state fulfils, behind a step
-sized-kept : (m : QueueMemory) (n : Memory) (i : ℕ) (o : Bool) → n .state .conn .«open» ≡ o → i < SLOTS → Sized (waitAt m i) → Sized (waitAt (withMemory m n) i)
+sized-kept : (m : QueueMemory) (n : Memory) (i : ℕ) → Sized (waitAt m i) → Sized (waitAt (withMemory m n) i)
 unfolding waitAt
-sized-kept m n i true o h s = rw o (record { count-fits = s .count-fits; bytes-size = s .bytes-size; marks-size = s .marks-size })
-sized-kept m n i false o h s =
-    rw o (record { count-fits = rw (getD-replicate {A = ℕ} 16 i 0 0 h) (omega arith); bytes-size = s .bytes-size; marks-size = s .marks-size })
-
-same-waiting : (m : QueueMemory) (n : Memory) → n .state .conn .«open» ≡ true → waitingOf (withMemory m n) ≡ waitingOf m
-unfolding waitAt
-same-waiting m n o = rw o
+sized-kept m n i s =
+    kept-either (λ w. Sized (waitAt (beside n w (m .marks) (m .queue)) i)) (connOf m .«open») (n .state .conn .«open») (m .waits)
+    (record { count-fits = s .count-fits; bytes-size = s .bytes-size; marks-size = s .marks-size })
+    (record { count-fits = rw (nobody-count i) (omega arith); bytes-size = s .bytes-size; marks-size = s .marks-size })
 
 free-kept : (m : QueueMemory) (n : Memory) (o : Bool) → n .state .conn .«open» ≡ o → FreeIn (waitingOf m) (loadedOf n) → FreeIn (waitingOf (withMemory m n)) (loadedOf n)
 free-kept m n true o h = subst (λ f. FreeIn f (loadedOf n)) (sym (same-waiting m n o)) h
@@ -207,9 +232,9 @@ free-kept m n false o h = subst (λ w. FreeIn (waitingOf (withMemory m n)) w) (s
 pub steady-with : (m : QueueMemory) (n : Memory) → QueueSteady m → Steady n → FreeIn (waitingOf m) (loadedOf n) → QueueSteady (withMemory m n)
 steady-with m n z s f = record {
   steady = s;
-  sized = λ i h. sized-kept m n i (n .state .conn .«open») refl h (z .sized i h);
+  sized = λ i h. sized-kept m n i (z .sized i h);
   free = free-kept m n (n .state .conn .«open») refl f;
-  dropped = λ o. rw o;
+  dropped = λ o. rw o (kept-closed (connOf m .«open») (m .waits) (z .dropped));
 }
 
 pub linked-steady : (m : Memory) (piece : List ℕ) → Linked m (StepOver piece) → Steady (memoryOf (stepOf m piece))

@@ -2,15 +2,16 @@
 use mathlib.Core.Path.{_≡_, refl, ap, sym, _∙_}
 use mathlib.Core.List.{List, [], _++_, map}
 use mathlib.Core.Bool.{Bool, true, false, not}
-use Prim.Native.Nat.{ℕ, _+_, _≤_}
+use Prim.Native.Nat.{ℕ, _+_, _≤_, _<_}
 use native.Mathlib.Omega.{arith}
-use lib.ListN.{length, getD, set}
+use lib.ListN.{length, set}
 use lib.Dec.{eqb, ltb}
 use borrow.Author.Tests.{eqb-true, eq-eqb, ne-eqb, eqb-false, leb-true}
 use Rattle.wire.specs.Test.{if_then_else_, byTest}
 use Rattle.machine.specs.Slots.{HeldBy, FoundAt, lookup}
 use Rattle.machine.specs.Timeline.{RequestCall, CallItem}
 use Rattle.machine.specs.Machine.{Slots, Reading, Open, Stays, callDecided, requestCalled, onItem}
+use Rattle.connection.specs.Refusal.{refusal}
 use Rattle.connection.specs.declared.request.Request.{Request}
 use Rattle.connection.specs.declared.state.Table.{Table}
 use Rattle.connection.specs.declared.state.Slot.{Slot}
@@ -35,8 +36,9 @@ use Rattle.queue_slot.specs.WaitKept.{Kept, room-is, end-kept}
 use Rattle.queue_machine.specs.Queued as Q
 use Rattle.queue_machine.specs.Queued.{Queued, queued, Asked, QueueSay, QueueEnd, queuedCall, queueingReceiver}
 use Rattle.queue_machine.specs.Lift.{liftSlots, liftReading, liftConnection, lift-lookup, lift-set, lift-changed}
+use Rattle.queue.specs.Numbers.{lastAt}
 use Rattle.queue.specs.Areas.{Roomy, wait-of-put, wait-of-other}
-use Rattle.queue_link.specs.Loaded.{waitingOf, loadedQueue, QueueSteady, queue-shape}
+use Rattle.queue_link.specs.Loaded.{waitingOf, loadedQueue, QueueSteady, queue-shape, slot-below}
 use Rattle.queue.specs.Calls as T
 use Rattle.queue.specs.Calls.{QUEUE, QueueMemory, connOf, waitAt, putWait, withConn, putBoth, sayRefusal}
 
@@ -95,7 +97,7 @@ module _ (m : QueueMemory) (z : QueueSteady m) (y : Roomy m) (is-open : connOf m
   same-wait r j = refl
 
   pub roomy-with : (r : Request) → Roomy (withConn m (C.putsRequest (connOf m) i r))
-  roomy-with r = record { counts = y .counts; fronts = y .fronts; lasts = y .lasts; statuses = y .statuses; queue = y .queue; marks = y .marks }
+  roomy-with r = record { waits = y .waits; queue = y .queue; marks = y .marks }
 
   -- on the machine it is put back too
   pub put-loaded : (r : Request) (w : Wait) → SameList (requestAt table i) r → Sized w
@@ -105,7 +107,7 @@ module _ (m : QueueMemory) (z : QueueSteady m) (y : Roomy m) (is-open : connOf m
       let g = waitingOf (putBoth m i r w) in
       let held : Held = record { request = r; area = areaAt (m .memory .store) i } in
       let here : g i ≡ atomsIn w = ap atomsIn (wait-of-put k i w (roomy-with r) (holds .low) s) in
-      let there : (j : ℕ) → (j ≡ i → ⊥) → g j ≡ waitingOf m j = λ j d. ap atomsIn (wait-of-other k i w (roomy-with r) (holds .low) s j d ∙ same-wait r j) in
+      let there : (j : ℕ) → j < length slots → (j ≡ i → ⊥) → g j ≡ waitingOf m j = λ j h d. ap atomsIn (wait-of-other k i w (roomy-with r) (holds .low) s j (slot-below table (m .memory .store) j h) d ∙ same-wait r j) in
       let t : loadedSlots (putRequest table i r) (m .memory .store) ≡ set slots i (HeldBy id held) =
       loaded-states table (m .memory .store) i r (z .steady .sizes .table) (z .steady .sizes .full) in-use ∙ ap (λ k. set slots i (HeldBy k held)) (same .id ∙ own-id) in
       ap (liftConnection g) (put-memory r w ∙ ap (λ T. Open T reading) t)
@@ -117,7 +119,7 @@ module _ (m : QueueMemory) (z : QueueSteady m) (y : Roomy m) (is-open : connOf m
   mine = queued own (waitingOf m i)
 
   -- END waits just where its number says so
-  pub leaving-is : endWaits (waitingOf m i) ≡ getD (m .waits .lasts) i false
+  pub leaving-is : endWaits (waitingOf m i) ≡ lastAt (m .waits) i
   unfolding waitAt
   leaving-is = last-is (waitAt m i)
 
@@ -128,7 +130,7 @@ module _ (m : QueueMemory) (z : QueueSteady m) (y : Roomy m) (is-open : connOf m
   say-refusal o content =
       let q = eq-eqb (length (m .queue)) QUEUE (y .queue) in
       let h = queue-shape m z in
-      rw (q, h, is-open, found, leaving-is) (cases (getD (m .waits .lasts) i false) (Of.noOutput (requestAt table i)) (Of.isEnded o (requestAt table i .state)) (hasRoomFor (waitAt m i) content))
+      rw (q, h, is-open, found, leaving-is) (cases (lastAt (m .waits) i) (Of.noOutput (requestAt table i)) (Of.isEnded o (requestAt table i .state)) (hasRoomFor (waitAt m i) content))
     where
       cases : (l n e r : Bool)
           → _≡_ {A = ℕ} (if (if l then false else n) then 4 else if T.or l e then 5 else if not r then 10 else 0)
@@ -196,11 +198,11 @@ module _ (m : QueueMemory) (z : QueueSteady m) (y : Roomy m) (is-open : connOf m
       byTest (eqb (Q.queueRefusal mine o) 0) (λ e. say-open o content e) (λ e. say-refused o content e) ∙ sym (ap (λ e. e .0) (call-decided (QueueSay o content)))
 
   -- ---- queued end
-  pub end-refusal : (o : Output) → T.firstRefusal (T.rowsOf m id (T.streamRows m id o [])) ≡ Q.queueRefusal mine o
+  pub end-refusal : (o : Output) → refusal (T.rowsOf m id (T.streamRows m id o [])) ≡ Q.queueRefusal mine o
   unfolding Q.queueRefusal requestAt endWaits waitAt atomsIn
   end-refusal o =
       let h = queue-shape m z in
-      rw (h, is-open, found, leaving-is) (cases (getD (m .waits .lasts) i false) (Of.noOutput (requestAt table i)) (Of.isEnded o (requestAt table i .state)))
+      rw (h, is-open, found, leaving-is) (cases (lastAt (m .waits) i) (Of.noOutput (requestAt table i)) (Of.isEnded o (requestAt table i .state)))
     where
       cases : (l n e : Bool) → _≡_ {A = ℕ} (if (if l then false else n) then 4 else if T.or l e then 5 else 0) (if l then 5 else if n then 4 else if e then 5 else 0)
       cases true n e = refl
@@ -226,7 +228,7 @@ module _ (m : QueueMemory) (z : QueueSteady m) (y : Roomy m) (is-open : connOf m
       let w = waitAt m i in
       let l : w .last ≡ false = sym (last-is w) ∙ not-leaving o e in
       let d = end-kept (requestAt table i) w o k l (not-ended o e) in
-      let n : T.firstRefusal (T.rowsOf m id (T.streamRows m id o [])) ≡ 0 = end-refusal o ∙ e in
+      let n : refusal (T.rowsOf m id (T.streamRows m id o [])) ≡ 0 = end-refusal o ∙ e in
       rw (n, e, slot-found (connOf m) id i found)
       (put-loaded (Of.endedOn (requestAt table i) o) (waitEnd w o) (ended-same o) (d .0 .sized)
       ∙ ap (λ k. Open (set (liftSlots (waitingOf m) slots) i (HeldBy id (queued (record { request = Of.endedOn (requestAt table i) o; area = areaAt (m .memory .store) i }) k))) (liftReading reading)) (d .1))

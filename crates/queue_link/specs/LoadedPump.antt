@@ -1,10 +1,9 @@
 -- A record of the pump on the whole state is the machine's serve of the request in that slot.
 use mathlib.Core.Path.{_≡_, refl, ap, ap₂, sym, _∙_}
-use mathlib.Core.List.{List}
+use mathlib.Core.List.{List, []}
 use mathlib.Core.Bool.{Bool, true, false}
-use Prim.Native.Nat.{ℕ}
-use lib.ListN.{set, take}
-use lib.Seq.{set-getD, getD-set-other}
+use Prim.Native.Nat.{ℕ, _<_}
+use lib.ListN.{length, set, take, length-set}
 use Rattle.wire.specs.Test.{if_then_else_}
 use Rattle.record.specs.Names.{END-REQUEST, REQUEST-COMPLETE}
 use Rattle.record.specs.Body.{endBodyBytes}
@@ -13,23 +12,27 @@ use Rattle.machine.specs.Slots.{Vacant, HeldBy}
 use Rattle.machine.specs.Timeline.{RequestCall, CallItem}
 use Rattle.machine.specs.Machine.{Skip, ToBegin, ToQuery, ToSlot, Slots, Reading, AtHeader, PastHeader, Open, Closed, Leaves, Closes, targetWithout, readingWithout, callDecided, onItem}
 use Rattle.connection.specs.declared.state.Slot.{Slot}
+use Rattle.machine_queue.specs.Pump.{slotAfter}
+use Rattle.connection.specs.Sizes.{SLOTS}
 use Rattle.connection.specs.Request.{Held}
 use Rattle.connection.specs.Slots.{requestAt, find}
 use Rattle.connection.specs.Calls as C
 use Rattle.connection.specs.Runs.Receiver.{receiver, cleanArea}
 use Rattle.connection.specs.Runs.Loading.{loadedTarget, readingAt, loadedWhen}
 use Rattle.connection.specs.Runs.LoadingLaws.{loaded-kept, loaded-free}
-use Rattle.connection.specs.Runs.LinkingStep.{loadedOf}
+use Rattle.connection.specs.Runs.LinkingStep.{loadedOf, open-loaded}
 use Rattle.connection.specs.Runs.LinkingCalls.{redirected-target, redirected-reading}
-use Rattle.queue_slot.specs.Wait.{NoEnds, Wait, Served, ServesNothing, ServesEnd, ServesData, ServesLast, served, atomsIn}
+use Rattle.queue_slot.specs.Wait.{Wait, nothingIn, Served, ServesNothing, ServesEnd, ServesData, ServesLast, served, atomsIn}
 use Rattle.queue_slot.specs.WaitLaws.{Sized}
 use Rattle.queue_slot.specs.ServeLaws.{ServedWell, served-well}
 use Rattle.queue_slot.specs.WaitRefines.{asNext, served-is-next}
 use Rattle.queue_machine.specs.Queued as Q
 use Rattle.queue_machine.specs.Queued.{Queued, queued, Serve, queuedCall, queueingReceiver}
-use Rattle.queue_machine.specs.Lift.{liftSlots, liftReading, liftConnection, lift-changed}
+use Rattle.queue_machine.specs.Lift.{liftSlots, liftReading, liftConnection, lift-same, lift-changed}
+use Rattle.queue.specs.Numbers.{NEXT}
+use Rattle.queue.specs.NumberLaws.{count-of-other, front-of-other, last-of-other, status-of-other, count-of-next, front-of-next, last-of-next, status-of-next}
 use Rattle.queue.specs.Areas.{Roomy, wait-of-put, wait-of-other}
-use Rattle.queue_link.specs.Loaded.{waitingOf, loadedQueue, QueueSteady}
+use Rattle.queue_link.specs.Loaded.{waitingOf, loadedQueue, QueueSteady, slot-below}
 use Rattle.queue_link.specs.LoadedCalls as L
 use Rattle.queue.specs.Calls as T
 use Rattle.queue.specs.Calls.{QueueMemory, connOf, waitAt, putWait, servedLast, releasedSlot, writeServed, pumpSlot}
@@ -60,15 +63,19 @@ module _ (m : QueueMemory) (z : QueueSteady m) (y : Roomy m) (is-open : connOf m
   abbrev own : Held
   own = L.own m z y is-open id i found
 
+  low : i < SLOTS
+  low = L.holds m z y is-open id i found .low
+
   -- that a slot is the one served last changes nothing of what waits
-  pub same-wait : (j : ℕ) → waitAt (servedLast m i) j ≡ waitAt m j
+  abbrev next : ℕ
+  next = slotAfter SLOTS i
+
+  pub same-wait : (j : ℕ) → j < SLOTS → waitAt (servedLast m i) j ≡ waitAt m j
   unfolding waitAt
-  same-wait j = rw (set-getD (m .waits .counts) i 0, set-getD (m .waits .fronts) i NoEnds, set-getD (m .waits .lasts) i false, set-getD (m .waits .statuses) i 0)
+  same-wait j h = rw (count-of-next (m .waits) next j h, front-of-next (m .waits) next j, last-of-next (m .waits) next j, status-of-next (m .waits) next j h)
 
   pub roomy-last : Roomy (servedLast m i)
-  unfolding waitAt
-  roomy-last = rw (set-getD (m .waits .counts) i 0, set-getD (m .waits .fronts) i NoEnds, set-getD (m .waits .lasts) i false, set-getD (m .waits .statuses) i 0)
-      (record { counts = y .counts; fronts = y .fronts; lasts = y .lasts; statuses = y .statuses; queue = y .queue; marks = y .marks })
+  roomy-last = record { waits = length-set (m .waits) NEXT next ∙ y .waits; queue = y .queue; marks = y .marks }
 
   -- what waits then is put back
   pub put-memory : (v : Wait) → loadedOf (putWait (servedLast m i) i v .memory) ≡ Open slots reading
@@ -78,28 +85,26 @@ module _ (m : QueueMemory) (z : QueueSteady m) (y : Roomy m) (is-open : connOf m
   -- what is left waits, on the machine too
   pub wait-loaded : (v : Wait) → Sized v → loadedQueue (putWait (servedLast m i) i v) ≡ Open (set (liftSlots (waitingOf m) slots) i (HeldBy id (queued own (atomsIn v)))) (liftReading reading)
   wait-loaded v s =
-      let low = L.holds m z y is-open id i found .low in
       let g = waitingOf (putWait (servedLast m i) i v) in
       let here : g i ≡ atomsIn v = ap atomsIn (wait-of-put (servedLast m i) i v roomy-last low s) in
-      let there : (j : ℕ) → (j ≡ i → ⊥) → g j ≡ waitingOf m j = λ j d. ap atomsIn (wait-of-other (servedLast m i) i v roomy-last low s j d ∙ same-wait j) in
+      let there : (j : ℕ) → j < length slots → (j ≡ i → ⊥) → g j ≡ waitingOf m j =
+      λ j h d. let l = slot-below (connOf m .table) (m .memory .store) j h in ap atomsIn (wait-of-other (servedLast m i) i v roomy-last low s j l d ∙ same-wait j l)
+      in
       let t : slots ≡ set slots i (HeldBy id own) =
       loaded-kept (connOf m .table) (m .memory .store) i (L.in-use m z y is-open id i found) ∙ ap (λ k. set slots i (HeldBy k own)) (L.own-id m z y is-open id i found) in
       ap (liftConnection g) (put-memory v ∙ ap (λ T. Open T reading) t)
       ∙ ap (λ T. Open T (liftReading reading)) (lift-changed (waitingOf m) g slots i (HeldBy id own) there ∙ ap (λ l. set (liftSlots (waitingOf m) slots) i (HeldBy id (queued own l))) here)
 
   -- END is written, and the slot is given back
-  pub other-wait : (j : ℕ) → (j ≡ i → ⊥) → waitAt (releasedSlot (servedLast m i) i true) j ≡ waitAt m j
+  pub other-wait : (j : ℕ) → j < SLOTS → (j ≡ i → ⊥) → waitAt (releasedSlot (servedLast m i) i true) j ≡ waitAt m j
   unfolding waitAt
-  other-wait j d =
+  other-wait j h d =
+      let w = set (m .waits) NEXT next in
       rw (
-        set-getD (m .waits .counts) i 0,
-        set-getD (m .waits .fronts) i NoEnds,
-        set-getD (m .waits .lasts) i false,
-        set-getD (m .waits .statuses) i 0,
-        getD-set-other (m .waits .counts) i j 0 0 d,
-        getD-set-other (m .waits .fronts) i j NoEnds NoEnds d,
-        getD-set-other (m .waits .lasts) i j false false d,
-        getD-set-other (m .waits .statuses) i j 0 0 d,
+        count-of-other w i (nothingIn [] []) (roomy-last .waits) low j h d ∙ count-of-next (m .waits) next j h,
+        front-of-other w i (nothingIn [] []) (roomy-last .waits) low j h d ∙ front-of-next (m .waits) next j,
+        last-of-other w i (nothingIn [] []) (roomy-last .waits) low j h d ∙ last-of-next (m .waits) next j,
+        status-of-other w i (nothingIn [] []) (roomy-last .waits) low j h d ∙ status-of-next (m .waits) next j h,
       )
 
   pub free-memory : loadedOf (releasedSlot (servedLast m i) i true .memory) ≡ Open (set slots i (Vacant cleanArea)) (readingWithout receiver i reading)
@@ -116,18 +121,18 @@ module _ (m : QueueMemory) (z : QueueSteady m) (y : Roomy m) (is-open : connOf m
   free-loaded =
       let g = waitingOf (releasedSlot (servedLast m i) i true) in
       ap (liftConnection g) free-memory
-      ∙ ap₂ (λ x y. Open x y) (lift-changed (waitingOf m) g slots i (Vacant cleanArea) (λ j d. ap atomsIn (other-wait j d))) (lift-without i reading)
+      ∙ ap₂ (λ x y. Open x y) (lift-changed (waitingOf m) g slots i (Vacant cleanArea) (λ j h d. ap atomsIn (other-wait j (slot-below (connOf m .table) (m .memory .store) j h) d))) (lift-without i reading)
 
   shut-loaded : loadedQueue (releasedSlot (servedLast m i) i false) ≡ Closed
   unfolding loadedWhen
   shut-loaded = refl
 
-  pub same-waiting : waitingOf (servedLast m i) ≡ waitingOf m
-  unfolding waitAt
-  same-waiting = rw (set-getD (m .waits .counts) i 0, set-getD (m .waits .fronts) i NoEnds, set-getD (m .waits .lasts) i false, set-getD (m .waits .statuses) i 0)
-
   none-loaded : loadedQueue (servedLast m i) ≡ loadedQueue m
-  none-loaded = ap (λ g. liftConnection g (loadedOf (m .memory))) same-waiting
+  none-loaded =
+      let g = waitingOf (servedLast m i) in
+      ap (liftConnection g) (open-loaded (m .memory) is-open)
+      ∙ ap (λ T. Open T (liftReading reading)) (lift-same (waitingOf m) g slots (λ j h. ap atomsIn (same-wait j (slot-below (connOf m .table) (m .memory .store) j h))))
+      ∙ sym (L.loaded-is m z y is-open id i found)
 
   -- what a serve comes to
   served-loaded : (s : Served) → ServedWell (waitAt m i) s

@@ -5,8 +5,7 @@ use mathlib.Core.Option.{Option, none, some}
 use mathlib.Core.Bool.{Bool, true, false}
 use Prim.Native.Nat.{ℕ, zero, suc, _<_}
 use native.Mathlib.Omega.{arith}
-use lib.ListN.{length, getD, set, length-set, getD-replicate}
-use lib.Seq.{getD-set-same, set-getD}
+use lib.ListN.{length, getD, set}
 use lib.Dec.{eqb, ltb}
 use borrow.Author.Tests.{eqb-true, eqb-false, ltb-true}
 use Rattle.wire.specs.Test.{if_then_else_, byTest}
@@ -24,18 +23,20 @@ use Rattle.connection.specs.Laws.ShapeLaws.{shaped}
 use Rattle.slot_word.specs.Word.{taken}
 use Rattle.connection.specs.Runs.Loading.{loadedWhen}
 use Rattle.connection.specs.Runs.Receiver.{receiver, cleanArea}
-use Rattle.connection.specs.Runs.LinkingStep.{loadedOf, open-loaded, Steady}
+use Rattle.connection.specs.Runs.LinkingStep.{open-loaded, Steady}
 use Rattle.connection.specs.Runs.LoadingLaws.{loaded-kept}
 use Rattle.connection.specs.Runs.CallShape.{steady-free, steady-closed}
 use Rattle.queue_slot.specs.Atoms.{Atom}
-use Rattle.queue_slot.specs.Wait.{NoEnds, Wait, anything, Served, ServesNothing, ServesEnd, ServesData, ServesLast, served, byteAtoms, atomsIn}
+use Rattle.queue_slot.specs.Wait.{Wait, nothingIn, anything, Served, ServesNothing, ServesEnd, ServesData, ServesLast, served, byteAtoms, atomsIn}
 use Rattle.queue_slot.specs.WaitLaws.{Sized}
 use Rattle.queue_slot.specs.ServeLaws.{ServedWell, served-well}
 use Rattle.queue_machine.specs.Queued.{Asked, Serve, queueingReceiver}
 use Rattle.queue_machine.specs.Lift.{Waiting, NothingFree, FreeEnd, FreeVacant, FreeHeld}
 use Rattle.queue_machine.specs.LiftRuns.{FreeIn}
+use Rattle.queue.specs.Numbers.{NEXT, WAITS}
+use Rattle.queue.specs.NumberLaws.{numbers-length, count-of-put, front-of-put, last-of-put}
 use Rattle.queue.specs.Areas.{Roomy, wait-of-put, wait-of-other, roomy-put}
-use Rattle.queue_link.specs.Loaded.{waitingOf, loadedQueue, QueueSteady, slot-free, nobody-at}
+use Rattle.queue_link.specs.Loaded.{waitingOf, loadedQueue, QueueSteady, slot-below, slot-free, nobody-count, nobody-at}
 use Rattle.queue_link.specs.LoadedCalls as L
 use Rattle.queue_link.specs.LoadedPump as P
 use Rattle.queue.specs.Calls.{Turned, onSome, slotWaits, firstSlot, turned, QueueMemory, connOf, waitAt, putWait, servedLast, releasedSlot, writeServed, pumpSlot}
@@ -45,22 +46,24 @@ abbrev pub FreeSlot : List Atom → SlotState (List ℕ) Held → Type 0
 FreeSlot l (Vacant x) = l ≡ []
 FreeSlot l (HeldBy id h) = Unit {0}
 
-free-same : {f : Waiting} {T : Slots receiver} (g : Waiting) → ((j : ℕ) → g j ≡ f j) → NothingFree f T → NothingFree g T
+free-same : {f : Waiting} {T : Slots receiver} (g : Waiting) → ((j : ℕ) → j < length T → g j ≡ f j) → NothingFree f T → NothingFree g T
 free-same g e FreeEnd = FreeEnd
-free-same g e (FreeVacant a h) = FreeVacant (e 0 ∙ a) (free-same (λ j. g (suc j)) (λ j. e (suc j)) h)
-free-same g e (FreeHeld h) = FreeHeld (free-same (λ j. g (suc j)) (λ j. e (suc j)) h)
+free-same g e (FreeVacant a h) = FreeVacant (e 0 (omega arith) ∙ a) (free-same (λ j. g (suc j)) (λ j l. e (suc j) (omega arith)) h)
+free-same g e (FreeHeld h) = FreeHeld (free-same (λ j. g (suc j)) (λ j l. e (suc j) (omega arith)) h)
 
 free-cons : (g : Waiting) (T : Slots receiver) (s : SlotState (List ℕ) Held) → FreeSlot (g 0) s → NothingFree (λ j. g (suc j)) T → NothingFree g (s ∷ T)
 free-cons g T (Vacant x) a h = FreeVacant a h
 free-cons g T (HeldBy id q) a h = FreeHeld h
 
 -- one slot changed
-pub free-changed : {f : Waiting} {T : Slots receiver} (g : Waiting) (i : ℕ) (s : SlotState (List ℕ) Held) → ((j : ℕ) → (j ≡ i → ⊥) → g j ≡ f j) → FreeSlot (g i) s → NothingFree f T → NothingFree g (set T i s)
+pub free-changed : {f : Waiting} {T : Slots receiver} (g : Waiting) (i : ℕ) (s : SlotState (List ℕ) Held)
+    → ((j : ℕ) → j < length T → (j ≡ i → ⊥) → g j ≡ f j) → FreeSlot (g i) s → NothingFree f T → NothingFree g (set T i s)
 free-changed g i s e a FreeEnd = FreeEnd
-free-changed g zero s e a (FreeVacant {T = T} b h) = free-cons g T s a (free-same (λ j. g (suc j)) (λ j. e (suc j) (λ z. omega arith)) h)
-free-changed g zero s e a (FreeHeld {T = T} h) = free-cons g T s a (free-same (λ j. g (suc j)) (λ j. e (suc j) (λ z. omega arith)) h)
-free-changed g (suc i) s e a (FreeVacant b h) = FreeVacant (e 0 (λ z. omega arith) ∙ b) (free-changed (λ j. g (suc j)) i s (λ j d. e (suc j) (λ z. d (omega arith))) a h)
-free-changed g (suc i) s e a (FreeHeld h) = FreeHeld (free-changed (λ j. g (suc j)) i s (λ j d. e (suc j) (λ z. d (omega arith))) a h)
+free-changed g zero s e a (FreeVacant {T = T} b h) = free-cons g T s a (free-same (λ j. g (suc j)) (λ j l. e (suc j) (omega arith) (λ z. omega arith)) h)
+free-changed g zero s e a (FreeHeld {T = T} h) = free-cons g T s a (free-same (λ j. g (suc j)) (λ j l. e (suc j) (omega arith) (λ z. omega arith)) h)
+free-changed g (suc i) s e a (FreeVacant b h) =
+    FreeVacant (e 0 (omega arith) (λ z. omega arith) ∙ b) (free-changed (λ j. g (suc j)) i s (λ j l d. e (suc j) (omega arith) (λ z. d (omega arith))) a h)
+free-changed g (suc i) s e a (FreeHeld h) = FreeHeld (free-changed (λ j. g (suc j)) i s (λ j l d. e (suc j) (omega arith) (λ z. d (omega arith))) a h)
 
 -- ---- a record of the pump keeps what every state fulfils
 pub record Good (m : QueueMemory) : Type 0 where
@@ -85,6 +88,9 @@ module _ (m : QueueMemory) (k : Good m) (is-open : connOf m .«open» ≡ true) 
   slots-free : NothingFree (waitingOf m) (L.slots m z y is-open id i found)
   slots-free = rw (open-loaded (m .memory) is-open) at (z .free)
 
+  below : (j : ℕ) → j < length (L.slots m z y is-open id i found) → j < SLOTS
+  below j h = slot-below (connOf m .table) (m .memory .store) j h
+
   -- what is left waits in slot i
   put-steady : (v : Wait) → Sized v → Steady (putWait (servedLast m i) i v .memory)
   unfolding putWait
@@ -98,54 +104,38 @@ module _ (m : QueueMemory) (k : Good m) (is-open : connOf m .«open» ≡ true) 
   put-good v s =
       let n = putWait (servedLast m i) i v in
       let r = P.roomy-last m z y is-open id i found in
-      let there : (j : ℕ) → (j ≡ i → ⊥) → waitAt n j ≡ waitAt m j = λ j d. wait-of-other (servedLast m i) i v r low s j d ∙ P.same-wait m z y is-open id i found j in
+      let there : (j : ℕ) → j < SLOTS → (j ≡ i → ⊥) → waitAt n j ≡ waitAt m j = λ j h d. wait-of-other (servedLast m i) i v r low s j h d ∙ P.same-wait m z y is-open id i found j h in
       let t = loaded-kept (connOf m .table) (m .memory .store) i (L.in-use m z y is-open id i found) ∙ ap (λ n. set (L.slots m z y is-open id i found) i (HeldBy n (L.own m z y is-open id i found))) (L.own-id m z y is-open id i found) in
       record {
         steady = record {
           steady = put-steady v s;
           sized = λ j h. byTest (eqb j i) (λ e. let w : waitAt n j ≡ v = ap (waitAt n) (eqb-true j i e) ∙ wait-of-put (servedLast m i) i v r low s in subst (λ x. Sized x) (sym w) s)
-              (λ e. subst (λ x. Sized x) (sym (there j (eqb-false j i e))) (z .sized j h));
+              (λ e. subst (λ x. Sized x) (sym (there j h (eqb-false j i e))) (z .sized j h));
           free = subst (λ w. FreeIn (waitingOf n) w) (sym (P.put-memory m z y is-open id i found v))
-              (subst (λ T. NothingFree (waitingOf n) T) (sym t) (free-changed (waitingOf n) i (HeldBy id (L.own m z y is-open id i found)) (λ j d. ap atomsIn (there j d)) tt slots-free));
+              (subst (λ T. NothingFree (waitingOf n) T) (sym t) (free-changed (waitingOf n) i (HeldBy id (L.own m z y is-open id i found)) (λ j h d. ap atomsIn (there j (below j h) d)) tt slots-free));
           dropped = λ o. let q : _≡_ {A = ℕ} 0 1 = cc (put-open v, o) in absurd (omega arith);
         };
         roomy = roomy-put (servedLast m i) i v r low s;
       }
 
   -- slot i is given back
+  abbrev waits : List ℕ
+  waits = servedLast m i .waits
+
+  full : length waits ≡ WAITS
+  full = P.roomy-last m z y is-open id i found .waits
+
   freed-wait : Sized (waitAt (releasedSlot (servedLast m i) i true) i)
   unfolding waitAt
   freed-wait =
-      let s = z .sized i low in
-      let c : getD (set (set (m .waits .counts) i (getD (m .waits .counts) i 0)) i 0) i 0 ≡ 0 =
-      getD-set-same (set (m .waits .counts) i (getD (m .waits .counts) i 0)) i 0 0 (omega (arith, low, length-set (m .waits .counts) i (getD (m .waits .counts) i 0), y .counts)) in
-      record { count-fits = rw c (omega arith); bytes-size = s .bytes-size; marks-size = s .marks-size }
+      let s = z .sized i low in record { count-fits = rw (count-of-put waits i (nothingIn [] []) full low) (omega arith); bytes-size = s .bytes-size; marks-size = s .marks-size }
 
   freed-none : waitingOf (releasedSlot (servedLast m i) i true) i ≡ []
   unfolding waitAt atomsIn byteAtoms
-  freed-none =
-      rw (
-        set-getD (m .waits .counts) i 0,
-        set-getD (m .waits .fronts) i NoEnds,
-        set-getD (m .waits .lasts) i false,
-        set-getD (m .waits .statuses) i 0,
-        getD-set-same (m .waits .counts) i 0 0 (omega (arith, low, y .counts)),
-        getD-set-same (m .waits .fronts) i NoEnds NoEnds (omega (arith, low, y .fronts)),
-        getD-set-same (m .waits .lasts) i false false (omega (arith, low, y .lasts)),
-      )
+  freed-none = rw (count-of-put waits i (nothingIn [] []) full low, front-of-put waits i (nothingIn [] []) full low, last-of-put waits i (nothingIn [] []) full low)
 
   freed-roomy : Roomy (releasedSlot (servedLast m i) i true)
-  unfolding waitAt
-  freed-roomy =
-      rw (set-getD (m .waits .counts) i 0, set-getD (m .waits .fronts) i NoEnds, set-getD (m .waits .lasts) i false, set-getD (m .waits .statuses) i 0)
-      (record {
-        counts = length-set (m .waits .counts) i 0 ∙ y .counts;
-        fronts = length-set (m .waits .fronts) i NoEnds ∙ y .fronts;
-        lasts = length-set (m .waits .lasts) i false ∙ y .lasts;
-        statuses = length-set (m .waits .statuses) i 0 ∙ y .statuses;
-        queue = y .queue;
-        marks = y .marks;
-      })
+  freed-roomy = record { waits = numbers-length waits i (nothingIn [] []) full low; queue = y .queue; marks = y .marks }
 
   freed-open : connOf (releasedSlot (servedLast m i) i true) .«open» ≡ true
   unfolding C.released
@@ -158,9 +148,9 @@ module _ (m : QueueMemory) (k : Good m) (is-open : connOf m .«open» ≡ true) 
       record {
         steady = record {
           steady = steady-free (m .memory) i low (z .steady);
-          sized = λ j h. byTest (eqb j i) (λ e. subst (λ x. Sized (waitAt n x)) (sym (eqb-true j i e)) freed-wait) (λ e. subst (λ x. Sized x) (sym (there j (eqb-false j i e))) (z .sized j h));
+          sized = λ j h. byTest (eqb j i) (λ e. subst (λ x. Sized (waitAt n x)) (sym (eqb-true j i e)) freed-wait) (λ e. subst (λ x. Sized x) (sym (there j h (eqb-false j i e))) (z .sized j h));
           free = subst (λ w. FreeIn (waitingOf n) w) (sym (P.free-memory m z y is-open id i found))
-              (free-changed (waitingOf n) i (Vacant cleanArea) (λ j d. ap atomsIn (there j d)) freed-none slots-free);
+              (free-changed (waitingOf n) i (Vacant cleanArea) (λ j h d. ap atomsIn (there j (below j h) d)) freed-none slots-free);
           dropped = λ o. let q : _≡_ {A = ℕ} 0 1 = cc (freed-open, o) in absurd (omega arith);
         };
         roomy = freed-roomy;
@@ -170,13 +160,13 @@ module _ (m : QueueMemory) (k : Good m) (is-open : connOf m .«open» ≡ true) 
   shut-sized : (j : ℕ) → j < SLOTS → Sized (waitAt (releasedSlot (servedLast m i) i false) j)
   unfolding waitAt
   shut-sized j h =
-      let s = z .sized j h in record { count-fits = rw (getD-replicate {A = ℕ} 16 j 0 0 h) (omega arith); bytes-size = s .bytes-size; marks-size = s .marks-size }
+      let s = z .sized j h in record { count-fits = rw (nobody-count j) (omega arith); bytes-size = s .bytes-size; marks-size = s .marks-size }
 
   shut-good : Good (releasedSlot (servedLast m i) i false)
   unfolding loadedWhen
   shut-good = record {
     steady = record { steady = steady-closed (m .memory) (z .steady); sized = shut-sized; free = tt; dropped = λ o. refl };
-    roomy = record { counts = refl; fronts = refl; lasts = refl; statuses = refl; queue = y .queue; marks = y .marks };
+    roomy = record { waits = refl; queue = y .queue; marks = y .marks };
   }
 
   -- nothing waits in slot i
@@ -184,8 +174,9 @@ module _ (m : QueueMemory) (k : Good m) (is-open : connOf m .«open» ≡ true) 
   last-good = record {
     steady = record {
       steady = z .steady;
-      sized = λ j h. subst (λ x. Sized x) (sym (P.same-wait m z y is-open id i found j)) (z .sized j h);
-      free = subst (λ f. FreeIn f (loadedOf (m .memory))) (sym (P.same-waiting m z y is-open id i found)) (z .free);
+      sized = λ j h. subst (λ x. Sized x) (sym (P.same-wait m z y is-open id i found j h)) (z .sized j h);
+      free = subst (λ w. FreeIn (waitingOf (servedLast m i)) w) (sym (open-loaded (m .memory) is-open))
+          (free-same (waitingOf (servedLast m i)) (λ j h. ap atomsIn (P.same-wait m z y is-open id i found j (below j h))) slots-free);
       dropped = λ o. let q : _≡_ {A = ℕ} 0 1 = cc (is-open, o) in absurd (omega arith);
     };
     roomy = P.roomy-last m z y is-open id i found;
@@ -218,8 +209,8 @@ waiting-is N (suc k) waits p i e = go (waits p) refl e (λ d. waiting-is N k wai
     go false w e f = f e
 
 -- whoever waits is active, on an open connection
-pub waits-open : (m : QueueMemory) (i : ℕ) → QueueSteady m → i < SLOTS → anything (waitAt m i) ≡ true → connOf m .«open» ≡ true
-waits-open m i z h w = byTest (connOf m .«open») (λ o. o) (λ o. let q : _≡_ {A = ℕ} 0 1 = cc (nobody-at m i h (z .dropped o), w) in absurd (omega arith))
+pub waits-open : (m : QueueMemory) (i : ℕ) → QueueSteady m → anything (waitAt m i) ≡ true → connOf m .«open» ≡ true
+waits-open m i z w = byTest (connOf m .«open») (λ o. o) (λ o. let q : _≡_ {A = ℕ} 0 1 = cc (nobody-at m i (z .dropped o), w) in absurd (omega arith))
 
 waits-taken : (m : QueueMemory) (i : ℕ) → QueueSteady m → i < SLOTS → connOf m .«open» ≡ true → anything (waitAt m i) ≡ true → taken i (connOf m .table .occupied) ≡ true
 waits-taken m i z h o w = byTest (taken i (connOf m .table .occupied)) (λ e. e) (λ e. let q : _≡_ {A = ℕ} 0 1 = cc (slot-free m i z o h e, w) in absurd (omega arith))
@@ -238,7 +229,7 @@ onId (some i) f = f i
 -- the ids that a turn serves, in order
 unfoldable pub servedIn : ℕ → QueueMemory → List ℕ
 servedIn zero m = []
-servedIn (suc k) m = onId (nextWaiting SLOTS SLOTS (slotWaits m) (firstSlot (m .waits .next))) (λ i. getD (connOf m .table .ids) i 0 ∷ servedIn k (pumpSlot m i .left))
+servedIn (suc k) m = onId (nextWaiting SLOTS SLOTS (slotWaits m) (firstSlot (getD (m .waits) NEXT 0))) (λ i. getD (connOf m .table .ids) i 0 ∷ servedIn k (pumpSlot m i .left))
 
 -- the serves of these ids
 unfoldable pub servesOf : List ℕ → List (Item Asked)
@@ -260,7 +251,7 @@ first-below n = byTest (ltb n SLOTS) (λ e. let h = ltb-true n SLOTS e in rw e h
 pub turn-is : (k : ℕ) (m : QueueMemory) → Good m → TurnFrom m (turned k m .left) (turned k m .records) (servedIn k m)
 unfolding turned servedIn servesOf stateAfter
 turn-is zero m g = record { state = refl; good = g; count = refl }
-turn-is (suc k) m g = go (nextWaiting SLOTS SLOTS (slotWaits m) (firstSlot (m .waits .next))) refl (λ i h. turn-is k (pumpSlot m i .left) h)
+turn-is (suc k) m g = go (nextWaiting SLOTS SLOTS (slotWaits m) (firstSlot (getD (m .waits) NEXT 0))) refl (λ i h. turn-is k (pumpSlot m i .left) h)
   where
     afterwards : Option ℕ → Turned
     afterwards o = onSome o (λ i. let p = pumpSlot m i in let t = turned k (p .left) in record { records = p .bytes ∷ t .records; left = t .left }) (record { records = []; left = m })
@@ -272,7 +263,7 @@ turn-is (suc k) m g = go (nextWaiting SLOTS SLOTS (slotWaits m) (firstSlot (m .w
         → (Good (pumpSlot m i .left) → TurnFrom (pumpSlot m i .left) (turned k (pumpSlot m i .left) .left) (turned k (pumpSlot m i .left) .records) (servedIn k (pumpSlot m i .left)))
         → TurnFrom m (afterwards (some i) .left) (afterwards (some i) .records) (ids (some i))
     more i h w f =
-        let o = waits-open m i (g .steady) h w in
+        let o = waits-open m i (g .steady) w in
         let e = waits-found m i (g .steady) h o w in
         let r = f (pump-good m g o (getD (connOf m .table .ids) i 0) i e) in
         record {
@@ -281,9 +272,9 @@ turn-is (suc k) m g = go (nextWaiting SLOTS SLOTS (slotWaits m) (firstSlot (m .w
           count = ap suc (r .count);
         }
 
-    go : (o : Option ℕ) → nextWaiting SLOTS SLOTS (slotWaits m) (firstSlot (m .waits .next)) ≡ o
+    go : (o : Option ℕ) → nextWaiting SLOTS SLOTS (slotWaits m) (firstSlot (getD (m .waits) NEXT 0)) ≡ o
         → ((i : ℕ) → Good (pumpSlot m i .left) → TurnFrom (pumpSlot m i .left) (turned k (pumpSlot m i .left) .left) (turned k (pumpSlot m i .left) .records) (servedIn k (pumpSlot m i .left)))
         → TurnFrom m (afterwards o .left) (afterwards o .records) (ids o)
     go none e f = record { state = refl; good = g; count = refl }
     go (some i) e f =
-        more i (waiting-below SLOTS SLOTS (slotWaits m) (firstSlot (m .waits .next)) i (first-below (m .waits .next)) e) (waiting-is SLOTS SLOTS (slotWaits m) (firstSlot (m .waits .next)) i e) (f i)
+        more i (waiting-below SLOTS SLOTS (slotWaits m) (firstSlot (getD (m .waits) NEXT 0)) i (first-below (getD (m .waits) NEXT 0)) e) (waiting-is SLOTS SLOTS (slotWaits m) (firstSlot (getD (m .waits) NEXT 0)) i e) (f i)

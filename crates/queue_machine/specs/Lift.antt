@@ -4,7 +4,7 @@ use mathlib.Core.Path.{_≡_, refl, ap, ap₂, sym, _∙_}
 use mathlib.Core.List.{List, [], _∷_, _++_}
 use mathlib.Core.Option.{Option, none, some}
 use mathlib.Core.Bool.{Bool, true, false}
-use Prim.Native.Nat.{ℕ, zero, suc}
+use Prim.Native.Nat.{ℕ, zero, suc, _<_}
 use native.Mathlib.Omega.{arith}
 use lib.ListN.{length, set}
 use lib.Dec.{eqb, ltb}
@@ -234,16 +234,17 @@ lift-byte f T (PastHeader s zero (suc p)) b h = ap (λ F. (Open (liftSlots f T) 
 lift-byte f T (PastHeader s zero zero) b h = refl
 
 -- ---- the slots of the machine, with another list in one of them
-lift-same : (f g : Waiting) (T : Slots receiver) → ((j : ℕ) → g j ≡ f j) → liftSlots g T ≡ liftSlots f T
+-- the same lists in all slots
+pub lift-same : (f g : Waiting) (T : Slots receiver) → ((j : ℕ) → j < length T → g j ≡ f j) → liftSlots g T ≡ liftSlots f T
 unfolding liftSlots
 lift-same f g [] e = refl
-lift-same f g (x ∷ T) e = ap₂ (λ l k. liftSlot l x ∷ k) (e 0) (lift-same (λ j. f (suc j)) (λ j. g (suc j)) T (λ j. e (suc j)))
+lift-same f g (x ∷ T) e = ap₂ (λ l k. liftSlot l x ∷ k) (e 0 (omega arith)) (lift-same (λ j. f (suc j)) (λ j. g (suc j)) T (λ j h. e (suc j) (omega arith)))
 
 -- a slot that is written, with what waits in it
-pub lift-changed : (f g : Waiting) (T : Slots receiver) (i : ℕ) (s : SlotState (List ℕ) Held) → ((j : ℕ) → (j ≡ i → ⊥) → g j ≡ f j)
+pub lift-changed : (f g : Waiting) (T : Slots receiver) (i : ℕ) (s : SlotState (List ℕ) Held) → ((j : ℕ) → j < length T → (j ≡ i → ⊥) → g j ≡ f j)
     → liftSlots g (set T i s) ≡ set (liftSlots f T) i (liftSlot (g i) s)
 unfolding liftSlots
 lift-changed f g [] i s e = refl
-lift-changed f g (x ∷ T) zero s e = ap (λ k. liftSlot (g 0) s ∷ k) (lift-same (λ j. f (suc j)) (λ j. g (suc j)) T (λ j. e (suc j) (λ z. omega arith)))
+lift-changed f g (x ∷ T) zero s e = ap (λ k. liftSlot (g 0) s ∷ k) (lift-same (λ j. f (suc j)) (λ j. g (suc j)) T (λ j h. e (suc j) (omega arith) (λ z. omega arith)))
 lift-changed f g (x ∷ T) (suc i) s e =
-    ap₂ (λ l k. liftSlot l x ∷ k) (e 0 (λ z. omega arith)) (lift-changed (λ j. f (suc j)) (λ j. g (suc j)) T i s (λ j d. e (suc j) (λ z. d (omega arith))))
+    ap₂ (λ l k. liftSlot l x ∷ k) (e 0 (omega arith) (λ z. omega arith)) (lift-changed (λ j. f (suc j)) (λ j. g (suc j)) T i s (λ j h d. e (suc j) (omega arith) (λ z. d (omega arith))))

@@ -14,7 +14,8 @@ use Rattle.wire.specs.Buffer.{putAt, byteAt}
 use Rattle.wire.specs.BufferLaws.{put-length}
 use Rattle.connection.specs.declared.answer.Output.{Output}
 use Rattle.queue_slot.specs.Atoms.{RUN, Atom, ByteOn, EndOf, EndRequest, finishOf, isSame}
-use Rattle.queue_slot.specs.Wait.{Ends, NoEnds, OutEnd, ErrEnd, OutErrEnds, ErrOutEnds, markStream, markEnds, Wait, noEnds, anything, runLength, Served, ServesNothing, ServesEnd, ServesData, ServesLast, withFront, withoutFirst, serveRun, serveData, serveFrom, served, endAtoms, byteAtoms, lastAtoms, atomsIn}
+use Rattle.queue_slot.specs.declared.Ends.{Ends}
+use Rattle.queue_slot.specs.Wait.{markStream, markEnds, Wait, noEnds, anything, runLength, Served, ServesNothing, ServesEnd, ServesData, ServesLast, withFront, withoutFirst, serveRun, serveData, serveFrom, served, endAtoms, byteAtoms, lastAtoms, atomsIn}
 use Rattle.queue_slot.specs.WaitLaws.{Sized}
 
 -- ---- the run at the front
@@ -26,18 +27,18 @@ Stops o (EndOf p ∷ l) = Unit {0}
 Stops o (EndRequest c ∷ l) = Unit {0}
 
 stops-ends : (o : Output) (e : Ends) (l : List Atom) → noEnds e ≡ false → Stops o (endAtoms e ++ l)
-stops-ends o NoEnds l h = let z : _≡_ {A = ℕ} 0 1 = cc in absurd (omega arith)
-stops-ends o OutEnd l h = tt
-stops-ends o ErrEnd l h = tt
-stops-ends o OutErrEnds l h = tt
-stops-ends o ErrOutEnds l h = tt
+stops-ends o Ends.None l h = let z : _≡_ {A = ℕ} 0 1 = cc in absurd (omega arith)
+stops-ends o Ends.Out l h = tt
+stops-ends o Ends.Err l h = tt
+stops-ends o Ends.OutErr l h = tt
+stops-ends o Ends.ErrOut l h = tt
 
 ends-or-not : (o : Output) (e : Ends) (l : List Atom) → Stops o l → Stops o (endAtoms e ++ l)
-ends-or-not o NoEnds l h = h
-ends-or-not o OutEnd l h = tt
-ends-or-not o ErrEnd l h = tt
-ends-or-not o OutErrEnds l h = tt
-ends-or-not o ErrOutEnds l h = tt
+ends-or-not o Ends.None l h = h
+ends-or-not o Ends.Out l h = tt
+ends-or-not o Ends.Err l h = tt
+ends-or-not o Ends.OutErr l h = tt
+ends-or-not o Ends.ErrOut l h = tt
 
 other-stream : (m next : ℕ) → eqb (m % 2) (next % 2) ≡ false → isSame (markStream m) (markStream next) ≡ false
 unfolding markStream
@@ -74,11 +75,11 @@ unfolding byteAtoms
 one-run b m x y = refl
 
 no-ends-atoms : (e : Ends) → noEnds e ≡ true → endAtoms e ≡ []
-no-ends-atoms NoEnds h = refl
-no-ends-atoms OutEnd h = let z : _≡_ {A = ℕ} 0 1 = cc in absurd (omega arith)
-no-ends-atoms ErrEnd h = let z : _≡_ {A = ℕ} 0 1 = cc in absurd (omega arith)
-no-ends-atoms OutErrEnds h = let z : _≡_ {A = ℕ} 0 1 = cc in absurd (omega arith)
-no-ends-atoms ErrOutEnds h = let z : _≡_ {A = ℕ} 0 1 = cc in absurd (omega arith)
+no-ends-atoms Ends.None h = refl
+no-ends-atoms Ends.Out h = let z : _≡_ {A = ℕ} 0 1 = cc in absurd (omega arith)
+no-ends-atoms Ends.Err h = let z : _≡_ {A = ℕ} 0 1 = cc in absurd (omega arith)
+no-ends-atoms Ends.OutErr h = let z : _≡_ {A = ℕ} 0 1 = cc in absurd (omega arith)
+no-ends-atoms Ends.ErrOut h = let z : _≡_ {A = ℕ} 0 1 = cc in absurd (omega arith)
 
 same-stream : (m next : ℕ) → eqb (m % 2) (next % 2) ≡ true → markStream next ≡ markStream m
 unfolding markStream
@@ -178,7 +179,7 @@ stops-last o (ByteOn p b ∷ l) k status f = f
 stops-last o (EndOf p ∷ l) k status f = tt
 stops-last o (EndRequest c ∷ l) k status f = tt
 
-run-taken : (w : Wait) → Sized w → w .front ≡ NoEnds → (r : RunOf RUN (take (w .count) (w .bytes)) (take (w .count) (w .marks))) → suc (r .past) ≤ w .count
+run-taken : (w : Wait) → Sized w → w .front ≡ Ends.None → (r : RunOf RUN (take (w .count) (w .bytes)) (take (w .count) (w .marks))) → suc (r .past) ≤ w .count
     → ServedWell w (serveRun w (suc (r .past)))
 unfolding serveRun withoutFirst atomsIn
 run-taken w s n r h =
@@ -219,7 +220,7 @@ run-taken w s n r h =
         let f : Stops (markStream (byteAt (w .marks) 0)) (ends ++ rest) = rw (a, b) at e in
         inr (rw (← (append-assoc ends rest (lastAtoms (w .last) (w .status)))) (stops-last (markStream (byteAt (w .marks) 0)) (ends ++ rest) (w .last) (w .status) f))
 
-run-served : (w : Wait) → Sized w → w .front ≡ NoEnds → 0 < w .count → ServedWell w (serveRun w (runLength RUN (take (w .count) (w .marks))))
+run-served : (w : Wait) → Sized w → w .front ≡ Ends.None → 0 < w .count → ServedWell w (serveRun w (runLength RUN (take (w .count) (w .marks))))
 run-served w s n h =
     let c = w .count in
     let x = take c (w .bytes) in
@@ -230,12 +231,12 @@ run-served w s n h =
     rw (r .is-run) (run-taken w s n r (omega (arith, r .within)))
 
 -- no data waits
-last-served : (k : Bool) (w : Wait) → w .last ≡ k → w .front ≡ NoEnds → w .count ≡ 0 → ServedWell w (if k then ServesLast (w .status) else ServesNothing)
+last-served : (k : Bool) (w : Wait) → w .last ≡ k → w .front ≡ Ends.None → w .count ≡ 0 → ServedWell w (if k then ServesLast (w .status) else ServesNothing)
 unfolding atomsIn byteAtoms
 last-served true w l n z = (rw (n, z, l), l, refl)
 last-served false w l n z = rw (n, z, l)
 
-data-served : (w : Wait) → Sized w → w .front ≡ NoEnds → ServedWell w (serveData w)
+data-served : (w : Wait) → Sized w → w .front ≡ Ends.None → ServedWell w (serveData w)
 unfolding serveData
 data-served w s n =
     byTest (eqb (w .count) 0) (λ e. rw e (last-served (w .last) w refl n (eqb-true (w .count) 0 e)))
@@ -250,11 +251,11 @@ front-sized w e s = record { count-fits = s .count-fits; bytes-size = s .bytes-s
 
 serve-from : (e : Ends) (w : Wait) → Sized w → w .front ≡ e → ServedWell w (serveFrom e w)
 unfolding atomsIn
-serve-from NoEnds w s n = data-served w s n
-serve-from OutEnd w s n = (rw n, front-sized w NoEnds s, refl)
-serve-from ErrEnd w s n = (rw n, front-sized w NoEnds s, refl)
-serve-from OutErrEnds w s n = (rw n, front-sized w ErrEnd s, refl)
-serve-from ErrOutEnds w s n = (rw n, front-sized w OutEnd s, refl)
+serve-from Ends.None w s n = data-served w s n
+serve-from Ends.Out w s n = (rw n, front-sized w Ends.None s, refl)
+serve-from Ends.Err w s n = (rw n, front-sized w Ends.None s, refl)
+serve-from Ends.OutErr w s n = (rw n, front-sized w Ends.Err s, refl)
+serve-from Ends.ErrOut w s n = (rw n, front-sized w Ends.Out s, refl)
 
 -- The law of a serve.
 pub served-well : (w : Wait) → Sized w → ServedWell w (served w)

@@ -9,6 +9,7 @@ use Rattle.wire.specs.Buffer.{putAt, byteAt}
 use Rattle.connection.specs.declared.request.RequestState.{RequestState}
 use Rattle.connection.specs.declared.answer.Output.{Output}
 use Rattle.connection.specs.RequestCalls.{owesOut, owesErr}
+use Rattle.queue_slot.specs.declared.Ends.{Ends}
 use Rattle.queue_slot.specs.Atoms.{RUN, Atom, ByteOn, EndOf, finishOf}
 
 -- bytes of the queue that belong to one slot
@@ -16,25 +17,21 @@ abbrev pub ROOM : ℕ
 ROOM = 1024
 
 -- ---- ends
--- Ends of output streams that wait in one place, in their order.
-pub data Ends : Type 0 where
-  NoEnds OutEnd ErrEnd OutErrEnds ErrOutEnds : Ends
-
 -- one end
 abbrev pub oneEnd : Output → Ends
-oneEnd Output.Stdout = OutEnd
-oneEnd Output.Stderr = ErrEnd
+oneEnd Output.Stdout = Ends.Out
+oneEnd Output.Stderr = Ends.Err
 
 -- One more end behind them. (A stream is ended once: the end of a stream whose end waits there already changes
 -- nothing.)
 abbrev pub withEnd : Ends → Output → Ends
-withEnd NoEnds o = oneEnd o
-withEnd OutEnd Output.Stdout = OutEnd
-withEnd OutEnd Output.Stderr = OutErrEnds
-withEnd ErrEnd Output.Stdout = ErrOutEnds
-withEnd ErrEnd Output.Stderr = ErrEnd
-withEnd OutErrEnds o = OutErrEnds
-withEnd ErrOutEnds o = ErrOutEnds
+withEnd Ends.None o = oneEnd o
+withEnd Ends.Out Output.Stdout = Ends.Out
+withEnd Ends.Out Output.Stderr = Ends.OutErr
+withEnd Ends.Err Output.Stdout = Ends.ErrOut
+withEnd Ends.Err Output.Stderr = Ends.Err
+withEnd Ends.OutErr o = Ends.OutErr
+withEnd Ends.ErrOut o = Ends.ErrOut
 
 -- ---- marks
 -- A mark of a data byte: its stream, and the ends that wait right behind it. In a byte: stream + 2 * ends. Every byte
@@ -45,11 +42,11 @@ streamNumber Output.Stderr = 1
 
 -- as a number
 abbrev pub endsNumber : Ends → ℕ
-endsNumber NoEnds = 0
-endsNumber OutEnd = 1
-endsNumber ErrEnd = 2
-endsNumber OutErrEnds = 3
-endsNumber ErrOutEnds = 4
+endsNumber Ends.None = 0
+endsNumber Ends.Out = 1
+endsNumber Ends.Err = 2
+endsNumber Ends.OutErr = 3
+endsNumber Ends.ErrOut = 4
 
 -- the mark of a byte
 unfoldable pub markOf : Output → Ends → ℕ
@@ -61,7 +58,7 @@ markStream m = if m % 2 =? 0 then Output.Stdout else Output.Stderr
 
 -- the ends of a number
 unfoldable pub endsOf : ℕ → Ends
-endsOf n = if n =? 1 then OutEnd else if n =? 2 then ErrEnd else if n =? 3 then OutErrEnds else if n =? 4 then ErrOutEnds else NoEnds
+endsOf n = if n =? 1 then Ends.Out else if n =? 2 then Ends.Err else if n =? 3 then Ends.OutErr else if n =? 4 then Ends.ErrOut else Ends.None
 
 -- the ends behind it
 unfoldable pub markEnds : ℕ → Ends
@@ -84,19 +81,23 @@ pub record Wait : Type 0 where
 
 -- nothing waits; the areas hold whatever they hold
 abbrev pub nothingIn : List ℕ → List ℕ → Wait
-nothingIn bytes marks = record { count = 0; front = NoEnds; last = false; status = 0; bytes = bytes; marks = marks }
+nothingIn bytes marks = record { count = 0; front = Ends.None; last = false; status = 0; bytes = bytes; marks = marks }
 
 -- are there none?
 abbrev pub noEnds : Ends → Bool
-noEnds NoEnds = true
-noEnds OutEnd = false
-noEnds ErrEnd = false
-noEnds OutErrEnds = false
-noEnds ErrOutEnds = false
+noEnds Ends.None = true
+noEnds Ends.Out = false
+noEnds Ends.Err = false
+noEnds Ends.OutErr = false
+noEnds Ends.ErrOut = false
+
+-- Anything waits: data, ends before it, or END.
+abbrev pub someWaits : ℕ → Ends → Bool → Bool
+someWaits count front last = if count =? 0 then (if noEnds front then last else true) else true
 
 -- anything waits
 unfoldable pub anything : Wait → Bool
-anything w = if w .count =? 0 then (if noEnds (w .front) then w .last else true) else true
+anything w = someWaits (w .count) (w .front) (w .last)
 
 -- ---- what comes to wait
 -- data, which needs room: count + length data ≤ ROOM
@@ -112,7 +113,7 @@ waitData w o content =
       last = w .last;
       status = w .status;
       bytes = putAt (w .bytes) (w .count) content;
-      marks = putAt (w .marks) (w .count) (replicate (length content) (markOf o NoEnds));
+      marks = putAt (w .marks) (w .count) (replicate (length content) (markOf o Ends.None));
     }
 
 -- the end of a stream: before all data if none waits, else behind the last byte
@@ -181,11 +182,11 @@ serveData w =
 
 -- an end at the front goes first
 abbrev pub serveFrom : Ends → Wait → Served
-serveFrom NoEnds w = serveData w
-serveFrom OutEnd w = ServesEnd Output.Stdout (withFront w NoEnds)
-serveFrom ErrEnd w = ServesEnd Output.Stderr (withFront w NoEnds)
-serveFrom OutErrEnds w = ServesEnd Output.Stdout (withFront w ErrEnd)
-serveFrom ErrOutEnds w = ServesEnd Output.Stderr (withFront w OutEnd)
+serveFrom Ends.None w = serveData w
+serveFrom Ends.Out w = ServesEnd Output.Stdout (withFront w Ends.None)
+serveFrom Ends.Err w = ServesEnd Output.Stderr (withFront w Ends.None)
+serveFrom Ends.OutErr w = ServesEnd Output.Stdout (withFront w Ends.Err)
+serveFrom Ends.ErrOut w = ServesEnd Output.Stderr (withFront w Ends.Out)
 
 -- what is written next
 abbrev pub served : Wait → Served
@@ -193,11 +194,11 @@ served w = serveFrom (w .front) w
 
 -- ---- what waits, said plainly
 abbrev pub endAtoms : Ends → List Atom
-endAtoms NoEnds = []
-endAtoms OutEnd = EndOf Output.Stdout ∷ []
-endAtoms ErrEnd = EndOf Output.Stderr ∷ []
-endAtoms OutErrEnds = EndOf Output.Stdout ∷ EndOf Output.Stderr ∷ []
-endAtoms ErrOutEnds = EndOf Output.Stderr ∷ EndOf Output.Stdout ∷ []
+endAtoms Ends.None = []
+endAtoms Ends.Out = EndOf Output.Stdout ∷ []
+endAtoms Ends.Err = EndOf Output.Stderr ∷ []
+endAtoms Ends.OutErr = EndOf Output.Stdout ∷ EndOf Output.Stderr ∷ []
+endAtoms Ends.ErrOut = EndOf Output.Stderr ∷ EndOf Output.Stdout ∷ []
 
 -- bytes with their marks
 unfoldable pub byteAtoms : List ℕ → List ℕ → List Atom

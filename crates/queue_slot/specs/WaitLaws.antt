@@ -16,35 +16,36 @@ use Rattle.connection.specs.declared.answer.Output.{Output}
 use Rattle.connection.specs.RequestCalls.{owesOut, owesErr}
 use Rattle.queue_slot.specs.Atoms.{Atom, ByteOn, EndOf, EndRequest, finishOf}
 use Rattle.queue_slot.specs.Finishing.{owedEnd, lastWords}
-use Rattle.queue_slot.specs.Wait.{ROOM, Ends, NoEnds, OutEnd, ErrEnd, OutErrEnds, ErrOutEnds, withEnd, streamNumber, markOf, markStream, endsOf, markEnds, markEnded, Wait, waitData, waitEnd, waitFinish, withFront, endAtoms, byteAtoms, lastAtoms, atomsIn}
+use Rattle.queue_slot.specs.declared.Ends.{Ends}
+use Rattle.queue_slot.specs.Wait.{ROOM, withEnd, streamNumber, markOf, markStream, endsOf, markEnds, markEnded, Wait, waitData, waitEnd, waitFinish, withFront, endAtoms, byteAtoms, lastAtoms, atomsIn}
 
 -- ---- marks
 pub mark-stream : (o : Output) (e : Ends) → markStream (markOf o e) ≡ o
 unfolding markStream markOf
-mark-stream Output.Stdout NoEnds = refl
-mark-stream Output.Stdout OutEnd = refl
-mark-stream Output.Stdout ErrEnd = refl
-mark-stream Output.Stdout OutErrEnds = refl
-mark-stream Output.Stdout ErrOutEnds = refl
-mark-stream Output.Stderr NoEnds = refl
-mark-stream Output.Stderr OutEnd = refl
-mark-stream Output.Stderr ErrEnd = refl
-mark-stream Output.Stderr OutErrEnds = refl
-mark-stream Output.Stderr ErrOutEnds = refl
+mark-stream Output.Stdout Ends.None = refl
+mark-stream Output.Stdout Ends.Out = refl
+mark-stream Output.Stdout Ends.Err = refl
+mark-stream Output.Stdout Ends.OutErr = refl
+mark-stream Output.Stdout Ends.ErrOut = refl
+mark-stream Output.Stderr Ends.None = refl
+mark-stream Output.Stderr Ends.Out = refl
+mark-stream Output.Stderr Ends.Err = refl
+mark-stream Output.Stderr Ends.OutErr = refl
+mark-stream Output.Stderr Ends.ErrOut = refl
 
 -- the ends of a mark
 pub mark-ends : (o : Output) (e : Ends) → markEnds (markOf o e) ≡ e
 unfolding markEnds markOf endsOf
-mark-ends Output.Stdout NoEnds = refl
-mark-ends Output.Stdout OutEnd = refl
-mark-ends Output.Stdout ErrEnd = refl
-mark-ends Output.Stdout OutErrEnds = refl
-mark-ends Output.Stdout ErrOutEnds = refl
-mark-ends Output.Stderr NoEnds = refl
-mark-ends Output.Stderr OutEnd = refl
-mark-ends Output.Stderr ErrEnd = refl
-mark-ends Output.Stderr OutErrEnds = refl
-mark-ends Output.Stderr ErrOutEnds = refl
+mark-ends Output.Stdout Ends.None = refl
+mark-ends Output.Stdout Ends.Out = refl
+mark-ends Output.Stdout Ends.Err = refl
+mark-ends Output.Stdout Ends.OutErr = refl
+mark-ends Output.Stdout Ends.ErrOut = refl
+mark-ends Output.Stderr Ends.None = refl
+mark-ends Output.Stderr Ends.Out = refl
+mark-ends Output.Stderr Ends.Err = refl
+mark-ends Output.Stderr Ends.OutErr = refl
+mark-ends Output.Stderr Ends.ErrOut = refl
 
 -- ---- ends
 -- that end is not among these atoms
@@ -82,16 +83,16 @@ unended-bytes o p (b ∷ l) = unended-bytes o p l
 
 -- one end more
 pub end-added : (e : Ends) (o : Output) → Unended o (endAtoms e) → endAtoms (withEnd e o) ≡ endAtoms e ++ EndOf o ∷ []
-end-added NoEnds Output.Stdout f = refl
-end-added NoEnds Output.Stderr f = refl
-end-added OutEnd Output.Stdout f = absurd (f .0 refl)
-end-added OutEnd Output.Stderr f = refl
-end-added ErrEnd Output.Stdout f = refl
-end-added ErrEnd Output.Stderr f = absurd (f .0 refl)
-end-added OutErrEnds Output.Stdout f = absurd (f .0 refl)
-end-added OutErrEnds Output.Stderr f = absurd (f .1 .0 refl)
-end-added ErrOutEnds Output.Stdout f = absurd (f .1 .0 refl)
-end-added ErrOutEnds Output.Stderr f = absurd (f .0 refl)
+end-added Ends.None Output.Stdout f = refl
+end-added Ends.None Output.Stderr f = refl
+end-added Ends.Out Output.Stdout f = absurd (f .0 refl)
+end-added Ends.Out Output.Stderr f = refl
+end-added Ends.Err Output.Stdout f = refl
+end-added Ends.Err Output.Stderr f = absurd (f .0 refl)
+end-added Ends.OutErr Output.Stdout f = absurd (f .0 refl)
+end-added Ends.OutErr Output.Stderr f = absurd (f .1 .0 refl)
+end-added Ends.ErrOut Output.Stdout f = absurd (f .1 .0 refl)
+end-added Ends.ErrOut Output.Stderr f = absurd (f .0 refl)
 
 -- ---- bytes with marks
 pub byte-atoms-append : (a b x y : List ℕ) → length a ≡ length x → byteAtoms (a ++ b) (x ++ y) ≡ byteAtoms a x ++ byteAtoms b y
@@ -103,10 +104,10 @@ byte-atoms-append (c ∷ a) b (m ∷ x) y e =
     ap (λ l. ByteOn (markStream m) c ∷ l) (ap (λ l. endAtoms (markEnds m) ++ l) (byte-atoms-append a b x y (omega arith)) ∙ sym (append-assoc (endAtoms (markEnds m)) (byteAtoms a x) (byteAtoms b y)))
 
 -- bytes on one stream
-pub byte-atoms-plain : (o : Output) (a : List ℕ) → byteAtoms a (replicate (length a) (markOf o NoEnds)) ≡ map (ByteOn o) a
+pub byte-atoms-plain : (o : Output) (a : List ℕ) → byteAtoms a (replicate (length a) (markOf o Ends.None)) ≡ map (ByteOn o) a
 unfolding byteAtoms
 byte-atoms-plain o [] = refl
-byte-atoms-plain o (b ∷ a) = rw (mark-stream o NoEnds, mark-ends o NoEnds) (ap (λ l. ByteOn o b ∷ l) (byte-atoms-plain o a))
+byte-atoms-plain o (b ∷ a) = rw (mark-stream o Ends.None, mark-ends o Ends.None) (ap (λ l. ByteOn o b ∷ l) (byte-atoms-plain o a))
 
 -- ---- sizes
 -- The areas have their size, and no more waits than there is room for.
@@ -125,18 +126,18 @@ put-first l x n h =
 pub data-sized : (w : Wait) (o : Output) (content : List ℕ) → Sized w → w .count + length content ≤ ROOM → Sized (waitData w o content)
 unfolding waitData
 data-sized w o content s h =
-    let e : w .count + length (replicate (length content) (markOf o NoEnds)) ≤ length (w .marks) = simp (length-replicate) (omega (arith, s .marks-size)) in
+    let e : w .count + length (replicate (length content) (markOf o Ends.None)) ≤ length (w .marks) = simp (length-replicate) (omega (arith, s .marks-size)) in
     record {
       count-fits = h;
       bytes-size = put-length (w .bytes) (w .count) content (omega (arith, s .bytes-size)) ∙ s .bytes-size;
-      marks-size = put-length (w .marks) (w .count) (replicate (length content) (markOf o NoEnds)) e ∙ s .marks-size;
+      marks-size = put-length (w .marks) (w .count) (replicate (length content) (markOf o Ends.None)) e ∙ s .marks-size;
     }
 
 data-marks : (w : Wait) (o : Output) (content : List ℕ) → Sized w → w .count + length content ≤ ROOM
-    → take (w .count + length content) (putAt (w .marks) (w .count) (replicate (length content) (markOf o NoEnds))) ≡ take (w .count) (w .marks) ++ replicate (length content) (markOf o NoEnds)
+    → take (w .count + length content) (putAt (w .marks) (w .count) (replicate (length content) (markOf o Ends.None))) ≡ take (w .count) (w .marks) ++ replicate (length content) (markOf o Ends.None)
 data-marks w o content s h =
-    let x = replicate (length content) (markOf o NoEnds) in
-    let n : length x ≡ length content = length-replicate (length content) (markOf o NoEnds) in
+    let x = replicate (length content) (markOf o Ends.None) in
+    let n : length x ≡ length content = length-replicate (length content) (markOf o Ends.None) in
     let f : w .count + length x ≤ length (w .marks) = omega (arith, s .marks-size) in
     ap (λ (k : ℕ). take (w .count + k) (putAt (w .marks) (w .count) x)) (sym n) ∙ put-first (w .marks) x (w .count) f
 
@@ -150,7 +151,7 @@ data-waits w o content s h l =
     let y = take c (w .marks) in
     let f : c + length content ≤ length (w .bytes) = omega (arith, s .bytes-size) in
     let n : length x ≡ length y = length-take-le c (w .bytes) (omega (arith, s .bytes-size, s .count-fits)) ∙ sym (length-take-le c (w .marks) (omega (arith, s .marks-size, s .count-fits))) in
-    let e = byte-atoms-append x content y (replicate (length content) (markOf o NoEnds)) n in
+    let e = byte-atoms-append x content y (replicate (length content) (markOf o Ends.None)) n in
     rw (put-first (w .bytes) content c f, data-marks w o content s h, e, byte-atoms-plain o content, l)
     (ap (λ k. endAtoms (w .front) ++ k) (append-nil (byteAtoms x y ++ map (ByteOn o) content) ∙ ap (λ k. k ++ map (ByteOn o) content) (sym (append-nil (byteAtoms x y))))
     ∙ sym (append-assoc (endAtoms (w .front)) (byteAtoms x y ++ []) (map (ByteOn o) content)))

@@ -13,7 +13,8 @@ use Rattle.record.specs.Body.{endBodyBytes}
 use Rattle.connection.specs.declared.answer.Output.{Output}
 use Rattle.queue_slot.specs.Atoms.{RUN, Atom, ByteOn, EndOf, EndRequest, dataIn, endWaits, Next, NoNext, NextEnd, NextData, NextLast, runFrom, next}
 use Rattle.queue_slot.specs.AtomLaws.{is-same, waits-append}
-use Rattle.queue_slot.specs.Wait.{Ends, NoEnds, OutEnd, ErrEnd, OutErrEnds, ErrOutEnds, markEnds, Wait, noEnds, anything, Served, ServesNothing, ServesEnd, ServesData, ServesLast, served, endAtoms, byteAtoms, lastAtoms, atomsIn}
+use Rattle.queue_slot.specs.declared.Ends.{Ends}
+use Rattle.queue_slot.specs.Wait.{markEnds, Wait, noEnds, anything, Served, ServesNothing, ServesEnd, ServesData, ServesLast, served, endAtoms, byteAtoms, lastAtoms, atomsIn}
 use Rattle.queue_slot.specs.WaitLaws.{Sized}
 use Rattle.queue_slot.specs.ServeLaws.{Stops, ServedWell, served-well}
 
@@ -73,11 +74,11 @@ data-append (EndRequest c ∷ l) k = data-append l k
 
 no-data-ends : (e : Ends) → dataIn (endAtoms e) ≡ 0
 unfolding dataIn
-no-data-ends NoEnds = refl
-no-data-ends OutEnd = refl
-no-data-ends ErrEnd = refl
-no-data-ends OutErrEnds = refl
-no-data-ends ErrOutEnds = refl
+no-data-ends Ends.None = refl
+no-data-ends Ends.Out = refl
+no-data-ends Ends.Err = refl
+no-data-ends Ends.OutErr = refl
+no-data-ends Ends.ErrOut = refl
 
 no-data-last : (k : Bool) (status : ℕ) → dataIn (lastAtoms k status) ≡ 0
 unfolding dataIn
@@ -111,11 +112,11 @@ count-is w s =
 -- END waits in the list just where its mark is set.
 no-end-ends : (e : Ends) → endWaits (endAtoms e) ≡ false
 unfolding endWaits
-no-end-ends NoEnds = refl
-no-end-ends OutEnd = refl
-no-end-ends ErrEnd = refl
-no-end-ends OutErrEnds = refl
-no-end-ends ErrOutEnds = refl
+no-end-ends Ends.None = refl
+no-end-ends Ends.Out = refl
+no-end-ends Ends.Err = refl
+no-end-ends Ends.OutErr = refl
+no-end-ends Ends.ErrOut = refl
 
 no-end-bytes : (x y : List ℕ) → endWaits (byteAtoms x y) ≡ false
 unfolding endWaits byteAtoms
@@ -139,11 +140,11 @@ last-is w =
 
 -- Where the list is empty, nothing is marked as waiting.
 ends-none : (e : Ends) (l : List Atom) → endAtoms e ++ l ≡ [] → noEnds e ≡ true
-ends-none NoEnds l h = refl
-ends-none OutEnd l h = let z : _≡_ {A = ℕ} 0 1 = cc in absurd (omega arith)
-ends-none ErrEnd l h = let z : _≡_ {A = ℕ} 0 1 = cc in absurd (omega arith)
-ends-none OutErrEnds l h = let z : _≡_ {A = ℕ} 0 1 = cc in absurd (omega arith)
-ends-none ErrOutEnds l h = let z : _≡_ {A = ℕ} 0 1 = cc in absurd (omega arith)
+ends-none Ends.None l h = refl
+ends-none Ends.Out l h = let z : _≡_ {A = ℕ} 0 1 = cc in absurd (omega arith)
+ends-none Ends.Err l h = let z : _≡_ {A = ℕ} 0 1 = cc in absurd (omega arith)
+ends-none Ends.OutErr l h = let z : _≡_ {A = ℕ} 0 1 = cc in absurd (omega arith)
+ends-none Ends.ErrOut l h = let z : _≡_ {A = ℕ} 0 1 = cc in absurd (omega arith)
 
 -- where the list is empty, nothing waits
 pub anything-is : (w : Wait) → Sized w → atomsIn w ≡ [] → anything w ≡ false

@@ -3,7 +3,7 @@ use mathlib.Core.Path.{_≡_, refl, ap, sym, _∙_, subst}
 use mathlib.Core.List.{List, [], _∷_, _++_, flatten}
 use mathlib.Core.Option.{Option, none, some}
 use mathlib.Core.Logic.{_⊎_, inl, inr}
-use mathlib.Core.Bool.{Bool, true, false}
+use mathlib.Core.Bool.{true, false}
 use Prim.Native.Nat.{ℕ, zero, suc, _≤_, _<_}
 use native.Mathlib.Omega.{arith}
 use lib.ListN.{length, getD}
@@ -24,9 +24,7 @@ use Rattle.connection.specs.declared.state.Slot.{Slot}
 use Rattle.connection.specs.Sizes.{SLOTS}
 use Rattle.connection.specs.Codes.{outputType}
 use Rattle.connection.specs.Request.{Held}
-use Rattle.connection.specs.Refusal.{_when_}
 use Rattle.connection.specs.Slots.{requestAt, find, onSlot}
-use Rattle.connection.specs.Arguments.{ForValue, ForSource, ForPair, ForWalk, ForSay, ForEnd, ForFinish}
 use Rattle.connection.specs.Runs.Receiver.{receiver}
 use Rattle.connection.specs.Runs.Loading.{loadedSlots, loadedReading}
 use Rattle.connection.specs.Runs.LoadingLaws.{lookup-loaded}
@@ -38,10 +36,11 @@ use Rattle.queue_slot.specs.ServeLaws.{ServedWell, served-well, nothing-waits}
 use Rattle.queue_machine.specs.Queued.{Queued, queued, queueingReceiver}
 use Rattle.queue_machine.specs.Lift.{liftSlot, liftSlots, liftReading, liftConnection, lift-lookup, lift-at}
 use Rattle.queue_machine.specs.StillWaits.{WaitsAt, waiting-slot, StillWaits, bytes-waits, call-waits, serve-waits}
+use Rattle.queue.specs.Areas.{Roomy}
 use Rattle.queue.specs.Calls as T
-use Rattle.queue.specs.Calls.{QueueMemory, connOf, waitAt, putWait, servedLast, writeServed, pumpSlot, Turned, onSome, slotWaits, firstSlot, turned, pumpRefusal}
+use Rattle.queue.specs.Calls.{QueueMemory, connOf, waitAt, servedLast, writeServed, pumpSlot, Turned, onSome, slotWaits, firstSlot, turned, pumpRefusal}
 use Rattle.queue.specs.Run as D
-use Rattle.queue.specs.Run.{Asking, QueueOperation, CallFor, CountActive, TurnWith, queueCalled, queueAfter, waitsOf, usedOf, finalQueue, PiecesAreBytes, beginning}
+use Rattle.queue.specs.Run.{Asking, QueueOperation, CallFor, CountActive, TurnWith, queueAfter, waitsOf, usedOf, finalQueue, PiecesAreBytes, beginning}
 use Rattle.queue.specs.Fairness.{pumpedIn, pumpedAll, countBefore, Fairness}
 use Rattle.queue_link.specs.Loaded.{waitingOf, loadedQueue}
 use Rattle.queue_link.specs.LoadedCalls as L
@@ -52,6 +51,7 @@ use Rattle.queue_link.specs.LinkedRuns.{machineItems, Fine, PieceOk, op-is, op-
 use Rattle.queue_link.specs.LinkedShown.{no-serve}
 use Rattle.queue_link.specs.LinkedWrites.{found-below, slot-fine, turn-bytes, no-turn-bytes}
 use Rattle.queue_link.specs.LinkedPosition.{still-closed}
+use Rattle.queue_theorem.specs.NextSlot.{nextOf, served-next, call-kept, step-kept}
 use Rattle.queue_theorem.specs.Theorem.{start-fine}
 
 -- ---- a record of the pump
@@ -97,45 +97,7 @@ module _ (m : QueueMemory) (k : Fine m) (o : connOf m .«open» ≡ true) (id j 
       lift-lookup (waitingOf m) id (loadedSlots (connOf m .table) (m .memory .store)) ∙ rw (lookup-loaded (connOf m .table) (m .memory .store) id, f) in
       subst (λ x. LookupRight (queueingReceiver .clean) id T x) e (lookup-right (queueingReceiver .clean) id T)
 
--- ---- the slot that is looked at first
--- after a record of slot j it is the next one
-released-next : (m : QueueMemory) (j : ℕ) (b : Bool) → connOf (T.releasedSlot (servedLast m j) j b) .«open» ≡ true → T.releasedSlot (servedLast m j) j b .waits .next ≡ slotAfter SLOTS j
-released-next m j true o = refl
-released-next m j false o = let z : _≡_ {A = ℕ} 0 1 = cc in absurd (omega arith)
-
-written-next : (m : QueueMemory) (j : ℕ) (r : Request) (s : Served) → connOf (writeServed (servedLast m j) j r s .left) .«open» ≡ true → writeServed (servedLast m j) j r s .left .waits .next ≡ slotAfter SLOTS j
-unfolding writeServed putWait
-written-next m j r ServesNothing o = refl
-written-next m j r (ServesEnd p v) o = refl
-written-next m j r (ServesData p content v) o = refl
-written-next m j r (ServesLast status) o = released-next m j (r .state .keep) o
-
-served-next : (m : QueueMemory) (j : ℕ) → connOf (pumpSlot m j .left) .«open» ≡ true → pumpSlot m j .left .waits .next ≡ slotAfter SLOTS j
-unfolding pumpSlot
-served-next m j o = written-next m j (requestAt (connOf m .table) j) (served (waitAt m j)) o
-
--- every call and every step that leaves the connection open leaves it as it is
-call-next : (m : QueueMemory) (id : ℕ) (a : Asking) → connOf (queueCalled m id a .left) .«open» ≡ true → queueCalled m id a .left .waits .next ≡ m .waits .next
-unfolding queueCalled T.queueSay T.queueEnd T.queueFinish putWait
-call-next m id (D.Straight (ForValue name fallback)) o = refl
-call-next m id (D.Straight (ForSource name)) o = refl
-call-next m id (D.Straight (ForPair k)) o = refl
-call-next m id (D.Straight ForWalk) o = refl
-call-next m id (D.Straight (ForSay p content buffer)) o = rw o
-call-next m id (D.Straight (ForEnd p buffer)) o = rw o
-call-next m id (D.Straight (ForFinish status buffer)) o = rw o
-call-next m id (D.ToSay p content) o = byTest (eqb (T.sayRefusal m id p content) 0) (λ e. rw e) (λ e. rw e)
-call-next m id (D.ToEnd p) o = byTest (eqb (T.firstRefusal (T.rowsOf m id (T.streamRows m id p []))) 0) (λ e. rw e) (λ e. rw e)
-call-next m id (D.ToFinish status) o = byTest (eqb (T.firstRefusal (T.rowsOf m id ((5 when T.isLeaving m id) ∷ []))) 0) (λ e. rw e) (λ e. rw e)
-
-call-kept : (m : QueueMemory) (id : ℕ) (a : Asking) → connOf (queueAfter m (CallFor id a)) .«open» ≡ true → queueAfter m (CallFor id a) .waits .next ≡ m .waits .next
-unfolding queueAfter
-call-kept m id a o = call-next m id a o
-
-step-kept : (m : QueueMemory) (piece : List ℕ) → connOf (queueAfter m (D.StepOver piece)) .«open» ≡ true → queueAfter m (D.StepOver piece) .waits .next ≡ m .waits .next
-unfolding queueAfter
-step-kept m piece o = rw o
-
+-- asking for the active number changes nothing
 count-kept : (m : QueueMemory) → queueAfter m CountActive ≡ m
 unfolding queueAfter
 count-kept m = refl
@@ -147,17 +109,17 @@ first-same n h = rw (lt-ltb n SLOTS h)
 module _ (R i : ℕ) (low : i < SLOTS) where
   -- the slots from the first to that of R; none on a closed connection
   abbrev ahead : QueueMemory → ℕ
-  ahead m = if connOf m .«open» then distance SLOTS i (firstSlot (m .waits .next)) else 0
+  ahead m = if connOf m .«open» then distance SLOTS i (firstSlot (nextOf m)) else 0
 
-  ahead-open : (m : QueueMemory) → connOf m .«open» ≡ true → ahead m ≡ distance SLOTS i (firstSlot (m .waits .next))
+  ahead-open : (m : QueueMemory) → connOf m .«open» ≡ true → ahead m ≡ distance SLOTS i (firstSlot (nextOf m))
   ahead-open m o = rw o
 
   -- they are fewer than the slots
   pub ahead-few : (m : QueueMemory) → ahead m < SLOTS
-  ahead-few m = byTest (connOf m .«open») (λ o. rw o (distance-below SLOTS i (firstSlot (m .waits .next)) low (first-below (m .waits .next)))) (λ o. rw o (omega arith))
+  ahead-few m = byTest (connOf m .«open») (λ o. rw o (distance-below SLOTS i (firstSlot (nextOf m)) low (first-below (nextOf m)))) (λ o. rw o (omega arith))
 
   -- no more where the slot that is looked at first stays
-  ahead-kept : (m n : QueueMemory) → (connOf m .«open» ≡ false → connOf n .«open» ≡ true → ⊥) → (connOf n .«open» ≡ true → n .waits .next ≡ m .waits .next) → ahead n ≤ ahead m
+  ahead-kept : (m n : QueueMemory) → (connOf m .«open» ≡ false → connOf n .«open» ≡ true → ⊥) → (connOf n .«open» ≡ true → nextOf n ≡ nextOf m) → ahead n ≤ ahead m
   ahead-kept m n c e =
       byTest (connOf n .«open»)
       (λ o. byTest (connOf m .«open») (λ p. rw (o, p, e o) (omega arith)) (λ p. absurd (c p o)))
@@ -201,22 +163,22 @@ module _ (R i : ℕ) (low : i < SLOTS) where
 
   -- ---- a turn
   -- a record of another slot brings R one record nearer
-  one-less : (m : QueueMemory) (j : ℕ) → connOf m .«open» ≡ true → StillWaits R i (loadedQueue m) → nextWaiting SLOTS SLOTS (slotWaits m) (firstSlot (m .waits .next)) ≡ some j → (j ≡ i → ⊥)
+  one-less : (m : QueueMemory) (j : ℕ) → Roomy m → connOf m .«open» ≡ true → StillWaits R i (loadedQueue m) → nextWaiting SLOTS SLOTS (slotWaits m) (firstSlot (nextOf m)) ≡ some j → (j ≡ i → ⊥)
       → ahead (pumpSlot m j .left) < ahead m
-  one-less m j o h e d =
-      let p = firstSlot (m .waits .next) in
-      let b = first-below (m .waits .next) in
+  one-less m j full o h e d =
+      let p = firstSlot (nextOf m) in
+      let b = first-below (nextOf m) in
       let n = nearer SLOTS SLOTS (slotWaits m) i p low b (still-here m o h) (distance-below SLOTS i p low b) in
       let x : n .0 ≡ j = cc (n .1, e) in
       let y : Nearer SLOTS i p j = subst (λ k. Nearer SLOTS i p k) x (n .2) in
-      go (y .itself-or-nearer) (after-below SLOTS j (y .below))
+      go (y .itself-or-nearer) (y .below) (after-below SLOTS j (y .below))
     where
-      go : (j ≡ i) ⊎ (distance SLOTS i (slotAfter SLOTS j) < distance SLOTS i (firstSlot (m .waits .next))) → slotAfter SLOTS j < SLOTS → ahead (pumpSlot m j .left) < ahead m
-      go (inl x) l = absurd (d x)
-      go (inr x) l =
+      go : (j ≡ i) ⊎ (distance SLOTS i (slotAfter SLOTS j) < distance SLOTS i (firstSlot (nextOf m))) → j < SLOTS → slotAfter SLOTS j < SLOTS → ahead (pumpSlot m j .left) < ahead m
+      go (inl x) b l = absurd (d x)
+      go (inr x) b l =
           byTest (connOf (pumpSlot m j .left) .«open»)
           (λ q.
-          let s : firstSlot (pumpSlot m j .left .waits .next) ≡ slotAfter SLOTS j = ap firstSlot (served-next m j q) ∙ first-same (slotAfter SLOTS j) l in
+          let s : firstSlot (nextOf (pumpSlot m j .left)) ≡ slotAfter SLOTS j = ap firstSlot (served-next m j full b q) ∙ first-same (slotAfter SLOTS j) l in
           let a : ahead (pumpSlot m j .left) ≡ distance SLOTS i (slotAfter SLOTS j) = ahead-open (pumpSlot m j .left) q ∙ ap (distance SLOTS i) s in
           subst (λ n. n < ahead m) (sym a) (subst (λ n. distance SLOTS i (slotAfter SLOTS j) < n) (sym (ahead-open m o)) x))
           (λ q. subst (λ n. ahead (pumpSlot m j .left) < n) (sym (ahead-open m o)) (rw q (omega (arith, x))))
@@ -231,7 +193,7 @@ module _ (R i : ℕ) (low : i < SLOTS) where
       → countBefore R (split (flatten (turned k m .records)) .records ++ l) ≤ ahead m
   unfolding turned flatten split splitIn
   turn-fair zero m g h l f = f h
-  turn-fair (suc k) m g h l f = go (nextWaiting SLOTS SLOTS (slotWaits m) (firstSlot (m .waits .next))) refl f (λ j a b c. turn-fair k (pumpSlot m j .left) a b l c)
+  turn-fair (suc k) m g h l f = go (nextWaiting SLOTS SLOTS (slotWaits m) (firstSlot (nextOf m))) refl f (λ j a b c. turn-fair k (pumpSlot m j .left) a b l c)
     where
       afterwards : Option ℕ → Turned
       afterwards o = onSome o (λ j. let p = pumpSlot m j in let t = turned k (p .left) in record { records = p .bytes ∷ t .records; left = t .left }) (record { records = []; left = m })
@@ -241,12 +203,12 @@ module _ (R i : ℕ) (low : i < SLOTS) where
           → (StillWaits R i (loadedQueue (turned k (pumpSlot m j .left) .left)) → countBefore R l ≤ ahead (turned k (pumpSlot m j .left) .left))
           → countBefore R (split (flatten (turned k (pumpSlot m j .left) .records)) .records ++ l) ≤ ahead (pumpSlot m j .left)
 
-      more : (j : ℕ) → nextWaiting SLOTS SLOTS (slotWaits m) (firstSlot (m .waits .next)) ≡ some j → j < SLOTS → anything (waitAt m j) ≡ true
+      more : (j : ℕ) → nextWaiting SLOTS SLOTS (slotWaits m) (firstSlot (nextOf m)) ≡ some j → j < SLOTS → anything (waitAt m j) ≡ true
           → (StillWaits R i (loadedQueue (turned k (pumpSlot m j .left) .left)) → countBefore R l ≤ ahead (turned k (pumpSlot m j .left) .left))
           → Rest j
           → countBefore R (split (flatten (pumpSlot m j .bytes ∷ turned k (pumpSlot m j .left) .records)) .records ++ l) ≤ ahead m
       more j e b w f ih =
-          let o = waits-open m j (g .good .steady) b w in
+          let o = waits-open m j (g .good .steady) w in
           let id = getD (connOf m .table .ids) j 0 in
           let d = waits-found m j (g .good .steady) b o w in
           let c = one-record m g o id j d w in
@@ -258,17 +220,17 @@ module _ (R i : ℕ) (low : i < SLOTS) where
           (λ n.
           let ne = eqb-false id R n in
           let other : j ≡ i → ⊥ = λ q. ne (is-own m g o id (d ∙ ap Slot.At q) h) in
-          let less = one-less m j o h e other in
+          let less = one-less m j (g .good .roomy) o h e other in
           let still = subst (λ s. StillWaits R i s) (sym (P.serve-loaded m (g .good .steady) (g .good .roomy) o id j d)) (serve-waits R i (loadedQueue m) id ne h) in
           let r = ih (slot-fine m g o id j d) still f in
           omega (arith, r, less)))
 
-      go : (o : Option ℕ) → nextWaiting SLOTS SLOTS (slotWaits m) (firstSlot (m .waits .next)) ≡ o
+      go : (o : Option ℕ) → nextWaiting SLOTS SLOTS (slotWaits m) (firstSlot (nextOf m)) ≡ o
           → (StillWaits R i (loadedQueue (afterwards o .left)) → countBefore R l ≤ ahead (afterwards o .left))
           → ((j : ℕ) → Rest j)
           → countBefore R (split (flatten (afterwards o .records)) .records ++ l) ≤ ahead m
       go none e f ih = f h
-      go (some j) e f ih = more j e (waiting-below SLOTS SLOTS (slotWaits m) (firstSlot (m .waits .next)) j (first-below (m .waits .next)) e) (waiting-is SLOTS SLOTS (slotWaits m) (firstSlot (m .waits .next)) j e) f (ih j)
+      go (some j) e f ih = more j e (waiting-below SLOTS SLOTS (slotWaits m) (firstSlot (nextOf m)) j (first-below (nextOf m)) e) (waiting-is SLOTS SLOTS (slotWaits m) (firstSlot (nextOf m)) j e) f (ih j)
 
   -- ---- operations
   -- Whoever waits goes on waiting, over all that is no turn.

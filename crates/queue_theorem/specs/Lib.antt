@@ -1,3 +1,4 @@
 pub mod Theorem
 pub mod NothingLost
+pub mod NextSlot
 pub mod Fair

@@ -6,7 +6,6 @@ use mathlib.Core.Option.{Option, none, some}
 use mathlib.Core.Bool.{Bool, true, false}
 use Prim.Native.Nat.{ℕ}
 use native.Mathlib.Omega.{arith}
-use lib.ListN.{getD}
 use Rattle.machine.specs.Slots.{Absent, lookup}
 use Rattle.machine.specs.Machine.{requestCalled, Connection, Open, Closed, Observation, RequestEvent, NoticeEvent, CloseEvent, CountAnswer, CallAnswer, onItem, stateAfter, observations, asList, concerns, observed, requestIn, ranFresh}
 use Rattle.connection.specs.declared.state.Slot.{Slot}
@@ -24,6 +23,7 @@ use Rattle.queue_link.specs.LinkedStraight.{answerIn, asked, toldOf}
 use Rattle.queue_link.specs.LinkedQueued.{decided-answer}
 use Rattle.queue_link.specs.LinkedFinish.{call-is}
 use Rattle.queue_link.specs.LinkedWritten.{wrote-bytes}
+use Rattle.queue.specs.Numbers.{lastAt}
 use Rattle.queue.specs.Run.{Answering, leavingOf, Asking, QueueOperation, CallFor, CountActive, TurnWith, queueCalled, queueAfter, requestShown, PiecesAreBytes, beginning, ending}
 use Rattle.queue.specs.NothingLost as N
 use lib.Dec.{eqb}
@@ -171,15 +171,15 @@ request-at : (m : QueueMemory) (id : ℕ) → connOf m .«open» ≡ true → (s
 request-at m id o s f = request-when m id true o ∙ ap (λ (x : Slot). onSlot x (λ i. some (heldAt (connOf m .table) (m .memory .store) i)) none) f
 
 shown-when : (m : QueueMemory) (id : ℕ) (b : Bool) → connOf m .«open» ≡ b
-    → requestShown id m ≡ (if (if b then onSlot (find (connOf m .table) id) (λ i. getD (m .waits .lasts) i false) false else false) then none else requestOf id (m .memory))
+    → requestShown id m ≡ (if (if b then onSlot (find (connOf m .table) id) (λ i. lastAt (m .waits) i) false else false) then none else requestOf id (m .memory))
 unfolding requestShown leavingOf
-shown-when m id b o = ap (λ (c : Bool). if (if c then onSlot (find (connOf m .table) id) (λ i. getD (m .waits .lasts) i false) false else false) then none else requestOf id (m .memory)) o
+shown-when m id b o = ap (λ (c : Bool). if (if c then onSlot (find (connOf m .table) id) (λ i. lastAt (m .waits) i) false else false) then none else requestOf id (m .memory)) o
 
 shown-at : (m : QueueMemory) (id : ℕ) → connOf m .«open» ≡ true → (s : Slot) → find (connOf m .table) id ≡ s
-    → requestShown id m ≡ (if onSlot s (λ i. getD (m .waits .lasts) i false) false then none else onSlot s (λ i. some (heldAt (connOf m .table) (m .memory .store) i)) none)
+    → requestShown id m ≡ (if onSlot s (λ i. lastAt (m .waits) i) false then none else onSlot s (λ i. some (heldAt (connOf m .table) (m .memory .store) i)) none)
 shown-at m id o s f =
-    shown-when m id true o ∙ ap (λ (x : Slot). if onSlot x (λ i. getD (m .waits .lasts) i false) false then none else requestOf id (m .memory)) f
-    ∙ ap (λ v. if onSlot s (λ i. getD (m .waits .lasts) i false) false then none else v) (request-at m id o s f)
+    shown-when m id true o ∙ ap (λ (x : Slot). if onSlot x (λ i. lastAt (m .waits) i) false then none else requestOf id (m .memory)) f
+    ∙ ap (λ v. if onSlot s (λ i. lastAt (m .waits) i) false then none else v) (request-at m id o s f)
 
 -- a call of an id, as the accounts have it
 unfoldable Told : QueueMemory → ℕ → Asking → QueueAnswer → Type 0

@@ -6,7 +6,7 @@ use mathlib.Core.Logic.{_⊎_, inl, inr}
 use mathlib.Core.Bool.{true, false}
 use Prim.Native.Nat.{ℕ, zero, suc, _*_, _<_}
 use native.Mathlib.Omega.{arith}
-use lib.ListN.{length, drop, replicate, getD-replicate, length-take, length-drop}
+use lib.ListN.{length, drop, replicate, length-take, length-drop}
 use Rattle.record.specs.Names.{OVERLOADED}
 use Rattle.record_reader.specs.Position.{betweenRecords, after}
 use Rattle.record_reader.specs.PositionSplit.{position-split, unfinished, finished-split}
@@ -33,7 +33,7 @@ use Rattle.queue_machine.specs.Queued.{Asked, queueingReceiver, waitingQueue}
 use Rattle.queue_machine.specs.Lift.{Waiting, liftSlots, liftReading, liftConnection, NothingFree, FreeEnd, FreeVacant}
 use Rattle.queue_machine.specs.LiftRuns.{FreeIn}
 use Rattle.queue_machine.specs.Isolation.{isolation as machine-isolation}
-use Rattle.queue_link.specs.Loaded.{waitingOf, loadedQueue, nobody-at}
+use Rattle.queue_link.specs.Loaded.{waitingOf, loadedQueue, nobody-count, nobody-at}
 use Rattle.queue_link.specs.LoadedTurn.{Good}
 use Rattle.queue_machine.specs.EndsRight.{ends-laws}
 use Rattle.machine_queue.specs.IdsBelow.{IdsBelow, below-fresh}
@@ -64,11 +64,11 @@ module _ (r : QueueRun) where
   start = beginning r
 
   start-waits : (i : ℕ) → i < SLOTS → waitingOf start i ≡ []
-  start-waits i h = nothing-waits (waitAt start i) (nobody-at start i h refl)
+  start-waits i h = nothing-waits (waitAt start i) (nobody-at start i refl)
 
   start-sized : (i : ℕ) → i < SLOTS → Sized (waitAt start i)
   unfolding waitAt
-  start-sized i h = record { count-fits = rw (getD-replicate {A = ℕ} 16 i 0 0 h) (omega arith); bytes-size = room-length (r .queue) i (r .queue-size) h; marks-size = room-length (r .marks) i (r .marks-size) h }
+  start-sized i h = record { count-fits = rw (nobody-count i) (omega arith); bytes-size = room-length (r .queue) i (r .queue-size) h; marks-size = room-length (r .marks) i (r .marks-size) h }
 
   start-free : FreeIn (waitingOf start) (fresh receiver SLOTS)
   unfolding fresh
@@ -82,7 +82,7 @@ module _ (r : QueueRun) where
       free = subst (λ s. FreeIn (waitingOf start) s) (sym (start-loaded (r .gathered) (r .store) (r .store-size))) start-free;
       dropped = λ o. refl;
     };
-    roomy = record { counts = refl; fronts = refl; lasts = refl; statuses = refl; queue = r .queue-size; marks = r .marks-size };
+    roomy = record { waits = refl; queue = r .queue-size; marks = r .marks-size };
   }
 
   lift-fresh : (f : Waiting) → liftConnection f (fresh receiver SLOTS) ≡ fresh queueingReceiver SLOTS

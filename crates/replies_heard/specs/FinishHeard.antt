@@ -24,7 +24,7 @@ use Rattle.connection.specs.Codes.{outputType}
 use Rattle.connection.specs.Slots.{requestAt, putRequest, freeSlot, noRequests, find}
 use Rattle.connection.specs.RequestCalls.{isEnded, endedOn, owesOut, owesErr, finishBytes, finishIn}
 use Rattle.connection.specs.Calls as C
-use Rattle.connection.specs.Laws.SlotsLaws.{Sized, find-at, find-put, request-of-put}
+use Rattle.connection.specs.Laws.SlotsLaws.{find-at, find-put, request-of-put}
 use Rattle.connection.specs.Laws.ShapeLaws.{shaped}
 use Rattle.connection.specs.Runs.Freed.{Kept, Shut, finish-done, finish-refused}
 use Rattle.connection.specs.Runs.LinkingCalls.{slot-found}
@@ -34,9 +34,9 @@ use Rattle.server.specs.Step.{idle}
 use Rattle.server.specs.Laws.{Ready}
 use Rattle.server.specs.WrittenBytes.{no-bytes, record-is-bytes, end-body-is-bytes}
 use Rattle.server.specs.Meaning.{Heard, heard-nothing, then-heard, heard-end, heard-over}
-use Rattle.replies_heard.specs.Agree.{SameEnds, ended-id, OpenWith, Agree, Inactive, each-none, inactive-freed, Spares, spares-put, spares-free, agree-freed, rests-still}
+use Rattle.replies_heard.specs.Agree.{SameEnds, ended-id, OpenWith, Spares, spares-put, spares-free}
 use Rattle.replies_heard.specs.Moves.{unless, endNote, finishNotes}
-use Rattle.replies_heard.specs.OutputHeard.{Agreed, All, unheard}
+use Rattle.replies_heard.specs.CallHeard.{Changes, Frees, Shuts, Writing, WritesLast, CallHeard, not-called}
 
 -- ---- an end that is owed or not
 -- what it came to, of the request of an id in slot j
@@ -71,11 +71,11 @@ end-is-bytes true kind id k = record-is-bytes kind id [] k no-bytes
 end-is-bytes false kind id k = no-bytes
 
 -- what is owed is not ended
-owes-out : (m : RequestState) → owesOut m ≡ true → m .«out_ended» ≡ false
+pub owes-out : (m : RequestState) → owesOut m ≡ true → m .«out_ended» ≡ false
 unfolding owesOut
 owes-out m e = byTest (m .«out_ended») (λ t. let z : _≡_ {A = ℕ} 0 1 = cc (simp t at e) in absurd (omega arith)) (λ t. t)
 
-owes-err : (m : RequestState) → owesErr m ≡ true → m .«err_ended» ≡ false
+pub owes-err : (m : RequestState) → owesErr m ≡ true → m .«err_ended» ≡ false
 unfolding owesErr
 owes-err m e =
     byTest (m .«err_used»)
@@ -86,6 +86,7 @@ owes-err m e =
 record Over (r : Request) (id status : ℕ) (t : Table) (v : List ℕ) : Type 0 where
   pub table : Table
   pub heard : Heard t v (finishBytes r status) table v (finishNotes (r .state) id status)
+  pub wrote : Writing id (finishBytes r status) (finishNotes (r .state) id status)
   pub spares : Spares id t table
   pub ok : AllBytes (finishBytes r status)
 
@@ -103,6 +104,7 @@ over-heard r id j status t v mine hi small ready slot same =
     record {
       table = freeSlot u j;
       heard = rw mine (then-heard t (one .table) (freeSlot u j) v v v _ _ _ _ (one .heard) (then-heard (one .table) u (freeSlot u j) v v v _ _ _ _ (two .heard) last));
+      wrote = rw mine (WritesLast (owesOut m) (owesErr m) status);
       spares = λ b n ne k. freed b n ne (two .spares b n ne (one .spares b n ne k));
       ok = rw mine
           (append-bytes (endIf (owesOut m) STDOUT id) (endIf (owesErr m) STDERR id ++ end) (end-is-bytes (owesOut m) STDOUT id (omega arith))
@@ -122,14 +124,15 @@ refused-writes c store id status buffer e =
     (λ n. simp (t, n)))
     (λ t. simp t)
 
-module _ (c : Conn) (store : List ℕ) (id status : ℕ) (buffer : List ℕ) (t : Table) (v : List ℕ) (sized : Sized (c .table)) (ready : Ready (idle t true v) 0) (a : Agree (c .table) t) (hi : id < 65536) where
+module _ (c : Conn) (store : List ℕ) (id status : ℕ) (buffer : List ℕ) (t : Table) (v : List ℕ) (ready : Ready (idle t true v) 0)
+    (mine : (i : ℕ) → find (c .table) id ≡ Slot.At i → OpenWith t id (requestAt (c .table) i .state)) (hi : id < 65536) where
   abbrev w : C.Finished
   w = C.finish c store id status buffer
 
   abbrev own : Request
   own = requestAt (c .table) (C.slotOf c id)
 
-  pub finish-heard : status < 4294967296 → Agreed All (c .table) t v (take (w .written) (w .buffer)) (unless (w .refusal) (finishNotes (own .state) id status)) (w .conn .table)
+  pub finish-heard : status < 4294967296 → CallHeard id (c .table) t v (take (w .written) (w .buffer)) (unless (w .refusal) (finishNotes (own .state) id status)) (w .conn .table)
   unfolding C.released
   finish-heard small =
       byTest (eqb (w .refusal) 0)
@@ -139,25 +142,18 @@ module _ (c : Conn) (store : List ℕ) (id status : ℕ) (buffer : List ℕ) (t 
       let f = finish-done c store id status buffer e in
       let i = f .admitted .slot in
       let slot : find (c .table) id ≡ Slot.At (C.slotOf c id) = f .admitted .found ∙ ap Slot.At (sym (slot-found c id i (f .admitted .found))) in
-      let p = a id (C.slotOf c id) slot in
+      let p = mine (C.slotOf c id) slot in
       let k = over-heard own id (p .slot) status t v (d .has-id) hi small ready (p .found) (p .ends) in
       let bytes = finishBytes own status in
       let wire : take (w .written) (w .buffer) ≡ bytes = ap (λ (n : ℕ). take n (w .buffer)) (d .written) ∙ ap (take (length bytes)) (d .buffer) ∙ take-at bytes (drop (0 + length bytes) buffer) (length bytes) refl in
       let tidy = shaped c (f .admitted .fits .shape) .table in
-      let came : (s′ : Table) → Agree s′ (k .table) → ((b : ℕ) → Inactive (c .table) b → Inactive s′ b) → Agreed All (c .table) t v bytes (finishNotes (own .state) id status) s′ =
-      λ s′ agree still. record {
-        table = k .table;
-        values = v;
-        heard = k .heard;
-        agree = agree;
-        ok = k .ok;
-        rests = λ b n r. rests-still (c .table) s′ t (k .table) id (C.slotOf c id) b slot (k .spares) (still b) r;
-      } in
+      let came : (s′ : Table) → Changes id (c .table) t (k .table) s′ → CallHeard id (c .table) t v bytes (finishNotes (own .state) id status) s′ =
+      λ s′ changes. record { table = k .table; heard = k .heard; wrote = k .wrote; changes = changes; ok = k .ok } in
       rw (z, wire)
       (⊎-elim
-      (λ (q : Kept c store i w). rw (q .conn) (came (freeSlot (c .table) i) (agree-freed (c .table) t (k .table) id i tidy (f .admitted .found) a (k .spares)) (λ b. inactive-freed (c .table) i b tidy)))
-      (λ (q : Shut store w). rw (q .conn) (came noRequests (each-none (OpenWith (k .table))) (λ b none. each-none (λ n m. n ≡ b → ⊥))))
+      (λ (q : Kept c store i w). rw (q .conn) (came (freeSlot (c .table) i) (Frees i (f .admitted .found) tidy (k .spares))))
+      (λ (q : Shut store w). rw (q .conn) (came noRequests (Shuts i (f .admitted .found) (k .spares))))
       (f .way)))
       (λ z.
       let no = eqb-false (w .refusal) 0 z in
-      rw (z, refused-writes c store id status buffer no, finish-refused c store id status buffer no .0) (unheard All (c .table) t v (c .table) ready a (λ b k none. none)))
+      rw (z, refused-writes c store id status buffer no, finish-refused c store id status buffer no .0) (not-called id (c .table) t v ready))

@@ -13,17 +13,11 @@ use Rattle.connection.specs.Slots.{noRequests}
 use Rattle.connection.specs.Step.{started as stationStarted}
 use Rattle.connection.specs.Run.{startOf}
 use Rattle.connection.specs.Runs.LinkingRuns.{start-steady}
-use Rattle.record_rules.specs.Rules.{Run, byByte}
-use Rattle.record_rules.specs.Laws.{by-byte-none}
 use Rattle.server.specs.Event.{Note}
-use Rattle.server.specs.Step.{rules, started}
-use Rattle.server.specs.Laws.{lawful}
-use Rattle.server.specs.Stepping.{readerOf, start-good}
-use Rattle.server.specs.WrittenBytes.{no-bytes}
 use Rattle.replies_heard.specs.Agree.{OpenWith, Each, each-none}
+use Rattle.replies_heard.specs.Behind.{server-open, nothing-left, fresh-behind}
 use Rattle.replies_heard.specs.Joint.{Joint, JointMove, Station, Reads, Opens, Writes, Asks, after, heardAt, meantAt, ending, heard, meant, AllFair, NeverRefused, fresh, RepliesAreHeard}
-use Rattle.replies_heard.specs.Together.{Together, server-open, station-moves, server-reads}
-use Rattle.replies_heard.specs.ServerCalls.{server-opens, server-writes, server-asks}
+use Rattle.replies_heard.specs.Together.{Together, station-moves, server-reads, server-opens, server-writes, server-asks}
 
 -- ---- any moves, from where something is left to hear
 record Goes (j : Joint) (xs : List JointMove) (left : List Note) : Type 0 where
@@ -73,29 +67,19 @@ goes (Asks list buffer ∷ xs) j left i f =
     let g = goes xs (after j (Asks list buffer)) left (server-asks j left list buffer i) (f .1) in
     goes-on (Asks list buffer) j xs left g refl refl (tt, g .admitted)
 
--- with the wire empty nothing is left to hear
-nothing-left : (j : Joint) (left : List Note) → Together j left → j .wire ≡ [] → left ≡ []
-nothing-left j left i e =
-    sym (ap (λ (r : Run rules). r .notes) (sym (by-byte-none rules lawful (readerOf (j .server))) ∙ ap (byByte rules (readerOf (j .server))) (sym e) ∙ i .reads-on))
-
 -- ---- both ends fresh
-fresh-station : (gathered store : List ℕ) → length store ≡ STORE → startOf gathered store .state .conn .table ≡ noRequests
+pub fresh-station : (gathered store : List ℕ) → length store ≡ STORE → startOf gathered store .state .conn .table ≡ noRequests
 unfolding startOf stationStarted
 fresh-station gathered store s = simp (eq-eqb (length store) STORE s)
 
 fresh-together : (gathered store values : List ℕ) → length gathered ≡ QUERY → length store ≡ STORE → length values ≡ QUERY → Together (fresh gathered store values) []
-unfolding started
 fresh-together gathered store values hg hs hv =
-    let good = start-good values hv in
     record {
       steady = start-steady gathered store hg hs;
-      good = good;
-      bytes = no-bytes;
       table = noRequests;
       values = zeros (length values);
-      reads-on = by-byte-none rules lawful (readerOf (started values));
-      ready = good .fit .ready;
-      agree = subst (λ (s : Table). Each s (OpenWith noRequests)) (sym (fresh-station gathered store hs)) (each-none (OpenWith noRequests));
+      behind = fresh-behind values hv;
+      agree = subst (λ (s : Table). Each s (λ id i. OpenWith noRequests id)) (sym (fresh-station gathered store hs)) (each-none (λ id i. OpenWith noRequests id));
       rests = λ id p. ⊎-elim (λ w. absurd (List·Memᴰ·not-nil w)) (λ w. absurd (List·Memᴰ·not-nil w)) p;
       apart = λ id w. absurd (List·Memᴰ·not-nil w);
     }
@@ -104,10 +88,12 @@ pub replies-are-heard : RepliesAreHeard
 replies-are-heard gathered store values xs hg hs hv f =
     let j = fresh gathered store values in
     let g = goes xs j [] (fresh-together gathered store values hg hs hv) f in
+    let e = ending j xs in
+    let k = g .together in
     record {
       rest = g .rest;
       in-order = g .in-order;
-      all = λ e. sym (append-nil (heard j xs)) ∙ ap (λ (l : List Note). heard j xs ++ l) (sym (nothing-left (ending j xs) (g .rest) (g .together) e)) ∙ g .in-order;
+      all = λ w. sym (append-nil (heard j xs)) ∙ ap (λ (l : List Note). heard j xs ++ l) (sym (nothing-left (e .server) (e .wire) (g .rest) (k .table) (k .values) (k .behind) w)) ∙ g .in-order;
       admitted = g .admitted;
-      still-open = server-open (ending j xs) (g .rest) (g .together);
+      still-open = server-open (e .server) (e .wire) (g .rest) (k .table) (k .values) (k .behind);
     }

@@ -20,57 +20,53 @@ use Rattle.connection.specs.Codes.{outputType}
 use Rattle.connection.specs.Slots.{requestAt, putRequest, find}
 use Rattle.connection.specs.RequestCalls.{isEnded, saidOn, endedOn}
 use Rattle.connection.specs.Calls as C
-use Rattle.connection.specs.Laws.SlotsLaws.{Sized, only-slot, find-at, find-put, request-of-put}
+use Rattle.connection.specs.Laws.SlotsLaws.{only-slot, find-at, find-put, request-of-put}
 use Rattle.connection.specs.Laws.ShapeLaws.{shaped}
 use Rattle.call_output.specs.Outcome.{requestOf, outputCall, say-is, end-is, named-id, did, did-not, front}
 use Rattle.server.specs.Event.{Event, Note, showing}
 use Rattle.server.specs.Step.{idle}
 use Rattle.server.specs.Laws.{Ready}
 use Rattle.server.specs.WrittenBytes.{no-bytes, record-is-bytes, stream-is-bytes}
-use Rattle.server.specs.Meaning.{Heard, heard-nothing, heard-end, heard-said}
-use Rattle.replies_heard.specs.Agree.{SameEnds, is-ended, ended-id, ended-ends, OpenWith, Agree, Inactive, Resting, open-on-ends, each-put, inactive-put, spares-put, agree-changed, rests-still}
+use Rattle.server.specs.Meaning.{Heard, heard-end, heard-said}
+use Rattle.replies_heard.specs.Agree.{SameEnds, ends-trans, is-ended, ended-id, ended-ends, OpenWith, Spares, spares-put}
+use Rattle.replies_heard.specs.CallHeard.{Puts, WritesData, WritesEnd, CallHeard, not-called}
 use Rattle.replies_heard.specs.Moves.{unless}
 
--- What a move came to, from the station's table s to s′ and from a server's end that stands between two records with
--- table t and lent bytes v: the bytes are heard as these notes, the two ends agree, and a request that rests and is
--- spared rests still.
-pub record Agreed (Spared : ℕ → Type 0) (s t : Table) (v bytes : List ℕ) (l : List Note) (s′ : Table) : Type 0 where
-  pub table : Table
-  pub values : List ℕ
-  pub heard : Heard t v bytes table values l
-  pub agree : Agree s′ table
-  pub ok : AllBytes bytes
-  pub rests : (b : ℕ) → Spared b → Resting s t b → Resting s′ table b
-
--- a call spares all
-abbrev pub All : ℕ → Type 0
-All b = Unit {0}
-
--- nothing is written
-pub unheard : (Spared : ℕ → Type 0) (s t : Table) (v : List ℕ) (s′ : Table) → Ready (idle t true v) 0 → Agree s′ t → ((b : ℕ) → Spared b → Inactive s b → Inactive s′ b) → Agreed Spared s t v [] [] s′
-unheard Spared s t v s′ ready a still =
-    record {
-      table = t;
-      values = v;
-      heard = heard-nothing t v ready;
-      agree = a;
-      ok = no-bytes;
-      rests = λ b k r. record { is-open = r .is-open; inactive = still b k (r .inactive) };
-    }
-
-output-small : (o : Output) → outputType o < 256
+pub output-small : (o : Output) → outputType o < 256
 output-small Output.Stdout = omega arith
 output-small Output.Stderr = omega arith
 
-said-id : (r : Request) (o : Output) (x : List ℕ) → saidOn r o x .id ≡ r .id
+pub said-id : (r : Request) (o : Output) (x : List ℕ) → saidOn r o x .id ≡ r .id
 unfolding saidOn
 said-id r o x = refl
 
-said-ends : (r : Request) (o : Output) (x : List ℕ) → SameEnds (r .state) (saidOn r o x .state)
+pub said-ends : (r : Request) (o : Output) (x : List ℕ) → SameEnds (r .state) (saidOn r o x .state)
 unfolding saidOn
 said-ends r o x = record { out = refl; err = refl }
 
-module _ (c : Conn) (id : ℕ) (t : Table) (v : List ℕ) (sized : Sized (c .table)) (ready : Ready (idle t true v) 0) (a : Agree (c .table) t) (hi : id < 65536) where
+-- ---- the end of a stream of a request that is open in slot j of the server's end
+-- it is heard, the request is open with that stream ended, and others stay
+pub record StreamEnded (t : Table) (v : List ℕ) (id : ℕ) (o : Output) (q : Request) (u : Table) : Type 0 where
+  pub heard : Heard t v (recordBytes (outputType o) id []) u v (Note.Told (Event.Ended id (outputType o)) ∷ [])
+  pub spares : Spares id t u
+  pub there : OpenWith u id (endedOn q o .state)
+
+pub stream-ended : (t : Table) (v : List ℕ) → Ready (idle t true v) 0 → (id j : ℕ) → find t id ≡ Slot.At j → id < 65536 → (o : Output) → isEnded o (requestAt t j .state) ≡ false
+    → (q : Request) → SameEnds (requestAt t j .state) (q .state) → StreamEnded t v id o q (putRequest t j (endedOn (requestAt t j) o))
+stream-ended t v ready id j found hi o live q same =
+    let r = requestAt t j in
+    record {
+      heard = heard-end t v ready id j found hi o live;
+      spares = spares-put t id j (endedOn r o) found (ended-id r o);
+      there = record {
+        slot = j;
+        found = find-put t j (endedOn r o) id (ended-id r o) ∙ found;
+        ends = subst (λ (n : Request). SameEnds (n .state) (endedOn q o .state)) (sym (request-of-put t j (endedOn r o) (ready .sized) (find-at t id j found .low))) (ended-ends r q o same);
+      };
+    }
+
+-- ---- calls: the request that is called is open at the server's end
+module _ (c : Conn) (id : ℕ) (t : Table) (v : List ℕ) (ready : Ready (idle t true v) 0) (mine : (i : ℕ) → find (c .table) id ≡ Slot.At i → OpenWith t id (requestAt (c .table) i .state)) (hi : id < 65536) where
   abbrev own : Request
   own = requestOf c id
 
@@ -88,14 +84,14 @@ module _ (c : Conn) (id : ℕ) (t : Table) (v : List ℕ) (sized : Sized (c .tab
     abbrev w : C.Written
     w = outputCall c id o (λ r. f (r .id)) g buffer
 
-    output-heard : (Let o → Agreed All (c .table) t v (f id) l (putRequest (c .table) at (g own))) → Agreed All (c .table) t v (take (w .written) (w .buffer)) (unless (w .refusal) l) (w .conn .table)
+    output-heard : (Let o → CallHeard id (c .table) t v (f id) l (putRequest (c .table) at (g own))) → CallHeard id (c .table) t v (take (w .written) (w .buffer)) (unless (w .refusal) l) (w .conn .table)
     output-heard through =
         byTest (eqb (w .refusal) 0)
         (λ z.
         let e = eqb-true (w .refusal) 0 z in
         let d = did c id o (λ r. f (r .id)) g buffer e in
         let slot = only-slot (c .table) (shaped c (d .called .shape) .table .distinct) id at (d .called .holds) in
-        let p = a id at slot in
+        let p = mine at slot in
         let bytes : take (w .written) (w .buffer) ≡ f id = front c id o (λ r. f (r .id)) g buffer e ∙ ap f (named-id c id (d .called)) in
         let after : w .conn .table ≡ putRequest (c .table) at (g own) = ap (λ (y : C.Written). y .conn .table) (d .is) in
         rw (z, bytes, after) (through (record { slot = slot; there = p; live = is-ended o (requestAt t (p .slot) .state) (own .state) (p .ends) ∙ d .written .running })))
@@ -103,44 +99,42 @@ module _ (c : Conn) (id : ℕ) (t : Table) (v : List ℕ) (sized : Sized (c .tab
         let n = did-not c id o (λ r. f (r .id)) g buffer (eqb-false (w .refusal) 0 z) in
         let bytes : take (w .written) (w .buffer) ≡ [] = ap (λ (y : C.Written). take (y .written) (y .buffer)) n in
         let after : w .conn .table ≡ c .table = ap (λ (y : C.Written). y .conn .table) n in
-        rw (z, bytes, after) (unheard All (c .table) t v (c .table) ready a (λ b k none. none)))
+        rw (z, bytes, after) (not-called id (c .table) t v ready))
 
   -- Say.
   pub say-heard : (o : Output) (x buffer : List ℕ) → AllBytes x
-      → Agreed All (c .table) t v (take (C.say c id o x buffer .written) (C.say c id o x buffer .buffer)) (unless (C.say c id o x buffer .refusal) (showing id (outputType o) x)) (C.say c id o x buffer .conn .table)
+      → CallHeard id (c .table) t v (take (C.say c id o x buffer .written) (C.say c id o x buffer .buffer)) (unless (C.say c id o x buffer .refusal) (showing id (outputType o) x)) (C.say c id o x buffer .conn .table)
   say-heard o x buffer all =
       rw (say-is c id o x buffer)
       (output-heard o (λ n. streamBytes CHUNK (outputType o) n x) (λ r. saidOn r o x) buffer (showing id (outputType o) x)
-      (λ k. record {
+      (λ k.
+      let p = k .there in
+      let still : OpenWith t id (saidOn own o x .state) = record {
+        slot = p .slot;
+        found = p .found;
+        ends = ends-trans (requestAt t (p .slot) .state) (own .state) (saidOn own o x .state) (p .ends) (said-ends own o x);
+      } in
+      record {
         table = t;
-        values = v;
-        heard = heard-said t v ready id (k .there .slot) (k .there .found) hi o (k .live) x;
-        agree = each-put (OpenWith t) (open-on-ends t) (c .table) at (saidOn own o x) sized (said-id own o x) (said-ends own o x) a;
+        heard = heard-said t v ready id (p .slot) (p .found) hi o (k .live) x;
+        wrote = WritesData o x;
+        changes = Puts at (saidOn own o x) (k .slot) (said-id own o x) (λ b m ne z. z) still;
         ok = stream-is-bytes (outputType o) id (output-small o) x all;
-        rests = λ b u r. record { is-open = r .is-open; inactive = inactive-put (c .table) at (saidOn own o x) b (said-id own o x) (r .inactive) };
       }))
 
   -- The end of a stream.
   pub end-heard : (o : Output) (buffer : List ℕ)
-      → Agreed All (c .table) t v (take (C.endStream c id o buffer .written) (C.endStream c id o buffer .buffer)) (unless (C.endStream c id o buffer .refusal) (Note.Told (Event.Ended id (outputType o)) ∷ [])) (C.endStream c id o buffer .conn .table)
+      → CallHeard id (c .table) t v (take (C.endStream c id o buffer .written) (C.endStream c id o buffer .buffer)) (unless (C.endStream c id o buffer .refusal) (Note.Told (Event.Ended id (outputType o)) ∷ [])) (C.endStream c id o buffer .conn .table)
   end-heard o buffer =
       rw (end-is c id o buffer)
       (output-heard o (λ n. recordBytes (outputType o) n []) (λ r. endedOn r o) buffer (Note.Told (Event.Ended id (outputType o)) ∷ [])
       (λ k.
       let j = k .there .slot in
-      let q = requestAt t j in
-      let u = putRequest t j (endedOn q o) in
-      let spares = spares-put t id j (endedOn q o) (k .there .found) (ended-id q o) in
-      let open-there : OpenWith u id (endedOn own o .state) = record {
-        slot = j;
-        found = find-put t j (endedOn q o) id (ended-id q o) ∙ k .there .found;
-        ends = subst (λ (n : Request). SameEnds (n .state) (endedOn own o .state)) (sym (request-of-put t j (endedOn q o) (ready .sized) (find-at t id j (k .there .found) .low))) (ended-ends q own o (k .there .ends));
-      } in
+      let e = stream-ended t v ready id j (k .there .found) hi o (k .live) own (k .there .ends) in
       record {
-        table = u;
-        values = v;
-        heard = heard-end t v ready id j (k .there .found) hi o (k .live);
-        agree = agree-changed (c .table) t u id at (endedOn own o) sized (k .slot) (ended-id own o) a spares open-there;
+        table = putRequest t j (endedOn (requestAt t j) o);
+        heard = e .heard;
+        wrote = WritesEnd o;
+        changes = Puts at (endedOn own o) (k .slot) (ended-id own o) (e .spares) (e .there);
         ok = record-is-bytes (outputType o) id [] (output-small o) no-bytes;
-        rests = λ b n r. rests-still (c .table) (putRequest (c .table) at (endedOn own o)) t u id at b (k .slot) spares (inactive-put (c .table) at (endedOn own o) b (ended-id own o)) r;
       }))

@@ -8,9 +8,13 @@ use native.Mathlib.Omega.{arith}
 use lib.Dec.{eqb}
 use borrow.Author.Tests.{eqb-true, eqb-false}
 use Rattle.wire.specs.Test.{if_then_else_, byTest}
+use Rattle.connection.specs.declared.request.RequestState.{RequestState}
+use Rattle.connection.specs.declared.state.Table.{Table}
+use Rattle.connection.specs.Slots.{noState}
+use Rattle.replies_heard.specs.Agree.{OpenWith, Inactive, Resting}
 use Rattle.replies_heard.specs.Joint.{without, isIn, Opening, IsOpened, IsRefused, Neither, waitingAfter, refusedAfter, answeredAfter, opensWaiting, isOwed}
 use Rattle.replies_heard.specs.RepliesHeard.{Unanswered}
-use Rattle.replies_heard.specs.MoveHeard.{Unopened}
+use Rattle.replies_heard.specs.MoveHeard.{OpeningRests, Unopened, AnswerRests}
 
 -- in one of the two lists; in both is none
 abbrev pub Pending : List ℕ → List ℕ → ℕ → Type 0
@@ -74,3 +78,26 @@ module _ (w r : List ℕ) (apart : Apart w r) where
       go true k = apart b m (without-mem id b r k .0)
       go false k = apart b m k
   apart-reply Neither n b m k = apart b m k
+
+-- ---- what is pending rests
+module _ (w r : List ℕ) (s t : Table) (rests : (id : ℕ) → Pending w r id → Resting s t id) where
+  -- so does what a step opens and what a reply answers
+  pub opening-rests : (o : Opening) → opensWaiting o w → OpeningRests o s t
+  opening-rests (IsOpened id) f = rests id (inl f)
+  opening-rests (IsRefused id) f = tt
+  opening-rests Neither f = tt
+
+  pub answer-rests : (o : Opening) → isOwed o r → AnswerRests o s t
+  answer-rests (IsOpened id) f = tt
+  answer-rests (IsRefused id) f = rests id (inr f)
+  answer-rests Neither f = tt
+
+  -- One more is opened at the server's end, whose table is u then: it was not open, and what was open stays so.
+  module _ (u : Table) (id : ℕ) (stays : (b : ℕ) (m : RequestState) → OpenWith t b m → OpenWith u b m) (mine : OpenWith u id noState) (fresh : (b : ℕ) (m : RequestState) → OpenWith t b m → b ≡ id → ⊥) where
+    pub opened-rests : Inactive s id → (b : ℕ) → Pending (id ∷ w) r b → Resting s u b
+    opened-rests none b p =
+        let others : Resting s t b → Resting s u b = λ k. record { is-open = stays b noState (k .is-open); inactive = k .inactive } in
+        ⊎-elim (λ m. ⊎-elim (λ z. subst (Resting s u) (sym z) (record { is-open = mine; inactive = none })) (λ z. others (rests b (inl z))) (List·Memᴰ·cases-cons m)) (λ m. others (rests b (inr m))) p
+
+    pub opened-apart : Apart w r → Apart (id ∷ w) r
+    opened-apart apart b m k = ⊎-elim (λ z. fresh b noState (rests b (inr k) .is-open) z) (λ z. apart b z k) (List·Memᴰ·cases-cons m)

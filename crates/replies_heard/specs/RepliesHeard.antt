@@ -13,6 +13,7 @@ use Rattle.wire.specs.Bytes.{AllBytes, append-bytes}
 use Rattle.record.specs.Names.{END-REQUEST, GET-VALUES-RESULT, UNKNOWN-TYPE}
 use Rattle.record.specs.Body.{endBodyBytes, unknownTypeBytes}
 use Rattle.pairs.specs.Pair.{pairBytes}
+use Rattle.connection.specs.declared.request.RequestState.{RequestState}
 use Rattle.connection.specs.declared.state.Table.{Table}
 use Rattle.connection.specs.Event.{Event as StationEvent}
 use Rattle.connection.specs.Slots.{noState, freeSlot}
@@ -24,17 +25,16 @@ use Rattle.server.specs.Event.{Event, Note}
 use Rattle.server.specs.Step.{idle}
 use Rattle.server.specs.Laws.{Ready}
 use Rattle.server.specs.WrittenBytes.{no-bytes, small-bytes, record-is-bytes, end-body-is-bytes, unknown-body-is-bytes, pair-is-bytes}
-use Rattle.server.specs.Meaning.{heard-over, heard-values, heard-unknown}
-use Rattle.replies_heard.specs.Agree.{Agree, Resting, spares-free, agree-spared}
+use Rattle.server.specs.Meaning.{Heard, heard-nothing, heard-over, heard-values, heard-unknown}
+use Rattle.replies_heard.specs.Agree.{OpenWith, spares-free}
 use Rattle.replies_heard.specs.Moves.{unless, replyMeans, eventFits}
 use Rattle.replies_heard.specs.Joint.{Opening, IsOpened, IsRefused, Neither, openingIn}
-use Rattle.replies_heard.specs.OutputHeard.{Agreed, All, unheard}
 
--- a request whose refused opening is answered rested
-abbrev pub AnswerRests : Opening → Table → Table → Type 0
-AnswerRests (IsOpened id) s t = Unit {0}
-AnswerRests (IsRefused id) s t = Resting s t id
-AnswerRests Neither s t = Unit {0}
+-- a request whose refused opening is answered is open at the server's end, with no output stream ended
+abbrev pub AnswerOpen : Opening → Table → Type 0
+AnswerOpen (IsOpened id) t = Unit {0}
+AnswerOpen (IsRefused id) t = OpenWith t id noState
+AnswerOpen Neither t = Unit {0}
 
 -- what a reply with such a refusal, 0 for none, spares: all but the id whose refused opening it answers
 abbrev pub Unanswered : Opening → ℕ → ℕ → Type 0
@@ -57,7 +57,16 @@ values-are-bytes conns reqs mpxs =
     one true name value a b = pair-is-bytes name value a b
     one false name value a b = no-bytes
 
-module _ (s t : Table) (v : List ℕ) (ready : Ready (idle t true v) 0) (a : Agree s t) (buffer : List ℕ) where
+-- What a reply came to, at a server's end that stands between two records with table t and lent bytes v: the bytes are
+-- heard as these notes, and what is open there and is spared stays open.
+pub record Answered (Spared : ℕ → Type 0) (t : Table) (v bytes : List ℕ) (l : List Note) : Type 0 where
+  pub table : Table
+  pub values : List ℕ
+  pub heard : Heard t v bytes table values l
+  pub stays : (b : ℕ) (m : RequestState) → Spared b → OpenWith t b m → OpenWith table b m
+  pub ok : AllBytes bytes
+
+module _ (t : Table) (v : List ℕ) (ready : Ready (idle t true v) 0) (buffer : List ℕ) where
   abbrev w : StationEvent → C.Replied
   w e = C.replied e buffer
 
@@ -69,18 +78,22 @@ module _ (s t : Table) (v : List ℕ) (ready : Ready (idle t true v) 0) (a : Agr
   unfolding C.replied
   refused-writes e n = byTest (ltb (length buffer) (length (C.owed e))) (λ u. simp u) (λ u. absurd (n (simp u)))
 
+  nothing : (P : ℕ → Type 0) → Answered P t v [] []
+  nothing P = record { table = t; values = v; heard = heard-nothing t v ready; stays = λ b m k o. o; ok = no-bytes }
+
   -- a reply is heard, if it is heard where it is written
-  by-reply : (e : StationEvent) (l : List Note) → (w e .refusal ≡ 0 → Agreed (Spared e) s t v (C.owed e) l s)
-      → Agreed (Spared e) s t v (take (w e .written) (w e .buffer)) (unless (w e .refusal) l) s
+  by-reply : (e : StationEvent) (l : List Note) → (w e .refusal ≡ 0 → Answered (Spared e) t v (C.owed e) l)
+      → Answered (Spared e) t v (take (w e .written) (w e .buffer)) (unless (w e .refusal) l)
   by-reply e l written =
       byTest (eqb (w e .refusal) 0)
-      (λ z. let ok = eqb-true (w e .refusal) 0 z in rw (reply-front e buffer ok) (subst (λ (b : Bool). Agreed (Spared e) s t v (C.owed e) (if b then l else []) s) (sym z) (written ok)))
-      (λ z. rw (refused-writes e (eqb-false (w e .refusal) 0 z)) (subst (λ (b : Bool). Agreed (Spared e) s t v [] (if b then l else []) s) (sym z) (nothing (Spared e))))
-    where
-      nothing : (P : ℕ → Type 0) → Agreed P s t v [] [] s
-      nothing P = unheard P s t v s ready a (λ b k none. none)
+      (λ z. let ok = eqb-true (w e .refusal) 0 z in rw (reply-front e buffer ok) (subst (λ (b : Bool). Answered (Spared e) t v (C.owed e) (if b then l else [])) (sym z) (written ok)))
+      (λ z. rw (refused-writes e (eqb-false (w e .refusal) 0 z)) (subst (λ (b : Bool). Answered (Spared e) t v [] (if b then l else [])) (sym z) (nothing (Spared e))))
 
-  pub reply-heard : (e : StationEvent) → eventFits e → AnswerRests (openingIn e) s t → Agreed (Spared e) s t v (take (w e .written) (w e .buffer)) (unless (w e .refusal) (replyMeans e)) s
+  -- an event that owes nothing
+  silent : (e : StationEvent) → C.owed e ≡ [] → Answered (Spared e) t v (take (w e .written) (w e .buffer)) (unless (w e .refusal) [])
+  silent e none = by-reply e [] (λ ok. rw none (nothing (Spared e)))
+
+  pub reply-heard : (e : StationEvent) → eventFits e → AnswerOpen (openingIn e) t → Answered (Spared e) t v (take (w e .written) (w e .buffer)) (unless (w e .refusal) (replyMeans e))
   unfolding C.owed
   reply-heard (StationEvent.Query conns reqs mpxs) f r =
       let e = StationEvent.Query conns reqs mpxs in
@@ -90,9 +103,8 @@ module _ (s t : Table) (v : List ℕ) (ready : Ready (idle t true v) 0) (a : Agr
         table = t;
         values = copied v 0 x;
         heard = heard-values t v ready x (omega (arith, values-length conns reqs mpxs)) (query-reads-back conns reqs mpxs buffer ok .2);
-        agree = a;
+        stays = λ b m k o. o;
         ok = record-is-bytes GET-VALUES-RESULT 0 x (omega arith) (values-are-bytes conns reqs mpxs);
-        rests = λ b k q. q;
       })
   reply-heard (StationEvent.Unknown kind) f r =
       by-reply (StationEvent.Unknown kind) (Note.Told (Event.Unknown kind) ∷ [])
@@ -100,27 +112,25 @@ module _ (s t : Table) (v : List ℕ) (ready : Ready (idle t true v) 0) (a : Agr
         table = t;
         values = v;
         heard = heard-unknown t v ready kind;
-        agree = a;
+        stays = λ b m k o. o;
         ok = record-is-bytes UNKNOWN-TYPE 0 (unknownTypeBytes kind) (omega arith) (unknown-body-is-bytes kind f);
-        rests = λ b k q. q;
       })
   reply-heard (StationEvent.Refuse id status) f r =
-      let j = r .is-open .slot in
-      let spares = spares-free t id j (ready .sized) (ready .tidy) (r .is-open .found) in
+      let j = r .slot in
+      let spares = spares-free t id j (ready .sized) (ready .tidy) (r .found) in
       by-reply (StationEvent.Refuse id status) (Note.Told (Event.Finished id 0 status) ∷ [])
       (λ ok. record {
         table = freeSlot t j;
         values = v;
-        heard = heard-over t v ready id j (r .is-open .found) (f .0) 0 status (omega arith);
-        agree = agree-spared s t (freeSlot t j) id (r .inactive) a spares;
+        heard = heard-over t v ready id j (r .found) (f .0) 0 status (omega arith);
+        stays = λ b m k o. spares b m (k ok) o;
         ok = record-is-bytes END-REQUEST id (endBodyBytes 0 status) (omega arith) (end-body-is-bytes 0 status (f .1));
-        rests = λ b k q. record { is-open = spares b noState (k ok) (q .is-open); inactive = q .inactive };
       })
-  reply-heard StationEvent.None f r = by-reply StationEvent.None [] (λ ok. unheard All s t v s ready a (λ b k none. none))
-  reply-heard (StationEvent.Open id role keep) f r = by-reply (StationEvent.Open id role keep) [] (λ ok. unheard All s t v s ready a (λ b k none. none))
-  reply-heard (StationEvent.Ready id n) f r = by-reply (StationEvent.Ready id n) [] (λ ok. unheard All s t v s ready a (λ b k none. none))
-  reply-heard (StationEvent.Data id stream n) f r = by-reply (StationEvent.Data id stream n) [] (λ ok. unheard All s t v s ready a (λ b k none. none))
-  reply-heard (StationEvent.End id stream measure) f r = by-reply (StationEvent.End id stream measure) [] (λ ok. unheard All s t v s ready a (λ b k none. none))
-  reply-heard (StationEvent.Abort id) f r = by-reply (StationEvent.Abort id) [] (λ ok. unheard All s t v s ready a (λ b k none. none))
-  reply-heard (StationEvent.Fault id cause) f r = by-reply (StationEvent.Fault id cause) [] (λ ok. unheard All s t v s ready a (λ b k none. none))
-  reply-heard (StationEvent.Closed cause) f r = by-reply (StationEvent.Closed cause) [] (λ ok. unheard All s t v s ready a (λ b k none. none))
+  reply-heard StationEvent.None f r = silent StationEvent.None refl
+  reply-heard (StationEvent.Open id role keep) f r = silent (StationEvent.Open id role keep) refl
+  reply-heard (StationEvent.Ready id n) f r = silent (StationEvent.Ready id n) refl
+  reply-heard (StationEvent.Data id stream n) f r = silent (StationEvent.Data id stream n) refl
+  reply-heard (StationEvent.End id stream measure) f r = silent (StationEvent.End id stream measure) refl
+  reply-heard (StationEvent.Abort id) f r = silent (StationEvent.Abort id) refl
+  reply-heard (StationEvent.Fault id cause) f r = silent (StationEvent.Fault id cause) refl
+  reply-heard (StationEvent.Closed cause) f r = silent (StationEvent.Closed cause) refl

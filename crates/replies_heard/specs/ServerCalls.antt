@@ -1,15 +1,13 @@
--- The calls of the server's end keep what holds all along a joint run: its table changes, and what is on the wire is read
--- all the same.
+-- The calls of the server's end: its table changes, and what is on the wire is read all the same.
 use Prim.Native.Nat.{ℕ, _≤_, _<_}
 use mathlib.Core.Path.{_≡_, refl, sym, ap, _∙_, subst}
 use mathlib.Core.Bool.{Bool, true}
-use mathlib.Core.Logic.{inl, inr, ⊎-elim}
-use mathlib.Core.List.{List, _∷_, List·Memᴰ·cases-cons}
+use mathlib.Core.List.{List, _∷_}
 use native.Mathlib.Omega.{arith}
 use lib.ListN.{length}
 use lib.Dec.{eqb}
 use borrow.Author.Tests.{eqb-true, eqb-false}
-use Rattle.wire.specs.Test.{_=?_, byTest}
+use Rattle.wire.specs.Test.{if_then_else_, _=?_, byTest}
 use Rattle.slot_word.specs.Word.{taken}
 use Rattle.slot_word.specs.WordLaws.{least-free}
 use Rattle.connection.specs.declared.request.RequestState.{RequestState}
@@ -23,51 +21,57 @@ use Rattle.connection.specs.Laws.TableShape.{length-of}
 use Rattle.record_rules.specs.Rules.{readerAt, Run, byByte}
 use Rattle.record_rules.specs.Laws.{fit-bytes}
 use Rattle.server.specs.Event.{Note}
-use Rattle.server.specs.Step.{innerOf, idle, rules}
+use Rattle.server.specs.Step.{State, stateOf, innerOf, idle, rules}
 use Rattle.server.specs.Calls.{Part, APair, Content, EndOf, Abort, roleOf, beginBytes, openRefusal, openRequest, stateAfter, ownRefusal, callRefusal, slotOf, writesPart, writePart, askRefusal, askValues}
 use Rattle.server.specs.Laws.{Ready, lawful}
 use Rattle.server.specs.Stepping.{Good, readerOf}
 use Rattle.server.specs.Writing.{withTable, good-put, good-take, id-at}
 use Rattle.server.specs.LetThrough.{LetOpen, let-open, let-give}
 use Rattle.server.specs.Meaning.{ends}
-use Rattle.replies_heard.specs.Agree.{SameEnds, ends-trans, ends-sym, OpenWith, Resting}
+use Rattle.replies_heard.specs.Agree.{SameEnds, ends-trans, ends-sym, OpenWith}
 use Rattle.replies_heard.specs.Alike.{swap, freeIn, Alike, along, put-holds}
-use Rattle.replies_heard.specs.Joint.{Joint, Opens, Writes, Asks, withServer, after}
-use Rattle.replies_heard.specs.Together.{Together}
+use Rattle.replies_heard.specs.Behind.{Behind}
 
 -- ---- another table at the server's end
-record Moved (j : Joint) (left : List Note) (i : Together j left) (t′ : Table) : Type 0 where
+-- The same wire is read by a server's end with another state: with that table then, in which what was open is open.
+pub record Moved (wire : List ℕ) (left : List Note) (t : Table) (v : List ℕ) (server′ : State) : Type 0 where
   pub table : Table
-  pub reads-on : byByte rules (readerOf (withTable (j .server) t′)) (j .wire) ≡ ends table (i .values) left
-  pub ready : Ready (idle table true (i .values)) 0
-  pub alike : Alike (j .server .server .table) t′ (i .table) table
-  pub stays-open : (b : ℕ) (m : RequestState) → OpenWith (i .table) b m → OpenWith table b m
+  pub behind : Behind server′ wire left table v
+  pub stays-open : (b : ℕ) (m : RequestState) → OpenWith t b m → OpenWith table b m
 
-table-moves : (j : Joint) (left : List Note) (i : Together j left) (t′ : Table) → Good (withTable (j .server) t′)
-    → Alike (j .server .server .table) t′ (j .server .server .table) t′ → Moved j left i t′
-table-moves j left i t′ good a =
-    let t = j .server .server .table in
-    let p = j .server .server .frame .position in
-    let s = innerOf (j .server) in
-    let open1 : byByte rules (readerOf (j .server)) (j .wire) .reader .inner .«open» ≡ true = ap (λ (r : Run rules). r .reader .inner .«open») (i .reads-on) in
-    let k = along t t′ (j .wire) p s t′ (i .good .fit) (good .fit) a open1 in
-    let e : byByte rules (readerOf (withTable (j .server) t′)) (j .wire) ≡ ends (k .table) (i .values) left =
+-- nothing changes
+unmoved : (server : State) (wire : List ℕ) (left : List Note) (t : Table) (v : List ℕ) → Behind server wire left t v → Moved wire left t v server
+unmoved server wire left t v i = record { table = t; behind = i; stays-open = λ b m o. o }
+
+record Shifted (server : State) (wire : List ℕ) (left : List Note) (t : Table) (v : List ℕ) (t′ : Table) : Type 0 where
+  pub moved : Moved wire left t v (withTable server t′)
+  pub alike : Alike (server .server .table) t′ t (moved .table)
+
+table-moves : (server : State) (wire : List ℕ) (left : List Note) (t : Table) (v : List ℕ) → Behind server wire left t v → (t′ : Table) → Good (withTable server t′)
+    → Alike (server .server .table) t′ (server .server .table) t′ → Shifted server wire left t v t′
+table-moves server wire left t v i t′ good a =
+    let t0 = server .server .table in
+    let p = server .server .frame .position in
+    let open1 : byByte rules (readerOf server) wire .reader .inner .«open» ≡ true = ap (λ (r : Run rules). r .reader .inner .«open») (i .reads-on) in
+    let k = along t0 t′ wire p (innerOf server) t′ (i .good .fit) (good .fit) a open1 in
+    let e : byByte rules (readerOf (withTable server t′)) wire ≡ ends (k .table) v left =
     k .same ∙ ap (λ (r : Run rules). record { reader = readerAt rules (r .reader .position) (swap (r .reader .inner) (k .table)); notes = r .notes }) (i .reads-on) in
-    let ready : Ready (idle (k .table) true (i .values)) 0 = subst (λ (r : Run rules). Ready (r .reader .inner) (r .reader .position .content)) e (fit-bytes rules lawful (j .wire) (readerOf (withTable (j .server) t′)) (good .fit) .ready) in
-    let al : Alike t t′ (i .table) (k .table) = subst (λ (r : Run rules). Alike t t′ (r .reader .inner .table) (k .table)) (i .reads-on) (k .alike) in
+    let ready : Ready (idle (k .table) true v) 0 = subst (λ (r : Run rules). Ready (r .reader .inner) (r .reader .position .content)) e (fit-bytes rules lawful wire (readerOf (withTable server t′)) (good .fit) .ready) in
+    let al : Alike t0 t′ t (k .table) = subst (λ (r : Run rules). Alike t0 t′ (r .reader .inner .table) (k .table)) (i .reads-on) (k .alike) in
     record {
-      table = k .table;
-      reads-on = e;
-      ready = ready;
+      moved = record {
+        table = k .table;
+        behind = record { good = good; bytes = i .bytes; reads-on = e; ready = ready };
+        stays-open = λ b m o.
+            let h = find-at t b (o .slot) (o .found) in
+            record {
+              slot = o .slot;
+              found = only-slot (k .table) (ready .tidy .distinct) b (o .slot) (al .holds b (o .slot) h);
+              ends = ends-trans (requestAt (k .table) (o .slot) .state) (requestAt t (o .slot) .state) m
+                  (ends-sym (requestAt t (o .slot) .state) (requestAt (k .table) (o .slot) .state) (al .ends (o .slot) (record { low = h .low; is-taken = h .is-taken }))) (o .ends);
+            };
+      };
       alike = al;
-      stays-open = λ b m o.
-          let h = find-at (i .table) b (o .slot) (o .found) in
-          record {
-            slot = o .slot;
-            found = only-slot (k .table) (ready .tidy .distinct) b (o .slot) (al .holds b (o .slot) h);
-            ends = ends-trans (requestAt (k .table) (o .slot) .state) (requestAt (i .table) (o .slot) .state) m
-                (ends-sym (requestAt (i .table) (o .slot) .state) (requestAt (k .table) (o .slot) .state) (al .ends (o .slot) (record { low = h .low; is-taken = h .is-taken }))) (o .ends);
-          };
     }
 
 -- a request put back with its id and its ends
@@ -115,25 +119,11 @@ part-ends m (Content stream x) = record { out = refl; err = refl }
 part-ends m (EndOf input) = record { out = refl; err = refl }
 part-ends m Abort = record { out = refl; err = refl }
 
-together-moved : (j : Joint) (left : List Note) (i : Together j left) (t′ : Table) → Good (withTable (j .server) t′) → Moved j left i t′ → Together (withServer j (withTable (j .server) t′) (j .waiting)) left
-together-moved j left i t′ good m =
-    record {
-      steady = i .steady;
-      good = good;
-      bytes = i .bytes;
-      table = m .table;
-      values = i .values;
-      reads-on = m .reads-on;
-      ready = m .ready;
-      agree = λ id k e. m .stays-open id (requestAt (j .station .state .conn .table) k .state) (i .agree id k e);
-      rests = λ id p. let r = i .rests id p in record { is-open = m .stays-open id noState (r .is-open); inactive = r .inactive };
-      apart = i .apart;
-    }
-
-pub server-writes : (j : Joint) (left : List Note) (id : ℕ) (p : Part) (buffer : List ℕ) → Together j left → Together (after j (Writes id p buffer)) left
-unfolding after writePart writesPart
-server-writes j left id p buffer i =
-    let c = j .server .server in
+pub part-moves : (server : State) (wire : List ℕ) (left : List Note) (t : Table) (v : List ℕ) (id : ℕ) (p : Part) (buffer : List ℕ) → Behind server wire left t v
+    → Moved wire left t v (stateOf (writePart (server .server) id p buffer .server) (server .values))
+unfolding writePart writesPart
+part-moves server wire left t v id p buffer i =
+    let c = server .server in
     let k = slotOf c id in
     let r = requestAt (c .table) k in
     let q = withState r (stateAfter (r .state) p) in
@@ -142,68 +132,62 @@ server-writes j left id p buffer i =
     (λ y.
     let low = find-at (c .table) id k (let-give c id p buffer (simp (x, y)) .found) .low in
     let fits : q .length ≤ AREA = subst (λ (n : ℕ). n ≤ AREA) (sym (length-of (c .table) k)) (i .good .fit .ready .tidy .lengths k low) in
-    let good = good-put (j .server) k q (i .good) refl fits in
-    let t′ = putRequest (c .table) k q in
-    simp (x, y) (together-moved j left i t′ good (table-moves j left i t′ good (alike-changed (c .table) k q (i .good .fit .ready .sized) low refl (part-ends (r .state) p)))))
-    (λ y. simp (x, y) i))
-    (λ x. simp x i)
+    let good = good-put server k q (i .good) refl fits in
+    simp (x, y) (table-moves server wire left t v i (putRequest (c .table) k q) good (alike-changed (c .table) k q (i .good .fit .ready .sized) low refl (part-ends (r .state) p)) .moved))
+    (λ y. simp (x, y) (unmoved server wire left t v i)))
+    (λ x. simp x (unmoved server wire left t v i))
 
 -- ---- a request is opened
-opened-together : (j : Joint) (left : List Note) (id role : ℕ) (keep : Bool) (room long : ℕ) → (i : Together j left) → LetOpen (j .server .server) id role room long
-    → Together (withServer j (withTable (j .server) (takeSlot (j .server .server .table) (freeSlotOf (j .server .server .table)) (opened id (roleOf role) keep))) (id ∷ j .waiting)) left
+-- it is open behind the wire, with no output stream ended, and nothing that was open there has its id
+pub record Opened (id : ℕ) (wire : List ℕ) (left : List Note) (t : Table) (v : List ℕ) (server′ : State) : Type 0 where
+  pub moved : Moved wire left t v server′
+  pub mine : OpenWith (moved .table) id noState
+  pub fresh : (b : ℕ) (m : RequestState) → OpenWith t b m → b ≡ id → ⊥
+
+opened-moves : (server : State) (wire : List ℕ) (left : List Note) (t : Table) (v : List ℕ) (id role : ℕ) (keep : Bool) (room long : ℕ) → Behind server wire left t v → LetOpen (server .server) id role room long
+    → Opened id wire left t v (withTable server (takeSlot (server .server .table) (freeSlotOf (server .server .table)) (opened id (roleOf role) keep)))
 unfolding opened
-opened-together j left id role keep room long i o =
-    let s = j .station .state .conn .table in
-    let t = j .server .server .table in
-    let k = freeSlotOf t in
+opened-moves server wire left t v id role keep room long i o =
+    let t0 = server .server .table in
+    let k = freeSlotOf t0 in
     let q = opened id (roleOf role) keep in
-    let t′ = takeSlot t k q in
-    let free : freeIn t k = least-free SLOTS (t .occupied) (o .slot) in
-    let good = good-take (j .server) k q (i .good) (o .slot) (omega arith) (o .some-id) (o .none) in
-    let m = table-moves j left i t′ good (alike-taken t k q free) in
-    let own : requestAt (m .table) k ≡ q = m .alike .kept k free .0 ∙ request-of-take t k q (i .good .fit .ready .sized) (o .slot) in
-    let holds : Holds (m .table) id k = record {
+    let free : freeIn t0 k = least-free SLOTS (t0 .occupied) (o .slot) in
+    let good = good-take server k q (i .good) (o .slot) (omega arith) (o .some-id) (o .none) in
+    let m = table-moves server wire left t v i (takeSlot t0 k q) good (alike-taken t0 k q free) in
+    let u = m .moved .table in
+    let own : requestAt u k ≡ q = m .alike .kept k free .0 ∙ request-of-take t0 k q (i .good .fit .ready .sized) (o .slot) in
+    let holds : Holds u id k = record {
       low = o .slot;
-      is-taken = m .alike .kept k free .1 ∙ taken-of-take t k q (o .slot);
-      has-id = id-at (m .table) k ∙ ap (λ (r : Request). r .id) own;
+      is-taken = m .alike .kept k free .1 ∙ taken-of-take t0 k q (o .slot);
+      has-id = id-at u k ∙ ap (λ (r : Request). r .id) own;
     } in
-    -- the id was not open, so nothing that is open behind the wire has it
-    let fresh : (b : ℕ) (n : RequestState) → OpenWith (i .table) b n → b ≡ id → ⊥ =
-    λ b n w z. find-nowhere t id (o .none) (w .slot) (subst (λ (a : ℕ). Holds t a (w .slot)) z (m .alike .from b (w .slot) (find-at (i .table) b (w .slot) (w .found)))) in
-    let mine : Resting s (m .table) id = record {
-      is-open = record {
+    record {
+      moved = m .moved;
+      mine = record {
         slot = k;
-        found = only-slot (m .table) (m .ready .tidy .distinct) id k holds;
+        found = only-slot u (m .moved .behind .ready .tidy .distinct) id k holds;
         ends = subst (λ (r : Request). SameEnds (r .state) noState) (sym own) (record { out = refl; err = refl });
       };
-      inactive = λ a n e. fresh a (requestAt s n .state) (i .agree a n e);
-    } in
-    let others : (b : ℕ) → Resting s (i .table) b → Resting s (m .table) b = λ b r. record { is-open = m .stays-open b noState (r .is-open); inactive = r .inactive } in
-    record {
-      steady = i .steady;
-      good = good;
-      bytes = i .bytes;
-      table = m .table;
-      values = i .values;
-      reads-on = m .reads-on;
-      ready = m .ready;
-      agree = λ b n e. m .stays-open b (requestAt s n .state) (i .agree b n e);
-      rests = λ b p.
-          ⊎-elim (λ w. ⊎-elim (λ z. subst (Resting s (m .table)) (sym z) mine) (λ z. others b (i .rests b (inl z))) (List·Memᴰ·cases-cons w)) (λ w. others b (i .rests b (inr w))) p;
-      apart = λ b w r. ⊎-elim (λ z. fresh b noState (i .rests b (inr r) .is-open) z) (λ z. i .apart b z r) (List·Memᴰ·cases-cons w);
+      -- the id was not open, so nothing that is open behind the wire has it
+      fresh = λ b n w z. find-nowhere t0 id (o .none) (w .slot) (subst (λ (a : ℕ). Holds t0 a (w .slot)) z (m .alike .from b (w .slot) (find-at t b (w .slot) (w .found))));
     }
 
-pub server-opens : (j : Joint) (left : List Note) (id role : ℕ) (keep : Bool) (buffer : List ℕ) → Together j left → Together (after j (Opens id role keep buffer)) left
-unfolding after openRequest
-server-opens j left id role keep buffer i =
-    let c = j .server .server in
+-- A call that opens, refused or not; the ids that wait for the station are more by one, or stay.
+pub open-moves : (P : State → List ℕ → Type 0) (server : State) (wire : List ℕ) (left : List Note) (t : Table) (v waiting : List ℕ) (id role : ℕ) (keep : Bool) (buffer : List ℕ) → Behind server wire left t v
+    → ((server′ : State) → Opened id wire left t v server′ → P server′ (id ∷ waiting)) → P server waiting
+    → (let w = openRequest (server .server) id role keep buffer in P (stateOf (w .server) (server .values)) (if w .refusal =? 0 then (id ∷ waiting) else waiting))
+unfolding openRequest
+open-moves P server wire left t v waiting id role keep buffer i done refused =
+    let c = server .server in
     let room = length buffer in
     let long = length (beginBytes id role keep) in
     byTest (eqb (openRefusal c id role room long) 0)
-    (λ x. simp x (opened-together j left id role keep room long i (let-open c id role room long (eqb-true (openRefusal c id role room long) 0 x))))
-    (λ x. simp x i)
+    (λ x. simp x (done _ (opened-moves server wire left t v id role keep room long i (let-open c id role room long (eqb-true (openRefusal c id role room long) 0 x)))))
+    (λ x. simp x refused)
 
 -- ---- values are asked for
-pub server-asks : (j : Joint) (left : List Note) (list buffer : List ℕ) → Together j left → Together (after j (Asks list buffer)) left
-unfolding after askValues
-server-asks j left list buffer i = byTest (eqb (askRefusal (j .server .server) list (length buffer)) 0) (λ x. simp x i) (λ x. simp x i)
+pub ask-moves : (server : State) (wire : List ℕ) (left : List Note) (t : Table) (v : List ℕ) (list buffer : List ℕ) → Behind server wire left t v
+    → Moved wire left t v (stateOf (askValues (server .server) list buffer .server) (server .values))
+unfolding askValues
+ask-moves server wire left t v list buffer i =
+    byTest (eqb (askRefusal (server .server) list (length buffer)) 0) (λ x. simp x (unmoved server wire left t v i)) (λ x. simp x (unmoved server wire left t v i))

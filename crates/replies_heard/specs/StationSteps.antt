@@ -1,6 +1,6 @@
 -- A step of the station keeps what holds of each active request, if it rests on the ended output streams alone and holds
 -- of what the step opens.
-use Prim.Native.Nat.{ℕ, _+_}
+use Prim.Native.Nat.{ℕ, _+_, _<_}
 use mathlib.Core.Path.{_≡_, refl}
 use mathlib.Core.Bool.{Bool, true, false}
 use mathlib.Core.List.{List}
@@ -8,10 +8,13 @@ use lib.ListN.{length}
 use lib.Dec.{leb}
 use Rattle.wire.specs.Test.{if_then_else_}
 use Rattle.wire.specs.Buffer.{copied}
+use Rattle.slot_word.specs.Word.{taken}
+use Rattle.slot_word.specs.WordLaws.{least-free}
 use Rattle.connection.specs.declared.request.Due.{Due}
 use Rattle.connection.specs.declared.request.RequestState.{RequestState}
 use Rattle.connection.specs.declared.state.Slot.{Slot}
-use Rattle.connection.specs.Sizes.{AREA}
+use Rattle.connection.specs.declared.state.Table.{Table}
+use Rattle.connection.specs.Sizes.{SLOTS, AREA}
 use Rattle.connection.specs.Event.{Event}
 use Rattle.connection.specs.Codes.{roleNumber}
 use Rattle.connection.specs.Request.{Held, withTurn, withLife, faulted, aborted, turned, onHeader, grown, onContent, opened}
@@ -51,15 +54,15 @@ keeps-content h Due.Stdin x = record { id = refl; ends = record { out = refl; er
 keeps-content h Due.Data x = record { id = refl; ends = record { out = refl; err = refl } }
 
 -- ---- the step
--- what is opened by this event is known
-abbrev pub OpensKnown : (ℕ → RequestState → Type 0) → Event → Type 0
-OpensKnown Q e = (id role : ℕ) (keep : Bool) → e ≡ Event.Open id role keep → Q id noState
+-- what is opened by this event is known, in whichever slot that was free
+abbrev pub OpensKnown : Table → (ℕ → ℕ → RequestState → Type 0) → Event → Type 0
+OpensKnown s Q e = (id role : ℕ) (keep : Bool) → e ≡ Event.Open id role keep → (i : ℕ) → i < SLOTS → taken i (s .occupied) ≡ false → Q id i noState
 
-module _ (st : State) (store : List ℕ) (Q : ℕ → RequestState → Type 0) (on : OnEnds Q) (sized : Sized (st .conn .table)) (a : Each (st .conn .table) Q) where
+module _ (st : State) (store : List ℕ) (Q : ℕ → ℕ → RequestState → Type 0) (on : OnEnds Q) (sized : Sized (st .conn .table)) (a : Each (st .conn .table) Q) where
   back : (i : ℕ) (h : Held) → KeepsEnds (heldAt (st .conn .table) store i) h → Each (putRequest (st .conn .table) i (h .request)) Q
   back i h p = each-put Q on (st .conn .table) i (h .request) sized (p .id) (p .ends) a
 
-  each-way : Fits (st .conn) store → (k : Slot) (l : Left) → Way st store k l → OpensKnown Q (l .event) → Each (l .conn .table) Q
+  each-way : Fits (st .conn) store → (k : Slot) (l : Left) → Way st store k l → OpensKnown (st .conn .table) Q (l .event) → Each (l .conn .table) Q
   unfolding closes onActive ofRequest opened
   each-way fits k l (Way.Reads g f e n) known = a
   each-way fits k l (Way.Closes g cause c) known = each-none Q
@@ -68,11 +71,12 @@ module _ (st : State) (store : List ℕ) (Q : ℕ → RequestState → Type 0) (
   each-way fits k l (Way.Feeds due i bytes p e low target some) known =
       back i (onContent due bytes (heldAt (st .conn .table) store i) .held) (keeps-content (heldAt (st .conn .table) store i) due bytes)
   each-way fits k l (Way.Takes id role keep f e low none) known =
-      each-opened Q (st .conn .table) (freeSlotOf (st .conn .table)) (opened id role keep) sized (shaped (st .conn) (fits .shape) .table) low
-      (on id noState (opened id role keep .state) (record { out = refl; err = refl }) (known id (roleNumber role) keep refl)) a
+      let i = freeSlotOf (st .conn .table) in
+      each-opened Q (st .conn .table) i (opened id role keep) sized (shaped (st .conn) (fits .shape) .table) low
+      (on id i noState (opened id role keep .state) (record { out = refl; err = refl }) (known id (roleNumber role) keep refl i low (least-free SLOTS (st .conn .table .occupied) low))) a
 
   -- A step, refused or not.
-  pub step-each : (piece : List ℕ) → OpensKnown Q (stepped st store piece .event) → Each (stepped st store piece .state .conn .table) Q
+  pub step-each : (piece : List ℕ) → OpensKnown (st .conn .table) Q (stepped st store piece .event) → Each (stepped st store piece .state .conn .table) Q
   step-each piece =
-      by-way (λ s. OpensKnown Q (s .event) → Each (s .state .conn .table) Q) st store piece (λ n known. a)
+      by-way (λ s. OpensKnown (st .conn .table) Q (s .event) → Each (s .state .conn .table) Q) st store piece (λ n known. a)
       (λ fits used l w known. each-way fits (concerned st piece) l w known)

@@ -1,67 +1,43 @@
--- What holds of the two ends all along a joint run. The station's moves and the steps of the server's end keep it.
-use Prim.Native.Nat.{ℕ, _≤_}
-use mathlib.Core.Path.{_≡_, sym, ap, ap₂, _∙_}
-use mathlib.Core.Bool.{true}
-use mathlib.Core.Logic.{inl, inr}
-use mathlib.Core.List.{List, [], _∷_, _++_}
-use native.Mathlib.Omega.{arith}
-use lib.ListN.{length, take, drop, length-take, take-append-drop}
-use lib.Seq.{take-take}
-use Rattle.wire.specs.Bytes.{AllBytes, take-bytes, drop-bytes, append-bytes}
+-- What holds of the two ends all along a joint run. The station's moves, and the steps and calls of the server's end, keep
+-- it.
+use Prim.Native.Nat.{ℕ}
+use mathlib.Core.Path.{_≡_}
+use mathlib.Core.Bool.{Bool}
+use mathlib.Core.List.{List, _∷_, _++_}
 use Rattle.connection.specs.declared.state.Table.{Table}
 use Rattle.connection.specs.Run.{StepOver, CallFor, CountActive, stepOf}
+use Rattle.connection.specs.Slots.{noState, requestAt}
 use Rattle.connection.specs.Calls.{replied}
 use Rattle.connection.specs.Runs.LinkingStep.{Steady}
-use Rattle.record_rules.specs.Rules.{Reader, Run, andThen, byByte, step, used}
-use Rattle.record_rules.specs.Laws.{Fit, step-by-byte, by-byte-append, open-before, uses, step-none}
 use Rattle.server.specs.Event.{Note}
-use Rattle.server.specs.Step.{State, stateAt, idle, stepped, rules}
-use Rattle.server.specs.Laws.{Ready, lawful}
-use Rattle.server.specs.Stepping.{Good, readerOf, Came, reads, step-good}
-use Rattle.server.specs.Meaning.{ends}
-use Rattle.replies_heard.specs.Agree.{Agree, Resting}
-use Rattle.replies_heard.specs.Moves.{Move, Does, Replies, wireOf}
-use Rattle.replies_heard.specs.Joint.{Joint, Station, Reads, Opening, IsOpened, IsRefused, Neither, openingIn, stationWaiting, stationRefused, readingOf, after, heardAt, meantAt, opensWaiting, isOwed, isFair, Fair}
-use Rattle.replies_heard.specs.RepliesHeard.{AnswerRests}
-use Rattle.replies_heard.specs.MoveHeard.{OpeningRests, MoveRests, Spared, move-heard, move-steady}
-use Rattle.replies_heard.specs.Pending.{Pending, Apart, pending-step, apart-step, pending-reply, apart-reply}
+use Rattle.server.specs.Step.{State}
+use Rattle.server.specs.Calls.{Part}
+use Rattle.replies_heard.specs.Agree.{Agree, Inactive, Resting}
+use Rattle.replies_heard.specs.Behind.{Behind, written-behind, server-reads as reads-behind}
+use Rattle.replies_heard.specs.Moves.{Move, Does, Replies, wireOf, meantBy}
+use Rattle.replies_heard.specs.Joint.{Joint, Station, Reads, Opens, Writes, Asks, openingIn, stationWaiting, stationRefused, readingOf, withServer, after, heardAt, meantAt, isFair, Fair}
+use Rattle.replies_heard.specs.MoveHeard.{MoveRests, Spared, move-heard, move-steady}
+use Rattle.replies_heard.specs.Pending.{Pending, Apart, pending-step, apart-step, pending-reply, apart-reply, opening-rests, answer-rests, opened-rests, opened-apart}
+use Rattle.replies_heard.specs.ServerCalls.{Moved, part-moves, Opened, open-moves, ask-moves}
 
 -- The server's end, once it has read what is on the wire, stands between two records and has heard what is left to hear.
 -- There the two ends agree, and each request whose opening is on its way or was refused rests.
 pub record Together (j : Joint) (left : List Note) : Type 0 where
   pub steady : Steady (j .station)
-  pub good : Good (j .server)
-  pub bytes : AllBytes (j .wire)
   pub table : Table
   pub values : List ℕ
-  pub reads-on : byByte rules (readerOf (j .server)) (j .wire) ≡ ends table values left
-  pub ready : Ready (idle table true values) 0
+  pub behind : Behind (j .server) (j .wire) left table values
   pub agree : Agree (j .station .state .conn .table) table
   pub rests : (id : ℕ) → Pending (j .waiting) (j .refused) id → Resting (j .station .state .conn .table) table id
   pub apart : Apart (j .waiting) (j .refused)
 
--- It is open while it would be open behind the wire.
-pub server-open : (j : Joint) (left : List Note) → Together j left → j .server .server .«open» ≡ true
-server-open j left i = open-before rules lawful (j .wire) (readerOf (j .server)) (ap (λ (r : Run rules). r .reader .inner .«open») (i .reads-on))
-
 -- ---- the station moves
-module _ (j : Joint) (s t : Table) (rests : (id : ℕ) → Pending (j .waiting) (j .refused) id → Resting s t id) where
-  opening-rests : (o : Opening) → opensWaiting o (j .waiting) → OpeningRests o s t
-  opening-rests (IsOpened id) f = rests id (inl f)
-  opening-rests (IsRefused id) f = tt
-  opening-rests Neither f = tt
-
-  answer-rests : (o : Opening) → isOwed o (j .refused) → AnswerRests o s t
-  answer-rests (IsOpened id) f = tt
-  answer-rests (IsRefused id) f = rests id (inr f)
-  answer-rests Neither f = tt
-
 -- what it opens or answers rested
 move-rests : (j : Joint) (m : Move) (t : Table) → ((id : ℕ) → Pending (j .waiting) (j .refused) id → Resting (j .station .state .conn .table) t id) → isFair j m → MoveRests (j .station) t m
-move-rests j (Does (StepOver piece)) t rests f = opening-rests j (j .station .state .conn .table) t rests (openingIn (stepOf (j .station) piece .event)) f
+move-rests j (Does (StepOver piece)) t rests f = opening-rests (j .waiting) (j .refused) (j .station .state .conn .table) t rests (openingIn (stepOf (j .station) piece .event)) f
 move-rests j (Does (CallFor id a)) t rests f = tt
 move-rests j (Does CountActive) t rests f = tt
-move-rests j (Replies e buffer) t rests f = answer-rests j (j .station .state .conn .table) t rests (openingIn e) f
+move-rests j (Replies e buffer) t rests f = answer-rests (j .waiting) (j .refused) (j .station .state .conn .table) t rests (openingIn e) f
 
 -- what is pending behind it was pending before, and is spared
 pending-move : (j : Joint) (m : Move) → Apart (j .waiting) (j .refused) → isFair j m → (b : ℕ)
@@ -81,39 +57,18 @@ pub station-moves : (j : Joint) (left : List Note) (m : Move) → Together j lef
 unfolding after
 station-moves j left m i f =
     let s = j .station in
-    let k = move-heard s (i .table) (i .values) (i .steady) (i .ready) (i .agree) m (f .0) (move-rests j m (i .table) (i .rests) (f .1)) in
+    let k = move-heard s (i .table) (i .values) (i .steady) (i .behind .ready) (i .agree) m (f .0) (move-rests j m (i .table) (i .rests) (f .1)) in
     record {
       steady = move-steady s m (i .steady) (f .0);
-      good = i .good;
-      bytes = append-bytes (j .wire) (wireOf s m) (i .bytes) (k .ok);
       table = k .table;
       values = k .values;
-      reads-on =
-          by-byte-append rules lawful (j .wire) (readerOf (j .server)) (wireOf s m)
-          ∙ ap (λ (r : Run rules). andThen rules r (λ c. byByte rules c (wireOf s m))) (i .reads-on)
-          ∙ ap (λ (r : Run rules). record { reader = r .reader; notes = left ++ r .notes }) (k .heard .same);
-      ready = k .heard .ready;
+      behind = written-behind (j .server) (j .wire) left (i .table) (i .values) (i .behind) (wireOf s m) (k .table) (k .values) (meantBy s m) (k .ok) (k .heard);
       agree = k .agree;
       rests = λ id p. let before = pending-move j m (i .apart) (f .1) id p in k .rests id (before .1) (i .rests id (before .0));
       apart = apart-move j m (i .apart);
     }
 
 -- ---- the server's end reads
-used-few : (a : Reader rules) (x : List ℕ) → Fit rules lawful a → a .inner .«open» ≡ true → used rules a x ≤ length x
-used-few a [] fit o = rw (step-none rules lawful a .1) (omega arith)
-used-few a (b ∷ x) fit o = uses rules lawful a (b ∷ x) fit o (omega arith) .1
-
--- a step over the first bytes of some bytes, and then the rest
-split : (a : Reader rules) (w : List ℕ) (n : ℕ) → Fit rules lawful a → a .inner .«open» ≡ true
-    → byByte rules a w ≡ andThen rules (step rules a (take n w)) (λ c. byByte rules c (drop (used rules a (take n w)) w))
-split a w n fit o =
-    let x = take n w in
-    let m = used rules a x in
-    let t : take m x ≡ take m w = take-take m n w (omega (arith, used-few a x fit o, length-take n w)) in
-    ap (byByte rules a) (sym (take-append-drop m w))
-    ∙ by-byte-append rules lawful (take m w) a (drop m w)
-    ∙ ap (λ (r : Run rules). andThen rules r (λ c. byByte rules c (drop m w))) (ap (byByte rules a) (sym t) ∙ sym (step-by-byte rules lawful a x fit))
-
 pub record ReadsOn (j : Joint) (n : ℕ) (left : List Note) : Type 0 where
   pub left′ : List Note
   pub told : left ≡ heardAt j (Reads n) ++ left′
@@ -123,31 +78,52 @@ pub record ReadsOn (j : Joint) (n : ℕ) (left : List Note) : Type 0 where
 pub server-reads : (j : Joint) (left : List Note) (n : ℕ) → Together j left → ReadsOn j n left
 unfolding after
 server-reads j left n i =
-    let a = readerOf (j .server) in
-    let w = j .wire in
-    let x = take n w in
-    let o = server-open j left i in
-    let k = reads (j .server) x (i .good) o in
-    let r = step rules a x in
-    let rest = drop (used rules a x) w in
-    let state : stepped (j .server) x .state ≡ stateAt (r .reader .position) (r .reader .inner) = ap (λ (c : Came). c .state) (k .same) in
-    let all : andThen rules r (λ c. byByte rules c rest) ≡ ends (i .table) (i .values) left = sym (split a w n (i .good .fit) o) ∙ i .reads-on in
-    let next = byByte rules (r .reader) rest in
-    let next-is : next ≡ ends (i .table) (i .values) (next .notes) = ap (λ (c : Reader rules). record { reader = c; notes = next .notes }) (ap (λ (q : Run rules). q .reader) all) in
+    let k = reads-behind (j .server) (j .wire) left (i .table) (i .values) n (i .behind) in
     record {
-      left′ = next .notes;
-      told = sym (ap (λ (q : Run rules). q .notes) all) ∙ ap (λ (l : List Note). l ++ next .notes) (sym (ap (λ (c : Came). c .notes) (k .same)));
+      left′ = k .left′;
+      told = k .told;
       admitted = k .admitted;
-      together = record {
-        steady = i .steady;
-        good = step-good (j .server) x (i .good) (take-bytes n w (i .bytes));
-        bytes = drop-bytes (stepped (j .server) x .used) w (i .bytes);
-        table = i .table;
-        values = i .values;
-        reads-on = ap₂ (λ (c : State) (m : ℕ). byByte rules (readerOf c) (drop m w)) state (k .used-same) ∙ next-is;
-        ready = i .ready;
-        agree = i .agree;
-        rests = i .rests;
-        apart = i .apart;
-      };
+      together = record { steady = i .steady; table = i .table; values = i .values; behind = k .behind; agree = i .agree; rests = i .rests; apart = i .apart };
     }
+
+-- ---- the calls of the server's end
+moved : (j : Joint) (left : List Note) (i : Together j left) (st : State) → Moved (j .wire) left (i .table) (i .values) st → Together (withServer j st (j .waiting)) left
+moved j left i st m =
+    record {
+      steady = i .steady;
+      table = m .table;
+      values = i .values;
+      behind = m .behind;
+      agree = λ id k e. m .stays-open id (requestAt (j .station .state .conn .table) k .state) (i .agree id k e);
+      rests = λ id p. let r = i .rests id p in record { is-open = m .stays-open id noState (r .is-open); inactive = r .inactive };
+      apart = i .apart;
+    }
+
+opens : (j : Joint) (left : List Note) (id : ℕ) (i : Together j left) (st : State) → Opened id (j .wire) left (i .table) (i .values) st → Together (withServer j st (id ∷ j .waiting)) left
+unfolding moved
+opens j left id i st o =
+    let s = j .station .state .conn .table in
+    let m = moved j left i st (o .moved) in
+    let none : Inactive s id = λ a n e. o .fresh a (requestAt s n .state) (i .agree a n e) in
+    record {
+      steady = i .steady;
+      table = m .table;
+      values = i .values;
+      behind = m .behind;
+      agree = m .agree;
+      rests = opened-rests (j .waiting) (j .refused) s (i .table) (i .rests) (o .moved .table) id (o .moved .stays-open) (o .mine) (o .fresh) none;
+      apart = opened-apart (j .waiting) (j .refused) s (i .table) (i .rests) (o .moved .table) id (o .moved .stays-open) (o .mine) (o .fresh) (i .apart);
+    }
+
+pub server-opens : (j : Joint) (left : List Note) (id role : ℕ) (keep : Bool) (buffer : List ℕ) → Together j left → Together (after j (Opens id role keep buffer)) left
+unfolding after
+server-opens j left id role keep buffer i =
+    open-moves (λ st waiting. Together (withServer j st waiting) left) (j .server) (j .wire) left (i .table) (i .values) (j .waiting) id role keep buffer (i .behind) (opens j left id i) i
+
+pub server-writes : (j : Joint) (left : List Note) (id : ℕ) (p : Part) (buffer : List ℕ) → Together j left → Together (after j (Writes id p buffer)) left
+unfolding after
+server-writes j left id p buffer i = moved j left i _ (part-moves (j .server) (j .wire) left (i .table) (i .values) id p buffer (i .behind))
+
+pub server-asks : (j : Joint) (left : List Note) (list buffer : List ℕ) → Together j left → Together (after j (Asks list buffer)) left
+unfolding after
+server-asks j left list buffer i = moved j left i _ (ask-moves (j .server) (j .wire) left (i .table) (i .values) list buffer (i .behind))

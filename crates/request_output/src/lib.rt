@@ -23,7 +23,7 @@ ghost use Rattle.connection.specs.RequestCalls.{endIn};
 ghost use Rattle.request_output.specs.Answer.{saidBy, checkNumber};
 
 // Whether a request's own rows let a call through.
-enum Check {
+pub enum Check {
     Passed,
     Refused(Refusal),
 }
@@ -35,7 +35,7 @@ pub struct Said {
 }
 
 // Row 4: PARAMS has not ended and the request is not spent.
-fn no_output(r: Request) -> bool
+pub fn no_output(r: Request) -> bool
     ensures { λ x. ⌜ x ≡ noOutput r ⌝ }
 {
     let state = r.state;
@@ -51,7 +51,7 @@ fn no_output(r: Request) -> bool
 }
 
 // Row 5: that stream is ended.
-fn is_ended(output: Output, m: RequestState) -> bool
+pub fn is_ended(output: Output, m: RequestState) -> bool
     ensures { λ r. ⌜ r ≡ isEnded output m ⌝ }
 {
     match output {
@@ -61,7 +61,7 @@ fn is_ended(output: Output, m: RequestState) -> bool
 }
 
 // Rows 4, 5 and 6 of an output that fits into the buffer or not.
-fn output_check(r: Request, output: Output, fits: bool) -> Check
+pub fn output_check(r: Request, output: Output, fits: bool) -> Check
     ensures { λ x. ⌜ ((bytes buffer : List ℕ) → fits ≡ not (ltb (length buffer) (length bytes)) → checkNumber x
         ≡ outputRefusal r output bytes buffer) ⌝ }
 {
@@ -93,7 +93,7 @@ fn uses_err(output: Output, n: usize, used: bool) -> bool
     }
 }
 
-fn said_on(r: Request, output: Output, n: usize) -> Request
+pub fn said_on(r: Request, output: Output, n: usize) -> Request
     ensures { λ x. ⌜ ((bytes : List ℕ) → length bytes ≡ n → x ≡ saidOn r output bytes) ⌝ }
 {
     let mut state = r.state;
@@ -105,7 +105,7 @@ fn said_on(r: Request, output: Output, n: usize) -> Request
     }
 }
 
-fn ended_on(r: Request, output: Output) -> Request
+pub fn ended_on(r: Request, output: Output) -> Request
     ensures { λ x. ⌜ x ≡ endedOn r output ⌝ }
 {
     let mut state = r.state;

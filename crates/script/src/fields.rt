@@ -60,8 +60,15 @@ pub const BESIDE: u64 = 67;
 // A count of a slot.
 const SHOWN: u64 = 68;
 
+// What waits, lent beside the state: a number, a mark, a byte of the queue.
+pub const NUMBER: u64 = 69;
+
+pub const MARK: u64 = 70;
+
+pub const QUEUE: u64 = 71;
+
 // From here on, what the content of the record being read is for.
-pub const TARGET: u64 = 70;
+pub const TARGET: u64 = 80;
 
 // A role set or left; so are the other kinds of fields below.
 fn role_if(hit: bool, n: u64, before: Role) -> Role {

@@ -56,6 +56,9 @@ fn numeral(kind: u8, w: &[u8]) -> Number {
         b'm' => number_of(w, BYTES as u64),
         b'n' => piece_size(w),
         b'u' => number_of(w, 4294967295),
+        b'w' => number_of(w, 53),
+        b'y' => number_of(w, 16383),
+        b'j' => number_of(w, 16385),
         _ => number_of(w, u64::MAX),
     }
 }

@@ -32,6 +32,11 @@ fn counted_from(first: u64, f: Form) -> Form {
     }
 }
 
+// Reads a line by tables whose names are counted from a number on.
+pub fn read_from(first: u64, line: &[u8], names: &[u8], kinds: &[u8], bytes: &mut [u8]) -> Form {
+    counted_from(first, read_form(line, names, kinds, bytes))
+}
+
 // What stands after the word `poke`.
 pub fn read_poke(
     line: &[u8],
@@ -42,9 +47,9 @@ pub fn read_poke(
     bytes: &mut [u8],
 ) -> Form {
     if same(word(line, 0), b"target") {
-        return counted_from(TARGET, read_form(rest(line), targets, target_kinds, bytes));
+        return read_from(TARGET, rest(line), targets, target_kinds, bytes);
     }
-    counted_from(POKE, read_form(line, fields, field_kinds, bytes))
+    read_from(POKE, line, fields, field_kinds, bytes)
 }
 
 // Whether a line of so many characters is too long.

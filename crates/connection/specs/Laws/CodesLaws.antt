@@ -88,7 +88,8 @@ refusalBack n =
     else if n =? 6 then Refusal.NoRoom
     else if n =? 7 then Refusal.NoPair
     else if n =? 8 then Refusal.TooLong
-    else Refusal.OutOfShape
+    else if n =? 9 then Refusal.OutOfShape
+    else Refusal.Waiting
 
 refusal-back : (r : Refusal) → refusalBack (refusalNumber r) ≡ r
 refusal-back Refusal.Closed = refl
@@ -100,6 +101,7 @@ refusal-back Refusal.NoRoom = refl
 refusal-back Refusal.NoPair = refl
 refusal-back Refusal.TooLong = refl
 refusal-back Refusal.OutOfShape = refl
+refusal-back Refusal.Waiting = refl
 
 abbrev eventBack : Event → CodeEvent
 eventBack Event.None = CodeEvent.Nothing

@@ -25,10 +25,10 @@ use Rattle.connection.specs.Step.{State, advances, stepRefusal, stepped,
 use Rattle.connection.specs.Calls as C
 
 -- ---- the order
--- Of rows that hold the first counts, in the order 2, 9, 1, 3, 4, 5, 7, 8, 6; where none holds the number is 0.
-pub first-of-order : (store shape closed inactive unready ended pairless long room : Bool)
+-- Of rows that hold the first counts, in the order 2, 9, 1, 3, 4, 5, 7, 8, 6, 10; where none holds the number is 0.
+pub first-of-order : (store shape closed inactive unready ended pairless long room waiting : Bool)
     → refusal
-    ((2 when store) ∷ (9 when shape) ∷ (1 when closed) ∷ (3 when inactive) ∷ (4 when unready) ∷ (5 when ended) ∷ (7 when pairless) ∷ (8 when long) ∷ (6 when room) ∷ [])
+    ((2 when store) ∷ (9 when shape) ∷ (1 when closed) ∷ (3 when inactive) ∷ (4 when unready) ∷ (5 when ended) ∷ (7 when pairless) ∷ (8 when long) ∷ (6 when room) ∷ (10 when waiting) ∷ [])
     ≡ (if store then 2
     else if shape then 9
     else if closed then 1
@@ -38,8 +38,9 @@ pub first-of-order : (store shape closed inactive unready ended pairless long ro
     else if pairless then 7
     else if long then 8
     else if room then 6
+    else if waiting then 10
     else 0)
-first-of-order store shape closed inactive unready ended pairless long room = refl
+first-of-order store shape closed inactive unready ended pairless long room waiting = refl
 
 -- ---- the rows
 -- 2: the lent store does not have its size
@@ -91,7 +92,7 @@ true-false e = let z : _≡_ {A = ℕ} 0 1 = cc in absurd (omega arith)
 -- ---- rows that are tested one after the other
 -- the later rows, in their order
 abbrev lateRows : List ℕ
-lateRows = 4 ∷ 5 ∷ 7 ∷ 8 ∷ 6 ∷ []
+lateRows = 4 ∷ 5 ∷ 7 ∷ 8 ∷ 6 ∷ 10 ∷ []
 
 -- the first four rows, and the later ones where none of them holds: the same as all at once
 nested : {A : Type 0} (number : A → ℕ) (refusedBy : ℕ → A) → ((n : ℕ) → number (refusedBy n) ≡ n) → (store shape closed inactive : Bool) (rest : List Row) (inner : A)

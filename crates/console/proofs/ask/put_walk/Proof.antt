@@ -5,10 +5,10 @@ use Rattle.console.proofs.ask.put_walk.Statement.{statement}
 use Rattle.console.proofs.ask.put_walk.Tie as tie
 
 abbrev Inv-loop : tie.InvT-loop
-Inv-loop page₀ at c lent id next₀ place₀ turns₀ t12 page next place turns = length page ≡ length page₀
+Inv-loop page₀ at c waits lent id next₀ place₀ turns₀ t12 page next place turns = length page ≡ length page₀
 
 abbrev μ-loop : tie.MeasureT-loop
-μ-loop page₀ at c lent id next₀ place₀ turns₀ t12 page next place turns = turns
+μ-loop page₀ at c waits lent id next₀ place₀ turns₀ t12 page next place turns = turns
 
 loop-holds : tie.Need-loop-holds Inv-loop μ-loop
 loop-holds c = refl

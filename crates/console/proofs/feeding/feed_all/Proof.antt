@@ -6,10 +6,10 @@ use Rattle.console.proofs.feeding.feed_all.Statement.{statement}
 use Rattle.console.proofs.feeding.feed_all.Tie as tie
 
 abbrev Inv-loop : tie.InvT-loop
-Inv-loop size on input lent₀ gathered₀ kept₀ page₀ fed₀ end from₀ lent gathered kept page fed from = (length lent ≡ length lent₀) × (length kept ≡ length kept₀) × (length page ≡ length page₀)
+Inv-loop size on input lent₀ gathered₀ waits₀ kept₀ page₀ fed₀ end from₀ lent gathered waits kept page fed from = (length lent ≡ length lent₀) × (length kept ≡ length kept₀) × (length page ≡ length page₀)
 
 abbrev μ-loop : tie.MeasureT-loop
-μ-loop size on input lent₀ gathered₀ kept₀ page₀ fed₀ end from₀ lent gathered kept page fed from = end - from
+μ-loop size on input lent₀ gathered₀ waits₀ kept₀ page₀ fed₀ end from₀ lent gathered waits kept page fed from = end - from
 
 unfed-requires : tie.Need-unfed-requires Inv-loop μ-loop
 unfed-requires c κs = search needs

@@ -1,0 +1,1 @@
+// Theorems only: what holds beside isolation of runs with a queue.

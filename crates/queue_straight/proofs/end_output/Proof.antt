@@ -1,0 +1,55 @@
+use mathlib.Core.Path.{_∙_}
+use denote.Ref.{now}
+use Rattle.queue_straight.specs.StraightLaws.{end-refused, end-passed}
+use borrow.Author.Needs.{needs}
+use Rattle.queue_straight.proofs.end_output.Statement.{statement}
+use Rattle.queue_straight.proofs.end_output.Tie as tie
+
+record-fits-requires : tie.Need-record-fits-requires
+record-fits-requires c κs = search needs
+
+straight-check-requires : tie.Need-straight-check-requires
+straight-check-requires c κs = search needs
+
+enum-known-check : tie.Need-enum-known-check
+enum-known-check c = search needs
+
+refused-requires : tie.Need-refused-requires
+refused-requires c κs = search needs
+
+enum-told : tie.Need-enum-told
+enum-told c = search needs
+
+end-output-requires : tie.Need-end-output-requires
+end-output-requires c κs = search needs
+
+returns : tie.Need-returns
+returns c =
+    let a = c .before .before .before .before .before .before .before .args in
+    λ gathered store marks queue. rw (c .refused .ensures)
+    (end-refused (a .c) (now (a .waits)) (a .id) (a .output) (c .before .before .before .before .straight-check .result) (now (a .out)) gathered store marks queue
+    (rw (← c .before .before .before .before .before .record-fits .ensures) (c .before .before .before .before .straight-check .ensures)) _ (c .before .before .check .given .1))
+
+same-length : tie.Need-same-length
+same-length c = search needs
+
+returns-2 : tie.Need-returns-2
+returns-2 c =
+    let a = c .before .before .before .before .before .before .before .before .before .args in
+    λ gathered store marks queue. c .before .before .end-output .ensures
+    ∙ end-passed (a .c) (now (a .waits)) (a .id) (a .output) (c .before .before .before .before .before .before .straight-check .result) (now (a .out)) gathered store marks queue
+    (rw (← c .before .before .before .before .before .before .before .record-fits .ensures) (c .before .before .before .before .before .before .straight-check .ensures)) (c .before .before .before .before .enum-told .given .1)
+
+pub end-output-spec : {M : Type 1} → statement M
+end-output-spec =
+    tie.close
+    (tie.spec
+    record-fits-requires
+    straight-check-requires
+    enum-known-check
+    refused-requires
+    enum-told
+    end-output-requires
+    returns
+    same-length
+    returns-2)

@@ -1,0 +1,3 @@
+pub mod FinishLaws
+pub mod Straight
+pub mod StraightLaws

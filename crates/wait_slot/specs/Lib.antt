@@ -1,0 +1,3 @@
+pub mod After
+pub mod RoomLaws
+pub mod SlotLaws
