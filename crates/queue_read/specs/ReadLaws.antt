@@ -1,15 +1,16 @@
 -- The calls that read, by whether they are barred: refused by 9, or as without a queue.
-use Prim.Native.Nat.{ℕ}
+use Prim.Native.Nat.{ℕ, _≤_}
 use mathlib.Core.Path.{_≡_, ap, _∙_}
 use mathlib.Core.Bool.{true, false}
 use mathlib.Core.List.{List}
+use native.Mathlib.Omega.{arith}
 use lib.ListN.{length}
 use borrow.Author.Tests.{eqb-false}
 use Rattle.wire.specs.Test.{if_then_else_, _=?_, byTest}
 use Rattle.connection.specs.Step.{State, Stepped, stepped, stepRefusal, stays}
-use Rattle.connection.specs.Laws.Progress.{step-refused}
+use Rattle.connection.specs.Laws.Progress.{step-refused, step-uses-no-more}
 use Rattle.call_step.specs.Next.{goesOn, nextEvent}
-use Rattle.call_step.specs.NextLaws.{next-step}
+use Rattle.call_step.specs.NextLaws.{next-step, next-uses-no-more}
 use Rattle.queue.specs.Calls.{QueueMemory, connOf, queueStepRefusal, queueStep}
 use Rattle.queue_admit.specs.BarredLaws.{barred, barred-step, free-step}
 use Rattle.queue_read.specs.Next.{queueNext}
@@ -45,3 +46,18 @@ next-free m piece e =
     byTest (n =? 0)
     (λ t. simp (free-step m e, t))
     (λ t. simp (free-step m e, t, next-alone (m .memory .state) (m .memory .store) piece t))
+
+-- Neither uses more than it is lent.
+pub step-inside : (m : QueueMemory) (piece : List ℕ) → queueStep m piece .used ≤ length piece
+unfolding queueStep
+step-inside m piece =
+    byTest (queueStepRefusal m =? 0)
+    (λ t. simp t (step-uses-no-more (m .memory .state) (m .memory .store) piece))
+    (λ t. simp t (omega arith))
+
+pub next-inside : (m : QueueMemory) (piece : List ℕ) → queueNext m piece .used ≤ length piece
+unfolding queueNext
+next-inside m piece =
+    byTest (queueStepRefusal m =? 0)
+    (λ t. simp t (next-uses-no-more (m .memory .state) (m .memory .store) piece))
+    (λ t. simp t (omega arith))
