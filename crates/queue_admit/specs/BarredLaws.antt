@@ -10,7 +10,6 @@ use Rattle.connection.specs.Sizes.{SLOTS, STORE}
 use Rattle.connection.specs.Shape.{inShape, _and_}
 use Rattle.connection.specs.Step.{stepRefusal}
 use Rattle.connection.specs.Calls as C
-use Rattle.queue.specs.Numbers.{keptWaits}
 use Rattle.queue.specs.Calls.{QueueMemory, connOf, waitsFit, queueInShape, queueStepRefusal, lentRefusal}
 use Rattle.queue_admit.specs.Admission.{isBarred}
 
@@ -88,8 +87,3 @@ free-lent m id e = by-size m e (λ t. simp t) (λ t u. simp (t, u))
 pub as-alone {ℓ} : {A : Type ℓ} (k n : ℕ) (answered alone : A) (refused : ℕ → A) → k ≡ n → alone ≡ (if n =? 0 then answered else refused n)
     → (if k =? 0 then alone else refused k) ≡ alone
 as-alone k n answered alone refused e h = byTest (n =? 0) (λ t. simp (e, t)) (λ t. simp (e, t) (sym (simp t at h)))
-
--- A connection that is as it was keeps what waits.
-pub kept-as-was : (b : Bool) (waits : List ℕ) → keptWaits b b waits ≡ waits
-kept-as-was true waits = refl
-kept-as-was false waits = refl

@@ -1,26 +1,20 @@
 // Calls that read the connection, with what waits lent beside the state. They read as without a queue; what waits is
-// tested for its shape, and dropped where the connection closes.
+// tested for its shape, and dropped where the connection closes. (Both is done inside the loop of `call_step`.)
 use call_start::start as start_alone;
-use call_step::next_event as next_alone;
-use call_step::step as step_alone;
-use connection::answer::Refusal;
+use call_step::next_beside;
+use call_step::step_beside;
 use connection::answer::Started;
-use connection::answer::StepResult;
 use connection::answer::Stepped;
 use connection::sizes::QUERY;
 use connection::sizes::STORE;
 use connection::state::Conn;
 use queue::sizes::WAITS;
-use queue_admit::is_barred;
 use wait_numbers::forget_all;
-use wait_numbers::keep_waits;
 ghost use mathlib.Core.Path.{_≡_};
 ghost use mathlib.Core.List.{List};
 ghost use Prim.Native.Nat.{ℕ};
 ghost use lib.ListN.{length};
 ghost use Rattle.wire.specs.Test.{if_then_else_, _=?_};
-ghost use Rattle.connection.specs.declared.answer.Refusal.{Refusal};
-ghost use Rattle.connection.specs.declared.answer.StepResult.{StepResult};
 ghost use Rattle.connection.specs.Sizes.{STORE};
 ghost use Rattle.connection.specs.Step.{started};
 ghost use Rattle.call_start.specs.Answer.{startedBy};
@@ -42,17 +36,6 @@ pub fn start(store: &mut [u8], gathered: &mut [u8; QUERY], waits: &mut [u16; WAI
     start_alone(store, gathered)
 }
 
-// A step that is refused by 9 because of what waits.
-fn barred(c: Conn) -> Stepped
-    ensures { λ r. ⌜ r ≡ record { used = 0; result = StepResult.Refused Refusal.OutOfShape; conn = c } ⌝ }
-{
-    Stepped {
-        used: 0,
-        result: StepResult::Refused(Refusal::OutOfShape),
-        conn: c,
-    }
-}
-
 // One step over a piece.
 pub fn step(
     c: Conn,
@@ -66,13 +49,7 @@ pub fn step(
         (now (piece .entry)))
         × (now (waits .exit) ≡ keptWaits (c .«open») (r .conn .«open») (now (waits .entry))) ⌝ }
 {
-    if is_barred(waits, c.table.occupied, store.len()) {
-        return barred(c);
-    }
-    let before = c.open;
-    let s = step_alone(c, store, gathered, piece);
-    keep_waits(waits, before, s.conn.open);
-    s
+    step_beside(c, store, gathered, waits, piece)
 }
 
 // Steps until something is told, a refusal, or the end of the piece. Of a data event the bytes are the last of those
@@ -89,11 +66,5 @@ pub fn next_event(
         (now (piece .entry)))
         × (now (waits .exit) ≡ keptWaits (c .«open») (r .conn .«open») (now (waits .entry))) ⌝ }
 {
-    if is_barred(waits, c.table.occupied, store.len()) {
-        return barred(c);
-    }
-    let before = c.open;
-    let n = next_alone(c, store, gathered, piece);
-    keep_waits(waits, before, n.conn.open);
-    n
+    next_beside(c, store, gathered, waits, piece)
 }

@@ -1,6 +1,6 @@
 -- What a queued finish comes to: the request is spent, and its last words wait. Definitions only.
 use Prim.Native.Nat.{ℕ}
-use mathlib.Core.Bool.{Bool, true, false}
+use mathlib.Core.Bool.{Bool, true, false, _||_}
 use mathlib.Core.List.{List, [], _∷_, _++_}
 use Rattle.connection.specs.declared.request.Life.{Life}
 use Rattle.connection.specs.declared.request.RequestState.{RequestState}
@@ -16,9 +16,23 @@ spentLife Life.Live = Life.Aborted
 spentLife Life.Faulted = Life.Faulted
 spentLife Life.Aborted = Life.Aborted
 
--- the request after a queued finish
+-- its streams with the ends that it owes waiting: a stream whose end waits is ended
+abbrev pub withOwedEnds : RequestState → RequestState
+withOwedEnds m =
+    record {
+      role = m .role;
+      turn = m .turn;
+      life = m .life;
+      keep = m .keep;
+      «out_ended» = true;
+      «err_used» = m .«err_used»;
+      «err_ended» = m .«err_used» || m .«err_ended»;
+      shown = m .shown;
+    }
+
+-- the request after a queued finish: spent, and its streams ended
 unfoldable pub spentBy : Request → Request
-spentBy r = withState r (withLife (r .state) (spentLife (r .state .life)))
+spentBy r = withState r (withOwedEnds (withLife (r .state) (spentLife (r .state .life))))
 
 -- the end of a stream, if it is owed
 abbrev pub owedEnd : Bool → Output → List Atom

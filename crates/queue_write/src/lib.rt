@@ -158,7 +158,7 @@ fn spent_life(life: Life) -> Life
     }
 }
 
-// The request after a queued finish: spent.
+// The request after a queued finish: spent, and its streams ended, since their ends wait.
 fn spent_by(r: Request) -> Request
     ensures { λ x. ⌜ x ≡ spentBy r ⌝ }
 {
@@ -175,9 +175,9 @@ fn spent_by(r: Request) -> Request
             turn: turn,
             life: spent_life(life),
             keep: state.keep,
-            out_ended: state.out_ended,
+            out_ended: true,
             err_used: state.err_used,
-            err_ended: state.err_ended,
+            err_ended: state.err_used | state.err_ended,
             shown: shown,
         },
     }

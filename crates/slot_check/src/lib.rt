@@ -128,7 +128,7 @@ fn any_repeats(keys: &[u16; 32], n: usize) -> bool
 
 // How many slots to look at: 8 where the upper half is free, and 16 elsewhere. It is computed without a test, because a
 // compiler that knows one of the numbers writes the loops out.
-fn reach(occupied: u16) -> usize
+pub fn reach(occupied: u16) -> usize
     ensures { λ r. ⌜ TakenBelow occupied r ⌝ }
 {
     8 + ((occupied / 256) as usize + 255) / 256 * 8

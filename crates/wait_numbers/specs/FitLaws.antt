@@ -5,19 +5,19 @@ use mathlib.Core.Bool.{Bool, true, false, not, _||_}
 use mathlib.Core.List.{List}
 use native.Mathlib.Omega.{arith}
 use lib.ListN.{getD}
-use lib.Dec.{leb, eqb}
+use lib.Dec.{leb, ltb, eqb}
 use lib.Bits.{bitAnd}
-use borrow.Author.Tests.{leb-true, leb-false, le-leb, ltb-false, le-ltb, eqb-true, eqb-false, ne-eqb, not-true}
+use borrow.Author.Tests.{leb-true, leb-false, le-leb, ltb-true, ltb-false, le-ltb, eqb-true, eqb-false, ne-eqb, not-true}
 use Rattle.wire.specs.Test.{if_then_else_, byTest}
 use Rattle.slot_word.specs.Word.{taken}
 use Rattle.slot_word.specs.WordLaws.{taken-out}
 use Rattle.slot_word.specs.WordOps.{taken-or, within, apart}
 use Rattle.connection.specs.Sizes.{SLOTS}
 use Rattle.connection.specs.Laws.ShapeLaws.{true-and, and-true}
-use Rattle.slot_check.specs.Quick.{anyOf}
+use Rattle.slot_check.specs.Quick.{anyOf, TakenBelow}
 use Rattle.slot_check.specs.QuickLaws.{none-of, of-none}
 use Rattle.queue_slot.specs.Wait.{ROOM, someWaits}
-use Rattle.queue.specs.Numbers.{HOLDING, OUT-ENDS, ERR-ENDS, ERR-FIRST, LEAVING}
+use Rattle.queue.specs.Numbers.{HOLDING, OUT-ENDS, ERR-ENDS, ERR-FIRST, LEAVING, nobodyWaits}
 use Rattle.queue.specs.Numbers.{bitAt, countAt, endsBy, frontAt, lastAt}
 use Rattle.queue.specs.Calls.{waitFits, waitsFit}
 use Rattle.wait_numbers.specs.Slot.{waitsIn, someWord, isLong, isOver}
@@ -156,15 +156,19 @@ module _ (waits : List ℕ) (occupied : ℕ) where
         free : (i : ℕ) → bitAt waits HOLDING i ≡ false
         free i = ap (taken i) e ∙ taken-out 0 i 0 (omega arith) (omega arith)
 
-    -- where no number is over ROOM - 1, too
-    pub short-row : anyOf SLOTS (isLong waits) 0 ≡ false → true ≡ waitsFit SLOTS waits occupied 0
-    short-row e =
+    -- where data waits in the first n slots alone and none of their numbers is over ROOM - 1, too
+    pub short-row : (n : ℕ) → TakenBelow (getD waits HOLDING 0) n → anyOf n (isLong waits) 0 ≡ false
+        → true ≡ waitsFit SLOTS waits occupied 0
+    short-row n below e =
         row true (λ _. fit count) (λ _. refl)
       where
         count : (i : ℕ) → i < SLOTS → countAt waits i ≤ ROOM
         count i h =
-            let short = none-of SLOTS (isLong waits) 0 e i (omega arith) (omega arith) in
-            count-short waits i (leb-false ROOM (getD waits i 0) short)
+            byTest (ltb i n)
+            (λ t.
+            let short = none-of n (isLong waits) 0 e i (omega arith) (omega (arith, ltb-true i n t)) in
+            count-short waits i (leb-false ROOM (getD waits i 0) short))
+            (λ t. omega (arith, count-none waits i (below .free i (ltb-false i n t))))
 
     -- elsewhere the counts tell
     pub over-row : not (anyOf SLOTS (isOver waits) 0) ≡ waitsFit SLOTS waits occupied 0
@@ -175,3 +179,11 @@ module _ (waits : List ℕ) (occupied : ℕ) where
         ltb-false ROOM (countAt waits i) (none-of SLOTS (isOver waits) 0 none i (omega arith) (omega arith))))
         (λ f. ap not
         (of-none SLOTS (isOver waits) 0 (λ i a b. le-ltb ROOM (countAt waits i) (f .counts i (omega arith)))))
+
+-- Where nothing waits, that fits.
+no-bit : (i : ℕ) → taken i 0 ≡ false
+no-bit i = taken-out 0 i 0 (omega arith) (omega arith)
+
+pub nobody-fits : (occupied : ℕ) → waitsFit SLOTS nobodyWaits occupied 0 ≡ true
+nobody-fits occupied =
+    sym (empty-row nobodyWaits occupied (record { homes = λ i h t. sym (some-taken nobodyWaits i) ∙ no-bit i }) refl)

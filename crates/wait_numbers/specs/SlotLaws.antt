@@ -1,7 +1,7 @@
 -- The numbers of a slot as the code reads them, and the slots going round.
 use Prim.Native.Nat.{ℕ, suc, _+_, _-_, _≤_, _<_}
 use mathlib.Core.Path.{_≡_, refl, _∙_}
-use mathlib.Core.Bool.{true, false}
+use mathlib.Core.Bool.{Bool, true, false}
 use mathlib.Core.List.{List}
 use mathlib.Core.Option.{none, some}
 use native.Mathlib.Omega.{arith}
@@ -11,7 +11,7 @@ use Rattle.wire.specs.Test.{byTest}
 use Rattle.connection.specs.Sizes.{SLOTS}
 use Rattle.machine_queue.specs.Pump.{slotAfter, nextWaiting, after-below}
 use Rattle.queue_slot.specs.Wait.{ROOM}
-use Rattle.queue.specs.Numbers.{HOLDING, bitAt, countAt}
+use Rattle.queue.specs.Numbers.{HOLDING, bitAt, countAt, keptWaits}
 use Rattle.queue.specs.Calls.{firstSlot}
 use Rattle.wait_numbers.specs.Slot.{waitsIn, nextFrom}
 
@@ -40,6 +40,11 @@ count-short waits i h =
     byTest (bitAt waits HOLDING i)
     (λ t. omega (arith, count-some waits i (getD waits i 0 + 1) t refl))
     (λ t. omega (arith, count-none waits i t))
+
+-- A connection that is as it was keeps what waits.
+pub kept-as-was : (b : Bool) (waits : List ℕ) → keptWaits b b waits ≡ waits
+kept-as-was true waits = refl
+kept-as-was false waits = refl
 
 -- ---- going round
 -- The search for a slot that waits has come to slot i: the first slot from i on, among so many, is the first of all.

@@ -5,6 +5,7 @@ use queue::sizes::ROOM;
 use queue::sizes::WAITS;
 use queue_slot::Ends;
 use queue_slot::Numbers;
+use slot_check::reach;
 use slot_word::is_taken;
 use slot_word::mark_slot;
 use wire::widen;
@@ -272,13 +273,14 @@ pub fn keep_waits(waits: &mut [u16; WAITS], before: bool, after: bool)
     }
 }
 
-// Some slot has a number over ROOM - 1, whether data waits there or not.
-fn any_long(waits: &[u16; WAITS]) -> bool
-    ensures { λ r. ⌜ r ≡ anyOf SLOTS (isLong (now (waits .entry))) 0 ⌝ }
+// One of the first n slots has a number over ROOM - 1, whether data waits there or not.
+fn any_long(waits: &[u16; WAITS], n: usize) -> bool
+    requires { ⌜ n ≤ SLOTS ⌝ }
+    ensures { λ r. ⌜ r ≡ anyOf n (isLong (now (waits .entry))) 0 ⌝ }
 {
     let mut any = false;
     let mut i: usize = 0;
-    while i < SLOTS {
+    while i < n {
         any = any | (ROOM <= widen(waits[i]));
         i += 1;
     }
@@ -300,7 +302,7 @@ fn any_over(waits: &[u16; WAITS]) -> bool
 
 // Row 9's part on what waits: over ROOM data bytes in no slot, and nothing in a free slot. It is asked before every
 // step. The words alone say whether anything waits in a free slot; where no number is over ROOM - 1, nothing more is to
-// be looked at.
+// be looked at. How many numbers are looked at is computed, as it is for the ids (`slot_check::reach`).
 pub fn waits_fit(waits: &[u16; WAITS], occupied: u16) -> bool
     ensures { λ r. ⌜ r ≡ waitsFit SLOTS (now (waits .entry)) occupied 0 ⌝ }
 {
@@ -310,7 +312,8 @@ pub fn waits_fit(waits: &[u16; WAITS], occupied: u16) -> bool
     if waits[HOLDING] == 0 {
         return true;
     }
-    if any_long(waits) {
+    let n = reach(waits[HOLDING]);
+    if any_long(waits, n) {
         return !any_over(waits);
     }
     true

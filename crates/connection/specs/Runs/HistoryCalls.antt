@@ -30,7 +30,7 @@ use Rattle.connection.specs.Runs.HistoryScan.{takesAmong, dueFor, Placed
 module _ (R : ℕ) where
   -- ---- calls
   -- a slot is written: what is due stays, if it does for that slot
-  due-written : (T : Slots receiver) (i : ℕ) (o : SlotState (List ℕ) Held) (s : Target receiver) → ((due : Due) → isParamsOf R o due ≡ isParamsOf R (slotAt cleanArea T i) due)
+  pub due-written : (T : Slots receiver) (i : ℕ) (o : SlotState (List ℕ) Held) (s : Target receiver) → ((due : Due) → isParamsOf R o due ≡ isParamsOf R (slotAt cleanArea T i) due)
       → dueFor R T s ≡ dueFor R (set T i o) s
   due-written T i o Skip e = refl
   due-written T i o (ToBegin id g) e = refl
@@ -48,7 +48,7 @@ module _ (R : ℕ) where
   placed-again T T′ (PastHeader s zero p) m e f d = d
   placed-again T T′ (PastHeader s (suc c) p) m e f d = (d .0, d .1, ap (λ k. if d .0 then k else false) e ∙ d .2 ∙ f s)
 
-  placed-without : (T T′ : Slots receiver) (i : ℕ) (F : Reading receiver) (m : Scan)
+  pub placed-without : (T T′ : Slots receiver) (i : ℕ) (F : Reading receiver) (m : Scan)
       → ((own : Bool) (s : Target receiver) → (if own then takesAmong R T else false) ≡ dueFor R T s → (if own then takesAmong R T′ else false) ≡ dueFor R T′ (targetWithout receiver i s))
       → Placed R T F m → Placed R T′ (readingWithout receiver i F) m
   unfolding readingWithout
@@ -57,7 +57,7 @@ module _ (R : ℕ) where
   placed-without T T′ i (PastHeader s (suc c) p) m f d = (d .0, d .1, f (d .0) s (d .2))
 
   -- R is in no slot: nothing is due to it
-  slot-absent : (o : SlotState (List ℕ) Held) (due : Due) → ((h : Held) → o ≡ HeldBy R h → ⊥) → isParamsOf R o due ≡ false
+  pub slot-absent : (o : SlotState (List ℕ) Held) (due : Due) → ((h : Held) → o ≡ HeldBy R h → ⊥) → isParamsOf R o due ≡ false
   slot-absent (Vacant x) due n = refl
   slot-absent (HeldBy id h) Due.Skip n = refl
   slot-absent (HeldBy id h) Due.Params n = ne-eqb id R (λ e. n h (ap (λ k. HeldBy k h) e))

@@ -44,11 +44,11 @@ use Rattle.connection.specs.Runs.HistorySeen.{same-place, changeSeen, ev
 module _ (R : ℕ) where
   -- ---- what holds after every operation
   -- The history agrees with the memory: on where the next byte stands, on whether R takes PARAMS, and on R's list.
-  record Holds (m : Memory) (h : History) : Type 0 where
-    steady : Steady m
-    shape : WellShaped receiver receiver-laws (loadedOf m)
-    agrees : Agrees R (loadedOf m) (h .place) (h .takes)
-    list : listIn R (loadedOf m) ≡ h .parameters
+  pub record Holds (m : Memory) (h : History) : Type 0 where
+    pub steady : Steady m
+    pub shape : WellShaped receiver receiver-laws (loadedOf m)
+    pub agrees : Agrees R (loadedOf m) (h .place) (h .takes)
+    pub list : listIn R (loadedOf m) ≡ h .parameters
 
   -- ---- one item
   item-place : (h : History) (x : Item Argument) → scanItem R (h .place) x ≡ withItem R h x .place
@@ -163,7 +163,7 @@ module _ (R : ℕ) where
       (subst (λ w. Holds w (changed (changeOf R (stepOf m′ y .event)) (withBytes R (withByte R h b) y))) same rest)
 
   -- over any piece
-  holds-step : (m : Memory) (piece : List ℕ) (h : History) → AllBytes piece → Holds m h → Holds (memoryAfter m (StepOver piece)) (historyThen R m (StepOver piece) h)
+  pub holds-step : (m : Memory) (piece : List ℕ) (h : History) → AllBytes piece → Holds m h → Holds (memoryAfter m (StepOver piece)) (historyThen R m (StepOver piece) h)
   unfolding memoryAfter
   holds-step m piece h all i =
       let n = stepOf m piece .used in
@@ -172,7 +172,7 @@ module _ (R : ℕ) where
       (holds-all (usedOf m piece) m h (take-bytes n piece all) (ap (λ (s : Stepped). s .used) e ∙ sym (length-take-le n piece (step-uses-no-more (m .state) (m .store) piece))) i)
 
   -- ---- calls
-  holds-call : (m : Memory) (id : ℕ) (a : Argument) (h : History) → Holds m h → Holds (memoryAfter m (CallFor id a)) (historyThen R m (CallFor id a) h)
+  pub holds-call : (m : Memory) (id : ℕ) (a : Argument) (h : History) → Holds m h → Holds (memoryAfter m (CallFor id a)) (historyThen R m (CallFor id a) h)
   unfolding seenIn itemsOf
   holds-call m id a h i =
       subst (λ c. Holds (memoryAfter m (CallFor id a)) (changed c h)) (answer-seen R _)
@@ -191,7 +191,7 @@ module _ (R : ℕ) where
   fresh-list = refl
 
   -- a start
-  holds-start : (r : WholeRun) → Holds (beginning r) noHistory
+  pub holds-start : (r : WholeRun) → Holds (beginning r) noHistory
   holds-start r =
       let e = start-loaded (r .gathered) (r .store) (r .store-size) in
       record {

@@ -7,7 +7,7 @@ use Rattle.connection.specs.declared.request.Request.{Request}
 use Rattle.connection.specs.Slots.{requestAt}
 use Rattle.call_admit.specs.Admission.{admittedBy}
 use Rattle.call_finish.specs.Answer.{owedLength}
-use Rattle.queue_admit.specs.BarredLaws.{kept-as-was}
+use Rattle.wait_numbers.specs.SlotLaws.{kept-as-was}
 use Rattle.queue_straight.specs.FinishLaws.{finish-refused, finish-leaving, finish-short, finish-waiting, finish-passed}
 use borrow.Author.Needs.{needs}
 use Rattle.queue_straight.proofs.finish.Statement.{statement}

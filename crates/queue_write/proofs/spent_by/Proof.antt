@@ -9,7 +9,7 @@ spent-life-requires c κs = search needs
 
 returns : tie.Need-returns
 unfolding spentBy withLife
-returns c = simp (c .spent-life .ensures)
+returns c = simp (c .before .spent-life .ensures)
 
 pub spent-by-spec : {M : Type 1} → statement M
 spent-by-spec = tie.close (tie.spec spent-life-requires returns)

@@ -1,6 +1,5 @@
 use borrow.Author.Needs.{needs}
 use Prim.Native.Nat.{_-_}
-use Rattle.connection.specs.Sizes.{SLOTS}
 use Rattle.slot_check.specs.Quick.{Gathers}
 use Rattle.slot_check.specs.QuickLaws.{any-start, any-next, any-done}
 use Rattle.wait_numbers.specs.Slot.{isLong}
@@ -8,10 +7,10 @@ use Rattle.wait_numbers.proofs.any_long.Statement.{statement}
 use Rattle.wait_numbers.proofs.any_long.Tie as tie
 
 abbrev Inv-loop : tie.InvT-loop
-Inv-loop waits any₀ i₀ any i = Gathers SLOTS (isLong waits) any i
+Inv-loop waits n any₀ i₀ any i = Gathers n (isLong waits) any i
 
 abbrev μ-loop : tie.MeasureT-loop
-μ-loop waits any₀ i₀ any i = SLOTS - i
+μ-loop waits n any₀ i₀ any i = n - i
 
 loop-holds : tie.Need-loop-holds Inv-loop μ-loop
 loop-holds c = any-start

@@ -20,19 +20,25 @@ at-home c = housed _ _ (c .before .before .fits .occupied .fits) _ (c .before .s
 returns-2 : tie.Need-returns-2
 returns-2 c = empty-row _ _ (at-home (c .before .before)) (c .if2 .taken)
 
+element-copy-out-reach : tie.Need-element-copy-out-reach
+element-copy-out-reach c = search needs
+
+reach-requires : tie.Need-reach-requires
+reach-requires c κs = search needs
+
 any-long-requires : tie.Need-any-long-requires
-any-long-requires c κs = search needs
+any-long-requires c κs = c .reach .ensures .within
 
 any-over-requires : tie.Need-any-over-requires
 any-over-requires c κs = search needs
 
 returns-3 : tie.Need-returns-3
-returns-3 c = rw (c .any-over .ensures) (over-row _ _ (at-home (c .before .before .before .before .before)))
+returns-3 c = rw (c .any-over .ensures) (over-row _ _ (at-home (c .before .before .before .before .before .before .before)))
 
 returns-4 : tie.Need-returns-4
 returns-4 c =
     let short = sym (c .before .any-long .ensures) ∙ c .if3 .left in
-    short-row _ _ (at-home (c .before .before .before .before)) short
+    short-row _ _ (at-home (c .before .before .before .before .before .before)) _ (c .before .before .reach .ensures) short
 
 pub waits-fit-spec : {M : Type 1} → statement M
 waits-fit-spec =
@@ -42,6 +48,8 @@ waits-fit-spec =
     returns
     element-copy-out-if2
     returns-2
+    element-copy-out-reach
+    reach-requires
     any-long-requires
     any-over-requires
     returns-3
