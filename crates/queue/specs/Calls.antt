@@ -1,7 +1,7 @@
 -- The calls with a queue, on the whole state: queued say, end and finish; straight ones while something waits; the
 -- pump.
 -- Definitions only. What waits stands beside the connection's value, so that nothing below it changes.
-use Prim.Native.Nat.{ℕ, zero, suc, _+_, _*_, _/_}
+use Prim.Native.Nat.{ℕ, zero, suc, _+_, _*_}
 use mathlib.Core.Bool.{Bool, true, false, not}
 use mathlib.Core.List.{List, [], _∷_, _++_, flatten}
 use mathlib.Core.Option.{Option, none, some}
@@ -33,6 +33,10 @@ use Rattle.queue_slot.specs.Wait.{ROOM, Wait, nothingIn, someWaits, anything, h
 -- the queue: ROOM bytes to a slot
 abbrev pub QUEUE : ℕ
 QUEUE = SLOTS * ROOM
+
+-- the most bytes that a record of the pump takes: a header, and RUN content bytes, which need no padding
+abbrev pub PUMPED : ℕ
+PUMPED = 520
 
 -- State and store as before; what waits, by numbers and marks, which are lent beside the state as the gathered bytes
 -- are; the queue.
@@ -124,7 +128,8 @@ streamRows m id o rows =
 unfoldable pub queueStepRefusal : QueueMemory → ℕ
 queueStepRefusal m = refusal ((2 when not (length (m .memory .store) =? STORE)) ∷ (9 when not (queueInShape m)) ∷ (1 when not (connOf m .«open»)) ∷ [])
 
--- A step is as it is without a queue; only row 9 is wider. What waits it does not see.
+-- A step is as it is without a queue; only row 9 is wider. It does not look at what waits otherwise; where it closes
+-- the connection, what waits is dropped (`keptWaits`, in `Run` and in the contract).
 unfoldable pub queueStep : QueueMemory → List ℕ → Stepped
 queueStep m piece =
     if queueStepRefusal m =? 0 then stepped (m .memory .state) (m .memory .store) piece else stays (queueStepRefusal m) (m .memory .state) (m .memory .store)
@@ -223,7 +228,7 @@ pub record PumpedRecord : Type 0 where
   pub bytes : List ℕ
   pub left : QueueMemory
 
--- slot i was served: the next turn begins with the slot after it
+-- slot i was served: the next record is looked for from the slot after it on
 abbrev pub servedLast : QueueMemory → ℕ → QueueMemory
 servedLast m i = record { memory = m .memory; waits = set (m .waits) NEXT (slotAfter SLOTS i); marks = m .marks; queue = m .queue }
 
@@ -287,15 +292,14 @@ pub record Pumped : Type 0 where
   pub left : QueueMemory
   pub buffer : List ℕ
 
--- Row 6: the buffer has not 520 bytes for each record that is allowed. (Tested as a quotient: no product that could
--- overflow.)
+-- Row 6: the buffer has not PUMPED bytes for each record that is allowed, whether so many are written or not.
 unfoldable pub pumpRefusal : QueueMemory → ℕ → List ℕ → ℕ
 pumpRefusal m allowance buffer =
     refusal
     ((2 when or (not (length (m .memory .store) =? STORE)) (not (length (m .queue) =? QUEUE)))
     ∷ (9 when not (queueInShape m))
     ∷ (1 when not (connOf m .«open»))
-    ∷ (6 when (length buffer / 520 <? allowance))
+    ∷ (6 when (length buffer <? PUMPED * allowance))
     ∷ [])
 
 -- the records of a turn one after another in the buffer; what is past them stays

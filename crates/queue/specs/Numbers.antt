@@ -46,7 +46,7 @@ WAITS = 54
 abbrev pub nobodyWaits : List ℕ
 nobodyWaits = replicate WAITS 0
 
--- What waits where a connection was open before a call, or not, and is open after it, or not: a close drops it.
+-- What waits after a call, by whether the connection was open before it and is open after it: a close drops it.
 abbrev pub keptWaits : Bool → Bool → List ℕ → List ℕ
 keptWaits true true waits = waits
 keptWaits true false waits = nobodyWaits
@@ -86,7 +86,7 @@ statusAt waits i = getD waits (HIGH + i) 0 * 65536 + getD waits (LOW + i) 0
 abbrev pub putBit : List ℕ → ℕ → ℕ → Bool → List ℕ
 putBit waits place i b = set waits place (marked i b (getD waits place 0))
 
--- so many data bytes
+-- so many data bytes; where there are none, the slot's number is 0
 unfoldable pub putCount : List ℕ → ℕ → ℕ → List ℕ
 putCount waits i n = putBit (set waits i (n - 1)) HOLDING i (not (n =? 0))
 

@@ -3,7 +3,7 @@ use mathlib.Core.Path.{_≡_, refl, ap, ap₂, sym, _∙_, subst}
 use mathlib.Core.List.{List, [], _∷_, _++_, flatten, append-nil}
 use mathlib.Core.Option.{Option, none, some}
 use mathlib.Core.Bool.{Bool, true, false, not}
-use Prim.Native.Nat.{ℕ, zero, suc, _*_, _/_, _≤_, _<_}
+use Prim.Native.Nat.{ℕ, zero, suc, _*_, _≤_, _<_}
 use native.Mathlib.Omega.{arith}
 use lib.ListN.{length, getD, take, length-append}
 use lib.Dec.{eqb, ltb}
@@ -55,7 +55,7 @@ use Rattle.queue_link.specs.LinkedShown.{step-observed, call-observed}
 use Rattle.queue_link.specs.LinkedWritten.{readOf, ifOwn, records-none, records-record, Own, own-one, toldBytes, own-asked, own-refusal, wrote-bytes}
 use Rattle.queue.specs.Numbers.{NEXT}
 use Rattle.queue.specs.Calls as T
-use Rattle.queue.specs.Calls.{QUEUE, queueInShape, QueueMemory, connOf, waitAt, firstSlot, slotWaits, onSome, Turned, turned, servedLast, writeServed, pumpSlot, pumpRefusal}
+use Rattle.queue.specs.Calls.{QUEUE, PUMPED, queueInShape, QueueMemory, connOf, waitAt, firstSlot, slotWaits, onSome, Turned, turned, servedLast, writeServed, pumpSlot, pumpRefusal}
 use Rattle.queue.specs.Run as D
 use Rattle.queue.specs.Run.{Asking, Answering, QueueOperation, CallFor, CountActive, TurnWith, queueCalled, queueAfter, writtenBytes, bytesIn, PiecesAreBytes}
 
@@ -256,9 +256,9 @@ none-written : (R : ℕ) (s : Connection queueingReceiver) → writtenOf R (obse
 unfolding observations servesOf observed writtenAll
 none-written R s = refl
 
-pump-room : (m : QueueMemory) (allowance : ℕ) (buffer : List ℕ) → pumpRefusal m allowance buffer ≡ 0 → allowance ≤ length buffer / 520
+pump-room : (m : QueueMemory) (allowance : ℕ) (buffer : List ℕ) → pumpRefusal m allowance buffer ≡ 0 → PUMPED * allowance ≤ length buffer
 unfolding pumpRefusal
-pump-room m allowance buffer e = ltb-false (length buffer / 520) allowance (go (T.or (not (eqb (length (m .memory .store)) STORE)) (not (eqb (length (m .queue)) QUEUE))) (not (queueInShape m)) (not (connOf m .«open»)) (ltb (length buffer / 520) allowance) e)
+pump-room m allowance buffer e = ltb-false (length buffer) (PUMPED * allowance) (go (T.or (not (eqb (length (m .memory .store)) STORE)) (not (eqb (length (m .queue)) QUEUE))) (not (queueInShape m)) (not (connOf m .«open»)) (ltb (length buffer) (PUMPED * allowance)) e)
   where
     go : (a b c d : Bool) → _≡_ {A = ℕ} (if a then 2 else if b then 9 else if c then 1 else if d then 6 else 0) 0 → d ≡ false
     go true b c d e = absurd (omega arith)
@@ -267,7 +267,7 @@ pump-room m allowance buffer e = ltb-false (length buffer / 520) allowance (go (
     go false false false true e = absurd (omega arith)
     go false false false false e = refl
 
-room-for : (n allowance b : ℕ) → n ≤ 520 * allowance → allowance ≤ b / 520 → n ≤ b
+room-for : (n allowance b : ℕ) → n ≤ 520 * allowance → PUMPED * allowance ≤ b → n ≤ b
 room-for n allowance b h g = omega arith
 
 -- what a turn leaves in its buffer is its records, one after another

@@ -1,6 +1,6 @@
 -- What the check of a turn says: its rows are those of the pump, and what holds where none does.
 use mathlib.Core.Path.{_≡_, refl, sym, _∙_}
-use Prim.Native.Nat.{ℕ, zero, suc, _+_, _*_, _/_, _≤_, _<_}
+use Prim.Native.Nat.{ℕ, zero, suc, _+_, _*_, _≤_, _<_}
 use mathlib.Core.Bool.{Bool, true, false, not}
 use mathlib.Core.List.{List}
 use native.Mathlib.Omega.{arith}
@@ -18,7 +18,7 @@ use Rattle.codes.specs.Laws.{refusal-some}
 use Rattle.queue_slot.specs.Wait.{ROOM, someWaits}
 use Rattle.queue.specs.declared.answer.PumpResult.{PumpResult}
 use Rattle.queue.specs.Numbers.{WAITS, countAt, frontAt, lastAt}
-use Rattle.queue.specs.Calls.{QUEUE, lent, waitFits, waitsFit, queueInShape, turned, pumpRefusal, pumpedWith, pump}
+use Rattle.queue.specs.Calls.{QUEUE, PUMPED, lent, waitFits, waitsFit, queueInShape, turned, pumpRefusal, pumpedWith, pump}
 use Rattle.queue.specs.Answer.{pumpedBy}
 use Rattle.queue_pump.specs.Able.{Able}
 use Rattle.queue_pump.specs.Serving.{pumpRows}
@@ -58,9 +58,9 @@ passed store queue fits is-open out allowance e =
     (λ a. byTest (eqb queue QUEUE)
     (λ b. byTest fits
     (λ f. byTest is-open
-    (λ o. byTest (ltb (out / 520) allowance)
+    (λ o. byTest (ltb out (PUMPED * allowance))
     (λ l. absurd (omega (arith, simp (a, b, f, o, l) at e)))
-    (λ l. let h : allowance ≤ out / 520 = ltb-false (out / 520) allowance l in record { store-size = eqb-true store STORE a; queue-size = eqb-true queue QUEUE b; shape = f; room = omega arith }))
+    (λ l. let h : PUMPED * allowance ≤ out = ltb-false out (PUMPED * allowance) l in record { store-size = eqb-true store STORE a; queue-size = eqb-true queue QUEUE b; shape = f; room = h }))
     (λ o. absurd (omega (arith, simp (a, b, f, o) at e))))
     (λ f. absurd (omega (arith, simp (a, b, f) at e))))
     (λ b. absurd (omega (arith, simp (a, b) at e))))

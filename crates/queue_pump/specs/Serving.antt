@@ -1,6 +1,6 @@
 -- What serving one slot comes to, function by function. Definitions only.
 use mathlib.Core.Path.{_≡_}
-use Prim.Native.Nat.{ℕ, _+_, _/_, _≤_, _<_}
+use Prim.Native.Nat.{ℕ, _+_, _*_, _≤_, _<_}
 use mathlib.Core.Bool.{Bool, false, not}
 use mathlib.Core.List.{List, [], _∷_}
 use lib.ListN.{length, take}
@@ -15,18 +15,18 @@ use Rattle.queue_slot.specs.declared.Ends.{Ends}
 use Rattle.queue_slot.specs.Atoms.{RUN}
 use Rattle.queue.specs.Numbers.{countAt}
 use Rattle.queue_slot.specs.Wait.{ROOM, Wait, noEnds, runLength, Served, ServesEnd, withFront, serveRun}
-use Rattle.queue.specs.Calls.{QUEUE, QueueMemory, waitAt, PumpedRecord, writeServed, or}
+use Rattle.queue.specs.Calls.{QUEUE, PUMPED, QueueMemory, waitAt, PumpedRecord, writeServed, or}
 
 -- the rows of a turn, by sizes and tests
 unfoldable pub pumpRows : ℕ → ℕ → Bool → Bool → ℕ → ℕ → ℕ
 pumpRows store queue fits is-open out allowance =
-    refusal ((2 when or (not (store =? STORE)) (not (queue =? QUEUE))) ∷ (9 when not fits) ∷ (1 when not is-open) ∷ (6 when (out / 520 <? allowance)) ∷ [])
+    refusal ((2 when or (not (store =? STORE)) (not (queue =? QUEUE))) ∷ (9 when not fits) ∷ (1 when not is-open) ∷ (6 when (out <? PUMPED * allowance)) ∷ [])
 
 -- END alone waits: no end, no data
 unfoldable pub onlyEnd : Ends → ℕ → Bool → Bool
 onlyEnd front count last = if count =? 0 then (if noEnds front then last else false) else false
 
--- A record can be written: the slot is one, sizes and counts are kept, and there is room for it.
+-- A record can be written: the slot is one of the 16, and there is room for it.
 pub record Servable (i : ℕ) (out : List ℕ) (at : ℕ) : Type 0 where
   pub low : i < SLOTS
   pub room : at + 520 ≤ length out

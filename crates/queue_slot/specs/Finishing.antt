@@ -16,9 +16,9 @@ spentLife Life.Live = Life.Aborted
 spentLife Life.Faulted = Life.Faulted
 spentLife Life.Aborted = Life.Aborted
 
--- its streams with the ends that it owes waiting: a stream whose end waits is ended
-abbrev pub withOwedEnds : RequestState → RequestState
-withOwedEnds m =
+-- The ends that it owes wait, and a stream whose end waits is ended: STDOUT is, and STDERR if it was used.
+abbrev pub withOwedEnded : RequestState → RequestState
+withOwedEnded m =
     record {
       role = m .role;
       turn = m .turn;
@@ -30,9 +30,9 @@ withOwedEnds m =
       shown = m .shown;
     }
 
--- the request after a queued finish: spent, and its streams ended
+-- the request after a queued finish: spent, and its streams ended as far as it owed their ends
 unfoldable pub spentBy : Request → Request
-spentBy r = withState r (withOwedEnds (withLife (r .state) (spentLife (r .state .life))))
+spentBy r = withState r (withOwedEnded (withLife (r .state) (spentLife (r .state .life))))
 
 -- the end of a stream, if it is owed
 abbrev pub owedEnd : Bool → Output → List Atom

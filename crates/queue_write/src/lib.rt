@@ -33,6 +33,7 @@ ghost use Prim.Native.Nat.{ℕ, _+_};
 ghost use lib.ListN.{length};
 ghost use Rattle.wire.specs.Test.{_≤?_};
 ghost use Rattle.connection.specs.Calls.{putsRequest};
+ghost use Rattle.queue_slot.specs.Wait.{ROOM};
 ghost use Rattle.queue_slot.specs.Finishing.{spentLife, spentBy};
 ghost use Rattle.queue.specs.declared.answer.Queued.{Queued};
 ghost use Rattle.queue.specs.Calls.{lent, skipping, queueSay, queueEnd, queueFinish};
@@ -66,7 +67,7 @@ fn put_back(c: Conn, i: usize, request: Request) -> Queueing
 
 // There is room for n bytes more where `count` wait.
 fn has_room(count: usize, n: usize) -> bool
-    ensures { λ r. ⌜ ((bytes : List ℕ) → length bytes ≡ n → r ≡ (count + length bytes ≤? 1024)) ⌝ }
+    ensures { λ r. ⌜ ((bytes : List ℕ) → length bytes ≡ n → r ≡ (count + length bytes ≤? ROOM)) ⌝ }
 {
     if ROOM < n {
         return false;
@@ -158,7 +159,7 @@ fn spent_life(life: Life) -> Life
     }
 }
 
-// The request after a queued finish: spent, and its streams ended, since their ends wait.
+// The request after a queued finish: spent; STDOUT is ended, and STDERR if it was used, since their ends wait.
 fn spent_by(r: Request) -> Request
     ensures { λ x. ⌜ x ≡ spentBy r ⌝ }
 {
