@@ -101,3 +101,28 @@ pub use fastcgi::refusal_number;
 pub use fastcgi::role_number;
 pub use fastcgi::status_number;
 pub use fastcgi::stream_type;
+
+// ---- Readings in a body, beside the receiver: a reading is written into a buffer, and read from the bytes that data
+// events show. A reader is a value that goes from call to call; `new_reader` makes one for each body.
+pub use fastcgi::BodyEnd;
+pub use fastcgi::Ended;
+pub use fastcgi::ReadOn;
+pub use fastcgi::Reader;
+pub use fastcgi::Reading;
+pub use fastcgi::ReadingFault;
+pub use fastcgi::ReadingResult;
+pub use fastcgi::ReadingWrote;
+pub use fastcgi::end_body;
+pub use fastcgi::new_reader;
+pub use fastcgi::read_reading;
+pub use fastcgi::reading_fault_number;
+pub use fastcgi::write_reading;
+
+// ---- Ice correction, beside the receiver: a raw count corrected by a thawed and a frozen calibration card.
+pub use fastcgi::Calibration;
+pub use fastcgi::Card;
+pub use fastcgi::Corrected;
+pub use fastcgi::CorrectionFault;
+pub use fastcgi::Curve;
+pub use fastcgi::correct;
+pub use fastcgi::correction_fault_number;

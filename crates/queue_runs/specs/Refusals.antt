@@ -5,7 +5,7 @@
 use mathlib.Core.Path.{_≡_, refl}
 use mathlib.Core.List.{List, [], _∷_}
 use mathlib.Core.Bool.{Bool, true, false, not}
-use Prim.Native.Nat.{ℕ, _/_}
+use Prim.Native.Nat.{ℕ, _*_}
 use native.Mathlib.Omega.{arith}
 use lib.ListN.{length}
 use lib.Dec.{eqb}
@@ -28,7 +28,7 @@ use Rattle.connection.specs.Calls as C
 use Rattle.connection.specs.Arguments.{ForValue, ForSource, ForPair, ForWalk, ForSay, ForEnd, ForFinish, ValueIs, SourceIs, PairAnswer, WalkIs, Wrote, FinishedWith}
 use Rattle.connection.specs.Request.{Held, listOf}
 use Rattle.queue.specs.Calls as T
-use Rattle.queue.specs.Calls.{QUEUE, QueueMemory, connOf, queueInShape, rowsOf, queueStepRefusal, sayRefusal, lentRefusal, queueSource, queuePair, queueWalk, queueCount, straightSay, straightEnd, straightFinish, pumpRefusal, or}
+use Rattle.queue.specs.Calls.{QUEUE, PUMPED, QueueMemory, connOf, queueInShape, rowsOf, queueStepRefusal, sayRefusal, lentRefusal, queueSource, queuePair, queueWalk, queueCount, straightSay, straightEnd, straightFinish, pumpRefusal, or}
 use Rattle.queue.specs.Run as D
 use Rattle.queue.specs.Run.{Asking, queueCalled}
 use Rattle.queue_runs.specs.Rows.{refused-by}
@@ -257,7 +257,7 @@ module _ (m : QueueMemory) (s : Sound m) where
       ((2 when or (not (length (m .memory .store) =? STORE)) (not (length (m .queue) =? QUEUE)))
       ∷ (9 when not (queueInShape m))
       ∷ (1 when not (connOf m .«open»))
-      ∷ (6 when (length buffer / 520 <? allowance))
+      ∷ (6 when (length buffer <? PUMPED * allowance))
       ∷ [])
       (rw (store-size, queue-size)) (rw (s .shape))
 

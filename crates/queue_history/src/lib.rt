@@ -1,0 +1,1 @@
+// Theorems only: the parameters of a request by the history of a run with a queue.

@@ -1,0 +1,1 @@
+// Theorems only: runs with a queue in which nothing is queued are runs without one.
