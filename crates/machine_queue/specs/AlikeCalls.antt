@@ -53,16 +53,11 @@ module _ (M : Machine) (Q : Queue M) (L : Waiting M Q) (R : ℕ) where
     abbrev pub calledIn : Option Request → Reading M → Effect M
     calledIn v F = requestCalled M (lookup R (aloneSlots M R n v)) R a (aloneSlots M R n v) F
 
-    -- what is heard of the call, where R is not leaving
-    same-live : {r q r′ q′ : Request} {z z′ : Answer} → core r ≡ core q → core r′ ≡ core q′ → z ≡ z′ → leaving r ≡ false → leaving q ≡ false → leaving r′ ≡ false → leaving q′ ≡ false
+    -- what is heard of the call, where R is not leaving before it
+    same-live : {r q r′ q′ : Request} {z z′ : Answer} → core r ≡ core q → core r′ ≡ core q′ → z ≡ z′ → leaving r ≡ false → leaving q ≡ false
         → heardAt M Q (isLeaving M Q (some r)) a z (some r) (some r′) ∷ [] ≡ heardAt M Q (isLeaving M Q (some q)) a z′ (some q) (some q′) ∷ []
     unfolding heardAt isLeaving coreOf
-    same-live e c d i j x y = simp (i, j, x, y, e, c, d)
-
-    same-retired : {r q r′ q′ : Request} {z z′ : Answer} → core r ≡ core q → z ≡ z′ → leaving r ≡ false → leaving q ≡ false → leaving r′ ≡ true → leaving q′ ≡ true
-        → heardAt M Q (isLeaving M Q (some r)) a z (some r) (some r′) ∷ [] ≡ heardAt M Q (isLeaving M Q (some q)) a z′ (some q) (some q′) ∷ []
-    unfolding heardAt isLeaving coreOf
-    same-retired e d i j x y = simp (i, j, x, y, e, d)
+    same-live e c d i j = simp (i, j, e, c, d)
 
     same-left : {r q : Request} {z z′ : Answer} → core r ≡ core q → z ≡ z′ → leaving r ≡ false → leaving q ≡ false
         → heardAt M Q (isLeaving M Q (some r)) a z (some r) none ∷ [] ≡ heardAt M Q (isLeaving M Q (some q)) a z′ (some q) none ∷ []
@@ -78,13 +73,13 @@ module _ (M : Machine) (Q : Queue M) (L : Waiting M Q) (R : ℕ) where
     unfolding callDecided waitsIn
     live-decided r q (Stays r′ z) (Stays q′ z′) s e i j f h o k =
         step-of M Q L R (BothLive (h .6) (h .7) (h .0) (h .2) (h .3))
-        (save-same M Q R (answer-heard a z (some r) (some r′) s ∙ same-live e (h .0) (h .1) i j (h .2) (h .3) ∙ sym (answer-heard a z′ (some q) (some q′) s)))
+        (save-same M Q R (answer-heard a z (some r) (some r′) s ∙ same-live e (h .0) (h .1) i j ∙ sym (answer-heard a z′ (some q) (some q′) s)))
         (said a (core r)) (rw (answer-writes a z (some r) (some r′)) (h .4)) (rw (answer-writes a z′ (some q) (some q′), e) (h .5))
     live-decided r q (Retires r′ z) (Retires q′ z′) s e i j f h o k =
         let kr = k r′ refl (h .6) (h .2) in
         let kq : keeps (core q′) ≡ true = rw (← (h .0)) kr in
         step-of M Q L R (BothGone (GoneSoon (h .6) (h .2) kr) (GoneSoon (h .7) (h .3) kq) (idle-after f))
-        (save-same M Q R (answer-heard a z (some r) (some r′) s ∙ same-retired e (h .1) i j (h .2) (h .3) ∙ sym (answer-heard a z′ (some q) (some q′) s)))
+        (save-same M Q R (answer-heard a z (some r) (some r′) s ∙ same-live e (h .0) (h .1) i j ∙ sym (answer-heard a z′ (some q) (some q′) s)))
         (said a (core r)) (rw (answer-writes a z (some r) (some r′)) (h .4)) (rw (answer-writes a z′ (some q) (some q′), e) (h .5))
     live-decided r q (Leaves z) (Leaves z′) s e i j f h o k =
         step-of M Q L R {v′ = none} {w′ = none} BothNone

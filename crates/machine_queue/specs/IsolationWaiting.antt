@@ -39,7 +39,7 @@ module _ (M : Machine) (Q : Queue M) (R : ℕ) where
   pub record IsolatedServed (t u : List (Item Argument)) (A B : Ran M) : Type 0 where
     pub all-items : unserved M Q u ≡ unserved M Q (purge R t)
     pub ends-between : BetweenRecords M (B .state)
-    -- events and answers, save for the answers of calls between finish and END in either run
+    -- events and answers, with R's core before and after each call, save for calls between finish and END in either run
     pub same-heard : SameSave M Q (heard M Q R (A .seen)) (heard M Q R (B .seen))
     -- what was written of what R said, in its order
     pub same-written : written M Q R (B .seen) ≡ written M Q R (A .seen)
@@ -73,7 +73,7 @@ module _ (M : Machine) (Q : Queue M) (L : Waiting M Q) (R : ℕ) where
   settled-core : {F : Reading M} {v w : Option Request} → Alike M Q R F v w → waitsIn M Q v ≡ [] → waitsIn M Q w ≡ [] → coreOf M Q w ≡ coreOf M Q v
   unfolding coreOf waitsIn
   settled-core BothNone x y = refl
-  settled-core (BothLive sr sq e i j) x y = rw (i, j, e)
+  settled-core (BothLive sr sq e i j) x y = rw e
   settled-core (BothGone GoneQuite GoneQuite i) x y = refl
   settled-core (BothGone GoneQuite (GoneSoon {r = q} sq k l) i) x y = absurd (L .leaving-waits q sq k y)
   settled-core (BothGone (GoneSoon {r = r} sr k l) g i) x y = absurd (L .leaving-waits r sr k x)

@@ -123,7 +123,7 @@ pub record Waiting (M : Machine) (Q : Queue M) : Type 1 where
 
 -- ---- what two runs are compared by
 module _ (M : Machine) (Q : Queue M) where
-  open Machine M using (Request, Event, Argument, Answer)
+  open Machine M using (Request, Event, Argument, Answer, whenInactive)
   open Queue Q using (Core, Atom, core, leaving, waits, isServe, wrote, isHeldUp)
 
   -- is there a request, and is it leaving?
@@ -136,13 +136,13 @@ module _ (M : Machine) (Q : Queue M) where
   waitsIn none = []
   waitsIn (some r) = waits r
 
-  -- its core; a request that is leaving is not looked at
+  -- its core
   unfoldable pub coreOf : Option Request → Option Core
   coreOf none = none
-  coreOf (some r) = if leaving r then none else some (core r)
+  coreOf (some r) = some (core r)
 
-  -- What is told of a request, and what its calls answer, with its core before and after. Between finish and END no
-  -- answer is looked at.
+  -- What is told of a request, and what its calls answer, with its core before and after. Of a call between finish and
+  -- END neither the answer nor the core is looked at.
   pub data Heard : Type 0 where
     HeardEvent : Event → Heard
     HeardAnswer : Argument → Answer → Option Core → Option Core → Heard
@@ -179,12 +179,13 @@ module _ (M : Machine) (Q : Queue M) where
   writtenAll [] = []
   writtenAll (o ∷ os) = writtenIn o ++ writtenAll os
 
-  -- The same, save for the answers of calls between finish and END in either run.
+  -- The same, save for calls between finish and END in either run. Where the request is leaving in one run, in the
+  -- other it is leaving too, or no longer active.
   pub data SameSave : List Heard → List Heard → Type 0 where
     SaveNone : SameSave [] []
     SaveSame : {x : Heard} {xs ys : List Heard} → SameSave xs ys → SameSave (x ∷ xs) (x ∷ ys)
-    SaveFirst : {a : Argument} {n : Answer} {xs ys : List Heard} → SameSave xs ys → SameSave (HeardLeaving a ∷ xs) (HeardAnswer a n none none ∷ ys)
-    SaveSecond : {a : Argument} {n : Answer} {xs ys : List Heard} → SameSave xs ys → SameSave (HeardAnswer a n none none ∷ xs) (HeardLeaving a ∷ ys)
+    SaveFirst : {a : Argument} {xs ys : List Heard} → SameSave xs ys → SameSave (HeardLeaving a ∷ xs) (HeardAnswer a (whenInactive a) none none ∷ ys)
+    SaveSecond : {a : Argument} {xs ys : List Heard} → SameSave xs ys → SameSave (HeardAnswer a (whenInactive a) none none ∷ xs) (HeardLeaving a ∷ ys)
 
   -- a timeline without serves
   unfoldable pub unserved : List (Item Argument) → List (Item Argument)

@@ -5,7 +5,7 @@
 -- 10, comes a byte of R's records between a finish of R and its END, or waits anything of R at the end. Concluded: as
 -- without a queue, but for the answers of R's calls between finish and END in either run, and R's request (its
 -- parameters and counts) there; and what was written of what R said on both streams, in one order, with R's endings,
--- is the same.
+-- is the same. At these calls too the lent buffers are the same, and the finish is compared like any other call.
 use mathlib.Core.Path.{_≡_}
 use mathlib.Core.Bool.{Bool, true, false}
 use mathlib.Core.List.{List, [], _∷_, _++_, List·Memᴰ}
@@ -19,11 +19,12 @@ use Rattle.machine.specs.Timeline.{Item, itemBytes, purge, Scan, ScanHeader, sc
 use Rattle.connection.specs.Event.{Event}
 use Rattle.connection.specs.Bytewise.{Note}
 use Rattle.connection.specs.Arguments.{ValueIs, SourceIs, PairAnswer, WalkIs, Wrote, FinishedWith}
-use Rattle.connection.specs.Calls as C
+use Rattle.connection.specs.Run.{requestOf}
 use Rattle.queue.specs.Calls.{QueueMemory, connOf}
-use Rattle.queue.specs.Run.{Asking, QueueOperation, StepOver, CallFor, CountActive, TurnWith, Answering, Straightly, Queued, queueCalled, usedOf, queueAfter, waitsOf, leavingOf, requestShown, Shown, ShownAnswer, ShownLeaving, queueTimeline, notesAll, QueueRun, beginning, ending, timelineOf, shown, written}
+use Rattle.queue.specs.Run.{Asking, QueueOperation, StepOver, CallFor, CountActive, TurnWith, Answering, Straightly, Queued, queueCalled, usedOf, queueAfter, waitsOf, leavingOf, bufferLeft, Shown, ShownAnswer, ShownLeaving, queueTimeline, notesAll, QueueRun, beginning, ending, timelineOf, shown, written}
 
 -- ---- premises
+-- It ends open and between two records: the bytes that its steps used split into whole records.
 pub record EndsBetweenRecords (r : QueueRun) : Type 0 where
   pub is-open : connOf (ending r) .«open» ≡ true
   pub no-rest : split (itemBytes (timelineOf r)) .rest ≡ []
@@ -32,7 +33,7 @@ pub record EndsBetweenRecords (r : QueueRun) : Type 0 where
 abbrev pub NeverOverloaded : ℕ → QueueRun → Type 0
 NeverOverloaded R r = List·Memᴰ (Note.Told (Event.Refuse R OVERLOADED)) (notesAll (beginning r) (r .operations)) → ⊥
 
--- no call of R was refused by 10
+-- a call was refused by 10
 abbrev pub isTen : Answering → Bool
 isTen (Straightly (Wrote n written buffer)) = n =? 10
 isTen (Straightly (FinishedWith n written closed buffer)) = n =? 10
@@ -42,7 +43,7 @@ isTen (Straightly (PairAnswer v)) = false
 isTen (Straightly (WalkIs v)) = false
 isTen (Queued n) = n =? 10
 
--- from a memory on, over these operations
+-- no call of R is refused by 10, from a memory on, over these operations
 abbrev pub NeverTenFrom : ℕ → QueueMemory → List QueueOperation → Type 0
 NeverTenFrom R m [] = Unit {0}
 NeverTenFrom R m (StepOver piece ∷ os) = NeverTenFrom R (queueAfter m (StepOver piece)) os
@@ -50,7 +51,7 @@ NeverTenFrom R m (CallFor id a ∷ os) = (id ≡ R → isTen (queueCalled m id a
 NeverTenFrom R m (CountActive ∷ os) = NeverTenFrom R m os
 NeverTenFrom R m (TurnWith allowance buffer ∷ os) = NeverTenFrom R (queueAfter m (TurnWith allowance buffer)) os
 
--- no byte of R's records came between a finish of R and its END
+-- Where R is leaving (l), none of these bytes is of R's records; `rest` is what comes after them.
 abbrev pub QuietBytes : ℕ → Bool → Scan → List ℕ → List ℕ → Type 0
 QuietBytes R l m [] rest = Unit {0}
 QuietBytes R l m (b ∷ x) rest = (isOwn R m (b ∷ (x ++ rest)) ≡ true → l ≡ false) × QuietBytes R l (scanNext R m b) x rest
@@ -60,7 +61,8 @@ abbrev pub scanned : ℕ → Scan → List ℕ → Scan
 scanned R m [] = m
 scanned R m (b ∷ x) = scanned R (scanNext R m b) x
 
--- from a memory on, over these operations
+-- no byte of R's records comes between a finish of R and its END, from a memory on, over these operations; k is where
+-- the scan for R stands
 abbrev pub QuietFrom : ℕ → QueueMemory → Scan → List QueueOperation → Type 0
 QuietFrom R m k [] = Unit {0}
 QuietFrom R m k (StepOver piece ∷ os) =
@@ -97,20 +99,29 @@ pub record RunsFor (R : ℕ) (A B : QueueRun) : Type 0 where
   pub prefix : timelineOf B ++ rest ≡ purge R (timelineOf A)
   pub all-or-closed : (rest ≡ []) ⊎ (connOf (ending B) .«open» ≡ false)
 
--- The same, save for the answers of calls between finish and END in either run.
+-- The same, save for the answers of calls between finish and END in either run, and R's request there. The lent buffer
+-- is left the same.
 pub data SameSave : List Shown → List Shown → Type 0 where
   SaveNone : SameSave [] []
+  -- a call between finish and END in both runs, or anything else
   SaveSame : {x : Shown} {xs ys : List Shown} → SameSave xs ys → SameSave (x ∷ xs) (x ∷ ys)
-  SaveFirst : {a : Asking} {n : Answering} {xs ys : List Shown} → SameSave xs ys → SameSave (ShownLeaving a ∷ xs) (ShownAnswer a n none none ∷ ys)
-  SaveSecond : {a : Asking} {n : Answering} {xs ys : List Shown} → SameSave xs ys → SameSave (ShownAnswer a n none none ∷ xs) (ShownLeaving a ∷ ys)
+  -- a call between finish and END in the first run; in the other run R is no longer active
+  SaveFirst : {a : Asking} {n : Answering} {xs ys : List Shown} → SameSave xs ys → SameSave (ShownLeaving a (bufferLeft n) ∷ xs) (ShownAnswer a n none none ∷ ys)
+  -- a call between finish and END in the second run; in the other run R is no longer active
+  SaveSecond : {a : Asking} {n : Answering} {xs ys : List Shown} → SameSave xs ys → SameSave (ShownAnswer a n none none ∷ xs) (ShownLeaving a (bufferLeft n) ∷ ys)
 
 -- What B has in common with A.
 pub record Isolated (R : ℕ) (A B : QueueRun) : Type 0 where
+  -- B had all of R's items, and ends open and between two records
   pub all-items : timelineOf B ≡ purge R (timelineOf A)
   pub ends-between : EndsBetweenRecords B
+  -- the same events of R, data byte by byte, and the same answers to R's calls, in one order, with R's request and
+  -- area before and after each call; save for calls between finish and END in either run
   pub same-shown : SameSave (shown R A) (shown R B)
+  -- the same bytes written of what R said, on both streams in one order, with the ends of the streams and END
   pub same-written : written R B ≡ written R A
-  pub same-request : requestShown R (ending B) ≡ requestShown R (ending A)
+  -- the same request and area of R at the end
+  pub same-request : requestOf R (ending B .memory) ≡ requestOf R (ending A .memory)
 
 -- Demand 3 with the queue.
 abbrev pub Isolation : Type 0

@@ -3,7 +3,7 @@
 use mathlib.Core.Path.{_≡_}
 use mathlib.Core.Bool.{Bool, false}
 use mathlib.Core.List.{List, [], _∷_, _++_}
-use mathlib.Core.Option.{Option, none}
+use mathlib.Core.Option.{Option}
 use Prim.Native.Nat.{ℕ}
 use lib.ListN.{length, take}
 use Rattle.wire.specs.Test.{if_then_else_, _=?_}
@@ -98,7 +98,7 @@ queueAfter m CountActive = m
 queueAfter m (TurnWith allowance buffer) = pump m allowance buffer .left
 
 -- ---- what is R's
--- something of R waits, and END among it: R is between its finish and its END
+-- what waits of R, oldest first; nothing where R is not active or the connection is closed
 unfoldable pub waitsOf : ℕ → QueueMemory → List Atom
 waitsOf R m = if connOf m .«open» then onSlot (find (connOf m .table) R) (λ i. atomsIn (waitAt m i)) [] else []
 
@@ -106,16 +106,22 @@ waitsOf R m = if connOf m .«open» then onSlot (find (connOf m .table) R) (λ i
 unfoldable pub leavingOf : ℕ → QueueMemory → Bool
 leavingOf R m = if connOf m .«open» then onSlot (find (connOf m .table) R) (λ i. lastAt (m .waits) i) false else false
 
--- R's request and area; between finish and END they are not looked at
-unfoldable pub requestShown : ℕ → QueueMemory → Option Held
-requestShown R m = if leavingOf R m then none else requestOf R (m .memory)
+-- what the buffer that was lent to a call holds after it; nothing where none was lent
+abbrev pub bufferLeft : Answering → List ℕ
+bufferLeft (Straightly (Wrote n written buffer)) = buffer
+bufferLeft (Straightly (FinishedWith n written closed buffer)) = buffer
+bufferLeft (Straightly (ValueIs v)) = []
+bufferLeft (Straightly (SourceIs v)) = []
+bufferLeft (Straightly (PairAnswer v)) = []
+bufferLeft (Straightly (WalkIs v)) = []
+bufferLeft (Queued n) = []
 
--- What is shown of R: what a step tells of it; a call with its answer and R's request before and after it; a call
--- between finish and END, whose answer is not looked at.
+-- What is shown of R: what a step tells of it; a call with its answer and R's request and area before and after it,
+-- the queued finish too; a call between finish and END with its buffer, whose answer is not looked at.
 pub data Shown : Type 0 where
   ShownNote : Note → Shown
   ShownAnswer : Asking → Answering → Option Held → Option Held → Shown
-  ShownLeaving : Asking → Shown
+  ShownLeaving : Asking → List ℕ → Shown
 
 -- the id that is told of; 0 for none
 abbrev pub noteId : Note → ℕ
@@ -131,7 +137,9 @@ notesOf R (n ∷ ns) = if noteId n =? R then ShownNote n ∷ notesOf R ns else n
 unfoldable pub shownIn : ℕ → QueueMemory → QueueOperation → List Shown
 shownIn R m (StepOver piece) = notesOf R (notes (queueStep m piece .event) (usedOf m piece))
 shownIn R m (CallFor id a) =
-    if id =? R then (if leavingOf R m then ShownLeaving a else ShownAnswer a (queueCalled m id a .answer) (requestShown R m) (requestShown R (queueCalled m id a .left))) ∷ [] else []
+    let q = queueCalled m id a in
+    if id =? R then (if leavingOf R m then ShownLeaving a (bufferLeft (q .answer)) else ShownAnswer a (q .answer) (requestOf R (m .memory)) (requestOf R (q .left .memory))) ∷ []
+    else []
 shownIn R m CountActive = []
 shownIn R m (TurnWith allowance buffer) = []
 

@@ -8,6 +8,7 @@ pub mod LinkedQueued
 pub mod LinkedFinish
 pub mod Observing
 pub mod LinkedRuns
+pub mod LinkedBuffers
 pub mod LinkedShown
 pub mod LinkedWritten
 pub mod LinkedWrites

@@ -1,6 +1,6 @@
 -- A run with a queue is the machine's run of its timeline, where a turn of the pump is its serves; what waits of R,
 -- whether R is leaving and R's request are the machine's.
-use mathlib.Core.Path.{_≡_, refl, ap, ap₂, sym, _∙_, subst}
+use mathlib.Core.Path.{_≡_, refl, ap, sym, _∙_, subst}
 use mathlib.Core.List.{List, [], _∷_, _++_}
 use mathlib.Core.Option.{Option, none, some}
 use mathlib.Core.Bool.{Bool, true, false}
@@ -40,7 +40,7 @@ use Rattle.queue.specs.Numbers.{lastAt}
 use Rattle.queue.specs.Calls as T
 use Rattle.queue.specs.Calls.{QueueMemory, connOf, waitAt, queueStep, pumpRefusal, pump, pumpedWith, turned}
 use Rattle.queue.specs.Run as D
-use Rattle.queue.specs.Run.{QueueOperation, CallFor, CountActive, TurnWith, usedOf, queueAfter, waitsOf, leavingOf, requestShown, finalQueue, PiecesAreBytes}
+use Rattle.queue.specs.Run.{QueueOperation, CallFor, CountActive, TurnWith, usedOf, queueAfter, waitsOf, leavingOf, finalQueue, PiecesAreBytes}
 
 -- ---- the machine's items
 unfoldable pub servedBy : QueueMemory → ℕ → List ℕ → List ℕ
@@ -240,9 +240,9 @@ module _ (R : ℕ) (m : QueueMemory) where
   waits-are = byTest (connOf m .«open») (λ o. ap (waitsIn queueingReceiver waitingQueue) (request-open R m o) ∙ waits-slot (find (connOf m .table) R) ∙ sym (waits-open o))
       (λ o. ap (waitsIn queueingReceiver waitingQueue) (request-closed R m o) ∙ sym (waits-closed o))
 
-  core-slot : (s : Slot) → coreOf queueingReceiver waitingQueue (there s) ≡ (if onSlot s (λ i. lastAt (m .waits) i) false then none else onSlot s (λ i. some (heldAt (connOf m .table) (m .memory .store) i)) none)
+  core-slot : (s : Slot) → coreOf queueingReceiver waitingQueue (there s) ≡ onSlot s (λ i. some (heldAt (connOf m .table) (m .memory .store) i)) none
   unfolding coreOf
-  core-slot (Slot.At i) = ap (λ (b : Bool). if b then none else some (heldAt (connOf m .table) (m .memory .store) i)) (last i)
+  core-slot (Slot.At i) = refl
   core-slot Slot.Nowhere = refl
 
   held-open : connOf m .«open» ≡ true → Run.requestOf R (m .memory) ≡ onSlot (find (connOf m .table) R) (λ i. some (heldAt (connOf m .table) (m .memory .store) i)) none
@@ -254,9 +254,7 @@ module _ (R : ℕ) (m : QueueMemory) where
   held-closed o = rw o
 
   -- R's request
-  pub core-is : coreOf queueingReceiver waitingQueue (requestIn queueingReceiver R (loadedQueue m)) ≡ requestShown R m
-  unfolding requestShown coreOf
-  core-is = byTest (connOf m .«open»)
-      (λ o. ap (coreOf queueingReceiver waitingQueue) (request-open R m o) ∙ core-slot (find (connOf m .table) R)
-      ∙ ap₂ (λ (b : Bool) (x : Option Held). if b then none else x) (sym (leaving-open o)) (sym (held-open o)))
-      (λ o. ap (coreOf queueingReceiver waitingQueue) (request-closed R m o) ∙ ap₂ (λ (b : Bool) (x : Option Held). if b then none else x) (sym (leaving-closed o)) (sym (held-closed o)))
+  pub core-is : coreOf queueingReceiver waitingQueue (requestIn queueingReceiver R (loadedQueue m)) ≡ Run.requestOf R (m .memory)
+  unfolding coreOf
+  core-is = byTest (connOf m .«open») (λ o. ap (coreOf queueingReceiver waitingQueue) (request-open R m o) ∙ core-slot (find (connOf m .table) R) ∙ sym (held-open o))
+      (λ o. ap (coreOf queueingReceiver waitingQueue) (request-closed R m o) ∙ sym (held-closed o))

@@ -17,6 +17,7 @@ use Rattle.machine_queue.specs.Waiting.{isLeaving, coreOf, Heard, HeardEvent, H
 use Rattle.connection.specs.Bytewise.{Note, notes}
 use Rattle.connection.specs.Step.{Stepped}
 use Rattle.wire.specs.Bytes.{AllBytes}
+use Rattle.connection.specs.Arguments.{ForValue, ForSource, ForPair, ForWalk, ForSay, ForEnd, ForFinish, refused}
 use Rattle.connection.specs.Run as Run
 use Rattle.connection.specs.Run.{Memory, Observed, Answered, StepOver, idOf, stepOf, seenIn, itemsOf}
 use Rattle.connection.specs.Runs.Receiver.{receiver, QueryWith, UnknownType}
@@ -31,10 +32,11 @@ use Rattle.queue_link.specs.LoadedTurn.{servesOf}
 use Rattle.queue_link.specs.LinkedStraight.{asked, toldOf}
 use Rattle.queue_link.specs.LinkedFinish.{call-is}
 use Rattle.queue_link.specs.Observing.{call-seen, served-seen}
+use Rattle.queue_link.specs.LinkedBuffers.{bufferLent, leaving-buffer}
 use Rattle.queue.specs.Calls as T
 use Rattle.queue.specs.Calls.{QueueMemory, queueStep}
 use Rattle.queue.specs.Run as D
-use Rattle.queue.specs.Run.{Asking, Answering, QueueOperation, CallFor, CountActive, TurnWith, queueCalled, usedOf, queueAfter, leavingOf, requestShown, Shown, ShownNote, ShownAnswer, ShownLeaving, noteId, notesOf, shownIn, shownAll, PiecesAreBytes}
+use Rattle.queue.specs.Run.{Asking, Answering, QueueOperation, CallFor, CountActive, TurnWith, queueCalled, usedOf, queueAfter, leavingOf, bufferLeft, Shown, ShownNote, ShownAnswer, ShownLeaving, noteId, notesOf, shownIn, shownAll, PiecesAreBytes}
 use Rattle.queue_link.specs.LinkedRuns.{leaving-is, core-is, servedBy, machineItems, machineTimeline, Fine, PieceOk, op-is, op-fine, piece-ok}
 
 -- ---- what is asked and answered, and back
@@ -72,7 +74,22 @@ no-serve (D.ToFinish status) = refl
 abbrev pub shownOf : ℕ → Heard queueingReceiver waitingQueue → Shown
 shownOf R (HeardEvent e) = ShownNote (noteWithId R e)
 shownOf R (HeardAnswer a n v w) = ShownAnswer (askingOf a) (answeringOf n) v w
-shownOf R (HeardLeaving a) = ShownLeaving (askingOf a)
+shownOf R (HeardLeaving a) = ShownLeaving (askingOf a) (bufferLent (askingOf a))
+
+-- A call that is refused leaves the lent buffer as it was.
+pub refused-buffer : (n : ℕ) (a : Asked) → bufferLeft (answeringOf (Q.refusedBy n a)) ≡ bufferLent (askingOf a)
+unfolding Q.refusedBy refused
+refused-buffer n (Q.Straight (ForValue name fallback)) = refl
+refused-buffer n (Q.Straight (ForSource name)) = refl
+refused-buffer n (Q.Straight (ForPair k)) = refl
+refused-buffer n (Q.Straight ForWalk) = refl
+refused-buffer n (Q.Straight (ForSay o content buffer)) = refl
+refused-buffer n (Q.Straight (ForEnd o buffer)) = refl
+refused-buffer n (Q.Straight (ForFinish status buffer)) = refl
+refused-buffer n (Q.QueueSay o content) = refl
+refused-buffer n (Q.QueueEnd o) = refl
+refused-buffer n (Q.QueueFinish status) = refl
+refused-buffer n Serve = refl
 
 -- what is heard of R, as what is shown
 abbrev pub heardOf : ℕ → List (Observation queueingReceiver) → List Shown
@@ -150,22 +167,26 @@ call-shown R m id a k =
     n : Answering
     n = queueCalled m id a .answer
 
-    both : (b : Bool) (v w : Option Queued) → shownOf R (heardAt queueingReceiver waitingQueue b (asked a) (toldOf n) v w)
-        ≡ (if b then ShownLeaving a else ShownAnswer a n (coreOf queueingReceiver waitingQueue v) (coreOf queueingReceiver waitingQueue w))
-    both true v w = ap ShownLeaving (asking-back a)
-    both false v w = ap₂ (λ x y. ShownAnswer x y (coreOf queueingReceiver waitingQueue v) (coreOf queueingReceiver waitingQueue w)) (asking-back a) (answering-back n)
+    both : (b : Bool) (v w : Option Queued) → (b ≡ true → bufferLeft n ≡ bufferLent a) → shownOf R (heardAt queueingReceiver waitingQueue b (asked a) (toldOf n) v w)
+        ≡ (if b then ShownLeaving a (bufferLeft n) else ShownAnswer a n (coreOf queueingReceiver waitingQueue v) (coreOf queueingReceiver waitingQueue w))
+    both true v w f = ap (λ x. ShownLeaving x (bufferLent x)) (asking-back a) ∙ ap (ShownLeaving a) (sym (f refl))
+    both false v w f = ap₂ (λ x y. ShownAnswer x y (coreOf queueingReceiver waitingQueue v) (coreOf queueingReceiver waitingQueue w)) (asking-back a) (answering-back n)
 
-    own : eqb id R ≡ true → (if eqb id R then (if leavingOf R m then ShownLeaving a else ShownAnswer a n (requestShown R m) (requestShown R left)) ∷ [] else []) ≡ heardOf R (observations queueingReceiver (loadedQueue m) (CallItem (RequestCall id (asked a)) ∷ []))
+    shows : List Shown
+    shows = (if leavingOf R m then ShownLeaving a (bufferLeft n) else ShownAnswer a n (Run.requestOf R (m .memory)) (Run.requestOf R (left .memory))) ∷ []
+
+    own : eqb id R ≡ true → (if eqb id R then shows else []) ≡ heardOf R (observations queueingReceiver (loadedQueue m) (CallItem (RequestCall id (asked a)) ∷ []))
     own e =
         let i : id ≡ R = eqb-true id R e in
         let v = requestIn queueingReceiver id (loadedQueue m) in
         let w = requestIn queueingReceiver id (loadedQueue left) in
         let lv : isLeaving queueingReceiver waitingQueue v ≡ leavingOf R m = ap (λ j. isLeaving queueingReceiver waitingQueue (requestIn queueingReceiver j (loadedQueue m))) i ∙ leaving-is R m in
-        let cv : coreOf queueingReceiver waitingQueue v ≡ requestShown R m = ap (λ j. coreOf queueingReceiver waitingQueue (requestIn queueingReceiver j (loadedQueue m))) i ∙ core-is R m in
-        let cw : coreOf queueingReceiver waitingQueue w ≡ requestShown R left = ap (λ j. coreOf queueingReceiver waitingQueue (requestIn queueingReceiver j (loadedQueue left))) i ∙ core-is R left in
-        let r : heardOf R (observations queueingReceiver (loadedQueue m) (CallItem (RequestCall id (asked a)) ∷ [])) ≡ (if leavingOf R m then ShownLeaving a else ShownAnswer a n (requestShown R m) (requestShown R left)) ∷ [] =
+        let cv : coreOf queueingReceiver waitingQueue v ≡ Run.requestOf R (m .memory) = ap (λ j. coreOf queueingReceiver waitingQueue (requestIn queueingReceiver j (loadedQueue m))) i ∙ core-is R m in
+        let cw : coreOf queueingReceiver waitingQueue w ≡ Run.requestOf R (left .memory) = ap (λ j. coreOf queueingReceiver waitingQueue (requestIn queueingReceiver j (loadedQueue left))) i ∙ core-is R left in
+        let back : isLeaving queueingReceiver waitingQueue v ≡ true → bufferLeft n ≡ bufferLent a = λ t. leaving-buffer m id a (ap (λ j. leavingOf j m) i ∙ sym lv ∙ t) in
+        let r : heardOf R (observations queueingReceiver (loadedQueue m) (CallItem (RequestCall id (asked a)) ∷ [])) ≡ shows =
         ap (heardOf R) (call-observed m id a k) ∙ heard-one R id (asked a) (toldOf n) v w (no-serve a) ∙ rw e
-        (ap (λ x. x ∷ []) (both (isLeaving queueingReceiver waitingQueue v) v w ∙ ap₂ (λ (b : Bool) x. if b then ShownLeaving a else x) lv (ap₂ (λ x y. ShownAnswer a n x y) cv cw))) in
+        (ap (λ x. x ∷ []) (both (isLeaving queueingReceiver waitingQueue v) v w back ∙ ap₂ (λ (b : Bool) x. if b then ShownLeaving a (bufferLeft n) else x) lv (ap₂ (λ x y. ShownAnswer a n x y) cv cw))) in
         rw e (sym r)
 
 -- of a turn: nothing

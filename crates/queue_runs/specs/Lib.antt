@@ -1,3 +1,4 @@
+pub mod AfterFinish
 pub mod NewPremises
 pub mod Premises
 pub mod TwoRuns

@@ -24,13 +24,13 @@ use Rattle.examples.specs.RunTests.{allBelow, refusedIn, never-refused}
 use Rattle.queue_slot.specs.Atoms.{recordAtoms}
 use Rattle.queue_slot.specs.Wait.{byteAtoms, atomsIn}
 use Rattle.queue.specs.Calls.{QUEUE, QueueMemory}
-use Rattle.queue.specs.Run.{QueueOperation, StepOver, CallFor, CountActive, TurnWith, queueCalled, usedOf, queueAfter, waitsOf, leavingOf, requestShown, notesOf, shownIn, recordsOf, finalQueue, queueItems, queueTimeline, shownAll, writtenAll, notesAll, PiecesAreBytes, QueueRun, beginning}
+use Rattle.queue.specs.Run.{QueueOperation, StepOver, CallFor, CountActive, TurnWith, queueCalled, usedOf, queueAfter, waitsOf, leavingOf, notesOf, shownIn, recordsOf, finalQueue, queueItems, queueTimeline, shownAll, writtenAll, notesAll, PiecesAreBytes, QueueRun, beginning}
 use Rattle.queue.specs.Isolation.{isTen, NeverTenFrom, QuietBytes, scanned, QuietFrom, QuietAloneFrom, NeverOverloaded, Settled, SettledAlone}
 use Rattle.queue.specs.PumpTests.{computing}
 
 -- what a run, its timeline and what it shows and writes are computed with
 unfoldable pub judging : Unit {0}
-unfolding computing frontLength wholeFront front splitIn split byteItems itemBytes headerId headerContent headerPadding scanLeft scanWhole scanNext isOwn isOwnCall purgeFrom requestOf recordAtoms byteAtoms atomsIn waitsOf leavingOf requestShown notesOf shownIn recordsOf queueItems queueTimeline shownAll writtenAll notesAll
+unfolding computing frontLength wholeFront front splitIn split byteItems itemBytes headerId headerContent headerPadding scanLeft scanWhole scanNext isOwn isOwnCall purgeFrom requestOf recordAtoms byteAtoms atomsIn waitsOf leavingOf notesOf shownIn recordsOf queueItems queueTimeline shownAll writtenAll notesAll
 judging = tt
 
 -- both tests hold

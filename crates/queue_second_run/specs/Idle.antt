@@ -103,8 +103,8 @@ step-idle m piece n i low =
     (nobody-at (beside k nobodyWaits (m .marks) (m .queue)) i refl)
 
 -- ---- calls
--- rows of which that of 10 does not hold
-not-ten : (rows : List Row) → holdsIn 10 rows ≡ false → eqb (refusal rows) 10 ≡ false
+-- Rows of which that of 10 does not hold do not refuse by 10.
+pub not-ten : (rows : List Row) → holdsIn 10 rows ≡ false → eqb (refusal rows) 10 ≡ false
 not-ten rows h = ne-eqb (refusal rows) 10 (λ e. both-ways (holdsIn 10 rows) (refused-by rows 9 e) h)
 
 -- where row 3 holds, the refusal is not by 10
@@ -172,11 +172,12 @@ module _ (m : QueueMemory) (g : Good m) (n : NothingWaits m) (id : ℕ) where
       byTest (eqb (refusal rows) 0) (λ t. rw t) (λ t. rw t (not-ten rows refl))
 
 -- ---- a whole turn
--- the buffer is long enough
+-- the length of the buffer
 wide-length : length wideBuffer ≡ PUMPED * MOST
 unfolding wideBuffer
 wide-length = length-replicate (PUMPED * MOST) 0
 
+-- MOST records fit it
 wide-fits : ltb (length wideBuffer) (PUMPED * MOST) ≡ false
 wide-fits = let h : PUMPED * MOST ≤ length wideBuffer = omega (arith, wide-length) in le-ltb (length wideBuffer) (PUMPED * MOST) h
 
@@ -191,6 +192,7 @@ turn-taken m g o =
     let s = good-sound m g in
     rw (eq-eqb (length (m .memory .store)) STORE (s .full), eq-eqb (length (m .queue)) QUEUE (s .queue), s .shape, o, wide-fits)
 
+-- it is a turn of MOST records
 turn-left : (m : QueueMemory) → Good m → connOf m .«open» ≡ true → queueAfter m wholeTurn ≡ turned MOST m .left
 unfolding queueAfter
 turn-left m g o = ap (λ (p : Pumped). p .left) (pump-done m MOST wideBuffer (turn-taken m g o))

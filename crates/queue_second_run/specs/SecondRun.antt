@@ -1,18 +1,18 @@
--- The second run of isolation with a queue exists.
+-- The second run of isolation with a queue: R's items of a run, item by item.
 --
--- For each run A and each R there is a run B for R's items of A, from any gathered bytes, store, queue and marks:
--- each byte by a step of its own, each call in its place, and behind each call a turn of the pump that writes all that
--- waits. B meets all that isolation asks of it, so a receiver that gets stuck does not meet the statement.
---
--- Asked of A is only that no queued say of R has more than ROOM bytes. No such say is ever taken. Where isolation
--- holds of A it is refused there by a row before 10; that it is in B too would have to be shown along both runs.
+-- Take any run A and what striking out leaves of its timeline. B makes a step over each byte of that by itself and
+-- each of its calls, behind each call a turn of the pump that writes all that waits, and nothing more once the
+-- connection is closed. B is a run for R's items of A: no step gets stuck. It is settled, if no call of R in it is
+-- refused by 10; so it is if no queued say of R in A has more than ROOM bytes, whatever A is. `SecondRunExists` does
+-- without that premise where A fulfils what isolation asks of it.
 use mathlib.Core.Path.{_≡_, refl, ap}
 use mathlib.Core.List.{List, [], _∷_, _++_}
-use mathlib.Core.Logic.{_⊎_, inl, inr}
 use mathlib.Core.Bool.{Bool, true, false}
-use Prim.Native.Nat.{ℕ, zero, suc, _<_}
+use mathlib.Core.Logic.{_⊎_, inl, inr}
+use Prim.Native.Nat.{ℕ, zero, suc, _≤_, _<_}
 use native.Mathlib.Omega.{arith}
-use lib.ListN.{length, take}
+use lib.ListN.{length}
+use lib.Seq.{take-all}
 use Rattle.wire.specs.Test.{if_then_else_}
 use Rattle.wire.specs.Bytes.{AllBytes, take-bytes}
 use Rattle.machine.specs.Timeline.{Call, RequestCall, CountCall, Item, ByteItem, CallItem, byteItems, itemBytes, Scan, ScanHeader, scanNext, isOwn, isOwnCall, purgeFrom, purge}
@@ -21,230 +21,276 @@ use Rattle.connection.specs.Run.{startOf}
 use Rattle.connection.specs.Laws.Progress.{step-uses-some}
 use Rattle.queue.specs.Numbers.{nobodyWaits}
 use Rattle.queue.specs.Calls.{QUEUE, QueueMemory, beside, connOf, queueStep}
-use Rattle.queue.specs.Run.{Asking, QueueOperation, StepOver, CallFor, CountActive, TurnWith, usedOf, queueAfter, finalQueue, queueItems, queueTimeline, PiecesAreBytes, QueueRun, beginning, timelineOf}
+use Rattle.queue.specs.Run.{Asking, QueueOperation, StepOver, CallFor, CountActive, TurnWith, usedOf, queueAfter, finalQueue, queueItems, queueTimeline, PiecesAreBytes, QueueRun, beginning, ending, timelineOf}
 use Rattle.queue.specs.Isolation.{EndsBetweenRecords, NeverOverloaded, NeverTenFrom, QuietAloneFrom, Settled, SettledAlone, RunsFor, Isolated}
 use Rattle.queue_link.specs.Loaded.{queueStep-is, nobody-at}
 use Rattle.queue_link.specs.LoadedTurn.{Good}
-use Rattle.queue_link.specs.LinkedRuns.{Fine, op-fine}
+use Rattle.queue_link.specs.LinkedRuns.{PieceOk, Fine, op-fine}
 use Rattle.queue_theorem.specs.Theorem.{start-fine, isolation}
 use Rattle.queue_second_run.specs.Turns.{NothingWaits}
 use Rattle.queue_second_run.specs.Idle.{wholeTurn, SayFits, none-of, none-leaving, step-idle, idle-not-ten, turn-idle}
 
 -- ---- definitions
--- every item fulfils P
+-- a call, as an operation
+abbrev pub callOf : Call Asking → QueueOperation
+callOf (RequestCall id a) = CallFor id a
+callOf CountCall = CountActive
+
+-- Item by item from a memory on: a step over each byte, and each call with a whole turn behind it; nothing more once
+-- the connection is closed.
+unfoldable pub itemByItem : QueueMemory → List (Item Asking) → List QueueOperation
+itemByItem m [] = []
+itemByItem m (ByteItem b ∷ t) = if connOf m .«open» then StepOver (b ∷ []) ∷ itemByItem (queueAfter m (StepOver (b ∷ []))) t else []
+itemByItem m (CallItem c ∷ t) = if connOf m .«open» then callOf c ∷ (wholeTurn ∷ itemByItem (queueAfter (queueAfter m (callOf c)) wholeTurn) t) else []
+
+-- Each of the items is so.
 abbrev pub EachItem : (Item Asking → Type 0) → List (Item Asking) → Type 0
 EachItem P [] = Unit {0}
 EachItem P (x ∷ t) = P x × EachItem P t
 
--- the item is no queued say of R with more than ROOM bytes
-abbrev pub ItemFits : ℕ → Item Asking → Type 0
-ItemFits R (ByteItem b) = Unit {0}
-ItemFits R (CallItem (RequestCall id a)) = id ≡ R → SayFits a
-ItemFits R (CallItem CountCall) = Unit {0}
+-- a byte is one
+abbrev pub IsByte : Item Asking → Type 0
+IsByte (ByteItem b) = b < 256
+IsByte (CallItem c) = Unit {0}
 
--- No queued say of R among these items has more than ROOM bytes.
-abbrev pub SaysFit : ℕ → List (Item Asking) → Type 0
-SaysFit R t = EachItem (ItemFits R) t
+-- a queued say of R has at most ROOM bytes
+abbrev pub FitsOf : ℕ → Item Asking → Type 0
+FitsOf R (ByteItem b) = Unit {0}
+FitsOf R (CallItem (RequestCall id a)) = id ≡ R → SayFits a
+FitsOf R (CallItem CountCall) = Unit {0}
 
--- a call of a timeline, made
-abbrev pub callFor : Call Asking → QueueOperation
-callFor (RequestCall id a) = CallFor id a
-callFor CountCall = CountActive
+-- No queued say of R in the run has more than ROOM bytes.
+abbrev pub SaysFit : ℕ → QueueRun → Type 0
+SaysFit R r = EachItem (FitsOf R) (timelineOf r)
 
--- These items one after another, from a memory on: a step over each byte, each call with a whole turn behind it, and
--- nothing more once the connection is closed.
-unfoldable pub operationsFor : QueueMemory → List (Item Asking) → List QueueOperation
-operationsFor m [] = []
-operationsFor m (ByteItem b ∷ t) = if connOf m .«open» then StepOver (b ∷ []) ∷ operationsFor (queueAfter m (StepOver (b ∷ []))) t else []
-operationsFor m (CallItem c ∷ t) = if connOf m .«open» then callFor c ∷ wholeTurn ∷ operationsFor (queueAfter (queueAfter m (callFor c)) wholeTurn) t else []
+-- ---- items
+-- what is so of each item is so of each that striking out leaves
+each-purged : (P : Item Asking → Type 0) (R : ℕ) (k : Scan) (t : List (Item Asking)) → EachItem P t → EachItem P (purgeFrom R k t)
+unfolding purgeFrom
+each-purged P R k [] h = tt
+each-purged P R k (ByteItem b ∷ t) h = go (isOwn R k (b ∷ itemBytes t)) (each-purged P R (scanNext R k b) t (h .1))
+  where
+    go : (o : Bool) → EachItem P (purgeFrom R (scanNext R k b) t) → EachItem P (if o then ByteItem b ∷ purgeFrom R (scanNext R k b) t else purgeFrom R (scanNext R k b) t)
+    go true r = (h .0, r)
+    go false r = r
+each-purged P R k (CallItem c ∷ t) h = go (isOwnCall R c) (each-purged P R k t (h .1))
+  where
+    go : (o : Bool) → EachItem P (purgeFrom R k t) → EachItem P (if o then CallItem c ∷ purgeFrom R k t else purgeFrom R k t)
+    go true r = (h .0, r)
+    go false r = r
 
--- ---- items that purging leaves
--- a byte among them is a byte
-abbrev pub ByteFits : Item Asking → Type 0
-ByteFits (ByteItem b) = b < 256
-ByteFits (CallItem c) = Unit {0}
+-- bytes before items
+bytes-before : (x : List ℕ) (t : List (Item Asking)) → AllBytes x → EachItem IsByte t → EachItem IsByte (byteItems x ++ t)
+unfolding byteItems
+bytes-before [] t a h = h
+bytes-before (b ∷ x) t a h = (a 0, bytes-before x t (λ i. a (suc i)) h)
 
--- a list of one byte
-one-byte : (b : ℕ) → b < 256 → AllBytes (b ∷ [])
+-- the bytes of a timeline are bytes
+timeline-bytes : (os : List QueueOperation) (m : QueueMemory) → PiecesAreBytes os → EachItem IsByte (queueTimeline m os)
+unfolding queueTimeline queueItems
+timeline-bytes [] m p = tt
+timeline-bytes (StepOver piece ∷ os) m p =
+    bytes-before (usedOf m piece) (queueTimeline (queueAfter m (StepOver piece)) os) (take-bytes (queueStep m piece .used) piece (p .0)) (timeline-bytes os (queueAfter m (StepOver piece)) (p .1))
+timeline-bytes (CallFor id a ∷ os) m p = (tt, timeline-bytes os (queueAfter m (CallFor id a)) p)
+timeline-bytes (CountActive ∷ os) m p = (tt, timeline-bytes os (queueAfter m CountActive) p)
+timeline-bytes (TurnWith allowance buffer ∷ os) m p = timeline-bytes os (queueAfter m (TurnWith allowance buffer)) p
+
+-- Those that striking out leaves are.
+pub purged-bytes : (R : ℕ) (r : QueueRun) → EachItem IsByte (purge R (timelineOf r))
+purged-bytes R r = each-purged IsByte R (ScanHeader []) (timelineOf r) (timeline-bytes (r .operations) (beginning r) (r .pieces))
+
+-- ---- the operations
+-- A piece of one byte is bytes.
+pub one-byte : (b : ℕ) → b < 256 → AllBytes (b ∷ [])
 one-byte b h zero = h
 one-byte b h (suc i) = omega arith
 
--- what every item of a timeline fulfils, those that purging leaves fulfil
-each-purged : (P : Item Asking → Type 0) (R : ℕ) (t : List (Item Asking)) (k : Scan) → EachItem P t → EachItem P (purgeFrom R k t)
-unfolding purgeFrom
-each-purged P R [] k e = tt
-each-purged P R (ByteItem b ∷ t) k e = kept (isOwn R k (b ∷ itemBytes t)) (e .0) (each-purged P R t (scanNext R k b) (e .1))
-  where
-    kept : (o : Bool) → P (ByteItem b) → EachItem P (purgeFrom R (scanNext R k b) t) → EachItem P (if o then ByteItem b ∷ purgeFrom R (scanNext R k b) t else purgeFrom R (scanNext R k b) t)
-    kept true p q = (p, q)
-    kept false p q = q
-each-purged P R (CallItem c ∷ t) k e = kept (isOwnCall R c) (e .0) (each-purged P R t k (e .1))
-  where
-    kept : (o : Bool) → P (CallItem c) → EachItem P (purgeFrom R k t) → EachItem P (if o then CallItem c ∷ purgeFrom R k t else purgeFrom R k t)
-    kept true p q = (p, q)
-    kept false p q = q
+-- a call and a turn are over no piece
+call-pieces : (c : Call Asking) (os : List QueueOperation) → PiecesAreBytes os → PiecesAreBytes (callOf c ∷ (wholeTurn ∷ os))
+call-pieces (RequestCall id a) os p = p
+call-pieces CountCall os p = p
 
--- the items of bytes
-each-byte : (x : List ℕ) (t : List (Item Asking)) → AllBytes x → EachItem ByteFits t → EachItem ByteFits (byteItems x ++ t)
-unfolding byteItems
-each-byte [] t a e = e
-each-byte (b ∷ x) t a e = (a 0, each-byte x t (λ i. a (suc i)) e)
-
--- The bytes of a run are bytes.
-run-bytes : (os : List QueueOperation) (m : QueueMemory) → PiecesAreBytes os → EachItem ByteFits (queueTimeline m os)
-unfolding queueTimeline queueItems
-run-bytes [] m p = tt
-run-bytes (StepOver piece ∷ os) m p =
-    each-byte (usedOf m piece) (queueTimeline (queueAfter m (StepOver piece)) os) (take-bytes (queueStep m piece .used) piece (p .0)) (run-bytes os (queueAfter m (StepOver piece)) (p .1))
-run-bytes (CallFor id a ∷ os) m p = (tt, run-bytes os (queueAfter m (CallFor id a)) p)
-run-bytes (CountActive ∷ os) m p = (tt, run-bytes os (queueAfter m CountActive) p)
-run-bytes (TurnWith allowance buffer ∷ os) m p = run-bytes os (queueAfter m (TurnWith allowance buffer)) p
-
--- The steps are over bytes where those of the items are.
-pub operations-bytes : (t : List (Item Asking)) (m : QueueMemory) → EachItem ByteFits t → PiecesAreBytes (operationsFor m t)
-unfolding operationsFor
-operations-bytes [] m e = tt
-operations-bytes (ByteItem b ∷ t) m e = go (connOf m .«open») (operations-bytes t (queueAfter m (StepOver (b ∷ []))) (e .1))
+-- The steps are over bytes.
+pub item-pieces : (t : List (Item Asking)) (m : QueueMemory) → EachItem IsByte t → PiecesAreBytes (itemByItem m t)
+unfolding itemByItem
+item-pieces [] m h = tt
+item-pieces (ByteItem b ∷ t) m h = go (connOf m .«open») (item-pieces t (queueAfter m (StepOver (b ∷ []))) (h .1))
   where
     os : List QueueOperation
-    os = operationsFor (queueAfter m (StepOver (b ∷ []))) t
+    os = itemByItem (queueAfter m (StepOver (b ∷ []))) t
 
     go : (o : Bool) → PiecesAreBytes os → PiecesAreBytes (if o then StepOver (b ∷ []) ∷ os else [])
-    go true p = (one-byte b (e .0), p)
+    go true p = (one-byte b (h .0), p)
     go false p = tt
-operations-bytes (CallItem c ∷ t) m e = go (connOf m .«open») c (operations-bytes t (queueAfter (queueAfter m (callFor c)) wholeTurn) (e .1))
+item-pieces (CallItem c ∷ t) m h = go (connOf m .«open») (item-pieces t (queueAfter (queueAfter m (callOf c)) wholeTurn) (h .1))
   where
     os : List QueueOperation
-    os = operationsFor (queueAfter (queueAfter m (callFor c)) wholeTurn) t
+    os = itemByItem (queueAfter (queueAfter m (callOf c)) wholeTurn) t
 
-    go : (o : Bool) (d : Call Asking) → PiecesAreBytes os → PiecesAreBytes (if o then callFor d ∷ wholeTurn ∷ os else [])
-    go true (RequestCall id a) p = p
-    go true CountCall p = p
-    go false d p = tt
+    go : (o : Bool) → PiecesAreBytes os → PiecesAreBytes (if o then callOf c ∷ (wholeTurn ∷ os) else [])
+    go true p = call-pieces c os p
+    go false p = tt
 
--- ---- along the run
--- a step over one byte on an open connection uses it
-byte-used : (m : QueueMemory) (b : ℕ) → Good m → connOf m .«open» ≡ true → usedOf m (b ∷ []) ≡ b ∷ []
-byte-used m b g o =
-    let z = g .steady .steady in
-    let u = step-uses-some (m .memory .state) (m .memory .store) (b ∷ []) (z .shape) o (z .sizes .full) (omega arith) in
-    let e : queueStep m (b ∷ []) .used ≡ 1 = rw (queueStep-is m (b ∷ []) (g .steady)) (omega (arith, u .0, u .1)) in
-    ap (λ (n : ℕ). take n (b ∷ [])) e
+-- The second run: R's items of A, item by item, whatever its gathered bytes, store, queue and marks held before.
+abbrev pub secondRun : (R : ℕ) (A : QueueRun) (gathered store queue marks : List ℕ) → length gathered ≡ QUERY → length store ≡ STORE → length queue ≡ QUEUE → length marks ≡ QUEUE → QueueRun
+secondRun R A gathered store queue marks g s q k =
+    let m = beside (startOf gathered store) nobodyWaits marks queue in
+    record {
+      gathered = gathered;
+      store = store;
+      queue = queue;
+      marks = marks;
+      operations = itemByItem m (purge R (timelineOf A));
+      gathered-size = g;
+      store-size = s;
+      queue-size = q;
+      marks-size = k;
+      pieces = item-pieces (purge R (timelineOf A)) m (purged-bytes R A);
+    }
 
--- these operations are the items, as far as the connection is open, and meet what isolation asks of the second run
-record RunsAll (R : ℕ) (m : QueueMemory) (t : List (Item Asking)) (os : List QueueOperation) : Type 0 where
+-- ---- one item
+-- a step over one byte uses it
+one-used : (m : QueueMemory) (b : ℕ) → Good m → connOf m .«open» ≡ true → usedOf m (b ∷ []) ≡ b ∷ []
+one-used m b g o =
+    let z = g .steady in
+    let u = step-uses-some (m .memory .state) (m .memory .store) (b ∷ []) (z .steady .shape) o (z .steady .sizes .full) (omega arith) in
+    let h : length (b ∷ []) ≤ queueStep m (b ∷ []) .used = rw (queueStep-is m (b ∷ []) z) (u .0) in
+    take-all (queueStep m (b ∷ []) .used) (b ∷ []) h
+
+-- a call is over no piece
+call-ok : (c : Call Asking) → PieceOk (callOf c)
+call-ok (RequestCall id a) = tt
+call-ok CountCall = tt
+
+-- Behind a call and a whole turn nothing waits, and all is as in a run.
+pub call-idle : (m : QueueMemory) (c : Call Asking) → Fine m → Fine (queueAfter (queueAfter m (callOf c)) wholeTurn) × NothingWaits (queueAfter (queueAfter m (callOf c)) wholeTurn)
+call-idle m c k =
+    let i = op-fine m (callOf c) k (call-ok c) in
+    (op-fine (queueAfter m (callOf c)) wholeTurn i tt, turn-idle (queueAfter m (callOf c)) (i .good))
+
+-- What holds of the operations for these items, whatever is said: their timeline begins the items, and is all of them
+-- or the connection is closed; R is leaving at no byte; nothing waits at the end.
+record Through (R : ℕ) (m : QueueMemory) (t : List (Item Asking)) (os : List QueueOperation) : Type 0 where
   rest : List (Item Asking)
   prefix : queueTimeline m os ++ rest ≡ t
   all-or-closed : (rest ≡ []) ⊎ (connOf (finalQueue m os) .«open» ≡ false)
-  never-ten : NeverTenFrom R m os
   quiet : QuietAloneFrom R m os
   idle : NothingWaits (finalQueue m os)
 
 module _ (R : ℕ) where
-  -- nothing is done once it is closed
-  stops : (m : QueueMemory) (t : List (Item Asking)) → NothingWaits m → connOf m .«open» ≡ false → RunsAll R m t []
+  -- no operation: there is no item, or the connection is closed
+  through-none : (m : QueueMemory) (t : List (Item Asking)) → NothingWaits m → (t ≡ []) ⊎ (connOf m .«open» ≡ false) → Through R m t []
   unfolding queueTimeline finalQueue
-  stops m t n o = record { rest = t; prefix = refl; all-or-closed = inr o; never-ten = tt; quiet = tt; idle = n }
+  through-none m t n e = record { rest = t; prefix = refl; all-or-closed = e; quiet = tt; idle = n }
 
-  -- a byte, and what comes behind it
-  byte-runs : (m : QueueMemory) (b : ℕ) (t : List (Item Asking)) (os : List QueueOperation) → Good m → connOf m .«open» ≡ true → NothingWaits m
-      → RunsAll R (queueAfter m (StepOver (b ∷ []))) t os → RunsAll R m (ByteItem b ∷ t) (StepOver (b ∷ []) ∷ os)
+  -- a byte, and then these operations
+  through-byte : (m : QueueMemory) (b : ℕ) (t : List (Item Asking)) (os : List QueueOperation) → Good m → connOf m .«open» ≡ true → NothingWaits m
+      → Through R (queueAfter m (StepOver (b ∷ []))) t os → Through R m (ByteItem b ∷ t) (StepOver (b ∷ []) ∷ os)
   unfolding queueTimeline queueItems finalQueue byteItems
-  byte-runs m b t os g o n r = record {
+  through-byte m b t os g o n r = record {
     rest = r .rest;
-    prefix = rw (byte-used m b g o) (ap (λ l. ByteItem b ∷ l) (r .prefix));
+    prefix = rw (one-used m b g o) (ap (λ l. ByteItem b ∷ l) (r .prefix));
     all-or-closed = r .all-or-closed;
-    never-ten = r .never-ten;
     quiet = (inr (none-leaving R m n), r .quiet);
     idle = r .idle;
   }
 
-  -- a call, a whole turn, and what comes behind them
-  call-runs : (m : QueueMemory) (c : Call Asking) (t : List (Item Asking)) (os : List QueueOperation) → Good m → NothingWaits m → ItemFits R (CallItem c)
-      → RunsAll R (queueAfter (queueAfter m (callFor c)) wholeTurn) t os → RunsAll R m (CallItem c ∷ t) (callFor c ∷ wholeTurn ∷ os)
+  -- a call and a whole turn, and then these
+  through-call : (m : QueueMemory) (c : Call Asking) (t : List (Item Asking)) (os : List QueueOperation)
+      → Through R (queueAfter (queueAfter m (callOf c)) wholeTurn) t os → Through R m (CallItem c ∷ t) (callOf c ∷ (wholeTurn ∷ os))
   unfolding queueTimeline queueItems finalQueue queueAfter
-  call-runs m (RequestCall id a) t os g n s r = record {
+  through-call m (RequestCall id a) t os r = record {
     rest = r .rest;
     prefix = ap (λ l. CallItem (RequestCall id a) ∷ l) (r .prefix);
     all-or-closed = r .all-or-closed;
-    never-ten = (λ e. idle-not-ten m g n id a (s e), r .never-ten);
     quiet = r .quiet;
     idle = r .idle;
   }
-  call-runs m CountCall t os g n s r = record {
+  through-call m CountCall t os r = record {
     rest = r .rest;
     prefix = ap (λ l. CallItem CountCall ∷ l) (r .prefix);
     all-or-closed = r .all-or-closed;
-    never-ten = r .never-ten;
     quiet = r .quiet;
     idle = r .idle;
   }
 
-  -- a call keeps what every state of a run fulfils
-  call-fine : (m : QueueMemory) (c : Call Asking) → Fine m → Fine (queueAfter m (callFor c))
-  call-fine m (RequestCall id a) k = op-fine m (CallFor id a) k tt
-  call-fine m CountCall k = op-fine m CountActive k tt
-
-  -- From a memory as runs have them, where nothing waits, the operations for these items do so.
-  runs-all : (t : List (Item Asking)) (m : QueueMemory) → Fine m → NothingWaits m → EachItem ByteFits t → SaysFit R t → RunsAll R m t (operationsFor m t)
-  unfolding operationsFor queueTimeline finalQueue
-  runs-all [] m k n e s = record { rest = []; prefix = refl; all-or-closed = inl refl; never-ten = tt; quiet = tt; idle = n }
-  runs-all (ByteItem b ∷ t) m k n e s = go (connOf m .«open») refl (runs-all t next (op-fine m (StepOver (b ∷ [])) k (one-byte b (e .0))) (step-idle m (b ∷ []) n) (e .1) (s .1))
+  -- item by item
+  through : (t : List (Item Asking)) (m : QueueMemory) → Fine m → NothingWaits m → EachItem IsByte t → Through R m t (itemByItem m t)
+  unfolding itemByItem
+  through [] m k n h = through-none m [] n (inl refl)
+  through (ByteItem b ∷ t) m k n h =
+      let p = StepOver (b ∷ []) in
+      go (connOf m .«open») refl (through t (queueAfter m p) (op-fine m p k (one-byte b (h .0))) (step-idle m (b ∷ []) n) (h .1))
     where
-      next : QueueMemory
-      next = queueAfter m (StepOver (b ∷ []))
+      os : List QueueOperation
+      os = itemByItem (queueAfter m (StepOver (b ∷ []))) t
 
-      go : (o : Bool) → connOf m .«open» ≡ o → RunsAll R next t (operationsFor next t) → RunsAll R m (ByteItem b ∷ t) (if o then StepOver (b ∷ []) ∷ operationsFor next t else [])
-      go true o r = byte-runs m b t (operationsFor next t) (k .good) o n r
-      go false o r = stops m (ByteItem b ∷ t) n o
-  runs-all (CallItem c ∷ t) m k n e s = go (connOf m .«open») refl (runs-all t next (op-fine called wholeTurn fine tt) (turn-idle called (fine .good)) (e .1) (s .1))
+      go : (o : Bool) → connOf m .«open» ≡ o → Through R (queueAfter m (StepOver (b ∷ []))) t os → Through R m (ByteItem b ∷ t) (if o then StepOver (b ∷ []) ∷ os else [])
+      go true o r = through-byte m b t os (k .good) o n r
+      go false o r = through-none m (ByteItem b ∷ t) n (inr o)
+  through (CallItem c ∷ t) m k n h =
+      let i = call-idle m c k in
+      go (connOf m .«open») refl (through t (queueAfter (queueAfter m (callOf c)) wholeTurn) (i .0) (i .1) (h .1))
     where
-      called : QueueMemory
-      called = queueAfter m (callFor c)
+      os : List QueueOperation
+      os = itemByItem (queueAfter (queueAfter m (callOf c)) wholeTurn) t
 
-      fine : Fine called
-      fine = call-fine m c k
+      go : (o : Bool) → connOf m .«open» ≡ o → Through R (queueAfter (queueAfter m (callOf c)) wholeTurn) t os → Through R m (CallItem c ∷ t) (if o then callOf c ∷ (wholeTurn ∷ os) else [])
+      go true o r = through-call m c t os r
+      go false o r = through-none m (CallItem c ∷ t) n (inr o)
 
-      next : QueueMemory
-      next = queueAfter called wholeTurn
+  -- a call that is not refused by 10, and a whole turn, and then these
+  tens-call : (m : QueueMemory) (c : Call Asking) (os : List QueueOperation) → Good m → NothingWaits m → FitsOf R (CallItem c) → NeverTenFrom R (queueAfter (queueAfter m (callOf c)) wholeTurn) os
+      → NeverTenFrom R m (callOf c ∷ (wholeTurn ∷ os))
+  unfolding queueAfter
+  tens-call m (RequestCall id a) os g n f r = (λ e. idle-not-ten m g n id a (f e), r)
+  tens-call m CountCall os g n f r = r
 
-      go : (o : Bool) → connOf m .«open» ≡ o → RunsAll R next t (operationsFor next t) → RunsAll R m (CallItem c ∷ t) (if o then callFor c ∷ wholeTurn ∷ operationsFor next t else [])
-      go true o r = call-runs m c t (operationsFor next t) (k .good) n (s .0) r
-      go false o r = stops m (CallItem c ∷ t) n o
+  -- where no queued say of R has more than ROOM bytes, no call of R is refused by 10
+  fitting-tens : (t : List (Item Asking)) (m : QueueMemory) → Fine m → NothingWaits m → EachItem IsByte t → EachItem (FitsOf R) t → NeverTenFrom R m (itemByItem m t)
+  unfolding itemByItem
+  fitting-tens [] m k n h f = tt
+  fitting-tens (ByteItem b ∷ t) m k n h f =
+      let p = StepOver (b ∷ []) in
+      go (connOf m .«open») (fitting-tens t (queueAfter m p) (op-fine m p k (one-byte b (h .0))) (step-idle m (b ∷ []) n) (h .1) (f .1))
+    where
+      os : List QueueOperation
+      os = itemByItem (queueAfter m (StepOver (b ∷ []))) t
 
--- ---- the second run
-module _ (R : ℕ) (A : QueueRun) (gathered store queue marks : List ℕ) (gathered-size : length gathered ≡ QUERY) (store-size : length store ≡ STORE)
-    (queue-size : length queue ≡ QUEUE) (marks-size : length marks ≡ QUEUE) where
-  -- R's bytes of A are bytes
-  pub items-bytes : EachItem ByteFits (purge R (timelineOf A))
-  items-bytes = each-purged ByteFits R (timelineOf A) (ScanHeader []) (run-bytes (A .operations) (beginning A) (A .pieces))
+      go : (o : Bool) → NeverTenFrom R (queueAfter m (StepOver (b ∷ []))) os → NeverTenFrom R m (if o then StepOver (b ∷ []) ∷ os else [])
+      go true r = r
+      go false r = tt
+  fitting-tens (CallItem c ∷ t) m k n h f =
+      let i = call-idle m c k in
+      go (connOf m .«open») (fitting-tens t (queueAfter (queueAfter m (callOf c)) wholeTurn) (i .0) (i .1) (h .1) (f .1))
+    where
+      os : List QueueOperation
+      os = itemByItem (queueAfter (queueAfter m (callOf c)) wholeTurn) t
 
-  -- The run for R's items of A: the operations for what purging leaves of A's timeline, from these gathered bytes,
-  -- this store, this queue and these marks.
-  abbrev pub secondRun : QueueRun
-  secondRun =
-      record {
-        gathered = gathered;
-        store = store;
-        queue = queue;
-        marks = marks;
-        operations = operationsFor (beside (startOf gathered store) nobodyWaits marks queue) (purge R (timelineOf A));
-        gathered-size = gathered-size;
-        store-size = store-size;
-        queue-size = queue-size;
-        marks-size = marks-size;
-        pieces = operations-bytes (purge R (timelineOf A)) (beside (startOf gathered store) nobodyWaits marks queue) items-bytes;
-      }
+      go : (o : Bool) → NeverTenFrom R (queueAfter (queueAfter m (callOf c)) wholeTurn) os → NeverTenFrom R m (if o then callOf c ∷ (wholeTurn ∷ os) else [])
+      go true r = tens-call m c os (k .good) n (f .0) r
+      go false r = tt
 
-  -- It is a run for R's items of A, and settled, if no queued say of R in A has more than ROOM bytes.
-  pub second-run : SaysFit R (timelineOf A) → RunsFor R A secondRun × SettledAlone R secondRun
-  second-run s =
-      let B = secondRun in
-      let r = runs-all R (purge R (timelineOf A)) (beginning B) (start-fine B) (λ i low. nobody-at (beginning B) i refl) items-bytes (each-purged (ItemFits R) R (timelineOf A) (ScanHeader []) s) in (
-        record { rest = r .rest; prefix = r .prefix; all-or-closed = r .all-or-closed },
-        record { never-ten = r .never-ten; quiet = r .quiet; nothing-waits = none-of R (finalQueue (beginning B) (B .operations)) (r .idle) },
-      )
+-- ---- the theorem
+module _ (R : ℕ) (A : QueueRun) (gathered store queue marks : List ℕ) (g : length gathered ≡ QUERY) (s : length store ≡ STORE) (q : length queue ≡ QUEUE) (k : length marks ≡ QUEUE) where
+  -- the second run
+  abbrev B : QueueRun
+  B = secondRun R A gathered store queue marks g s q k
 
-  -- So where A meets what isolation asks of it, the two are isolated.
-  pub second-run-isolated : 0 < R → EndsBetweenRecords A → NeverOverloaded R A → Settled R A → SaysFit R (timelineOf A) → Isolated R A secondRun
-  second-run-isolated low ends never settled s = let b = second-run s in isolation R A secondRun low ends never (b .0) settled (b .1)
+  -- Nothing waits at its start.
+  pub start-idle : NothingWaits (beginning B)
+  start-idle i low = nobody-at (beginning B) i refl
+
+  -- B is a run for R's items of A, and settled if no call of R in it is refused by 10.
+  pub second-run-unheld : NeverTenFrom R (beginning B) (B .operations) → RunsFor R A B × SettledAlone R B
+  second-run-unheld never =
+      let h = through R (purge R (timelineOf A)) (beginning B) (start-fine B) start-idle (purged-bytes R A) in
+      (record { rest = h .rest; prefix = h .prefix; all-or-closed = h .all-or-closed }, record { never-ten = never; quiet = h .quiet; nothing-waits = none-of R (ending B) (h .idle) })
+
+  -- So it is if no queued say of R in A has more than ROOM bytes, whatever A is.
+  pub second-run : SaysFit R A → RunsFor R A B × SettledAlone R B
+  second-run f = second-run-unheld (fitting-tens R (purge R (timelineOf A)) (beginning B) (start-fine B) start-idle (purged-bytes R A) (each-purged (FitsOf R) R (ScanHeader []) (timelineOf A) f))
+
+  -- Then it is isolated from A, if A fulfils what isolation asks of it.
+  pub fitting-isolated : 0 < R → EndsBetweenRecords A → NeverOverloaded R A → Settled R A → SaysFit R A → Isolated R A B
+  fitting-isolated low ends never settled f = let h = second-run f in isolation R A B low ends never (h .0) settled (h .1)

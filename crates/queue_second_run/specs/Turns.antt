@@ -171,6 +171,7 @@ module _ (m : QueueMemory) (g : Good m) (i : ℕ) (low : i < SLOTS) (w : slotWai
   abbrev id : ℕ
   id = getD (connOf m .table .ids) i 0
 
+  -- it is found there
   found : find (connOf m .table) id ≡ Slot.At i
   found = waits-found m i (g .steady) low is-open w
 
@@ -205,10 +206,12 @@ module _ (m : QueueMemory) (g : Good m) (i : ℕ) (low : i < SLOTS) (w : slotWai
   unfolding C.released
   free-open = is-open
 
+  -- nothing waits there then
   freed : Good (releasedSlot (servedLast m i) i true) → anything (waitAt (releasedSlot (servedLast m i) i true) i) ≡ false
   unfolding C.released
   freed k = slot-free (releasedSlot (servedLast m i) i true) i (k .steady) free-open low (taken-of-free (connOf m .table) i low)
 
+  -- so fewer things wait
   fewer-free : Good (releasedSlot (servedLast m i) i true) → waitingIn (releasedSlot (servedLast m i) i true) < waitingIn m
   fewer-free k =
       let n = releasedSlot (servedLast m i) i true in

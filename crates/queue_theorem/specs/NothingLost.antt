@@ -24,14 +24,14 @@ use Rattle.queue_link.specs.LinkedQueued.{decided-answer}
 use Rattle.queue_link.specs.LinkedFinish.{call-is}
 use Rattle.queue_link.specs.LinkedWritten.{wrote-bytes}
 use Rattle.queue.specs.Numbers.{lastAt}
-use Rattle.queue.specs.Run.{Answering, leavingOf, Asking, QueueOperation, CallFor, CountActive, TurnWith, queueCalled, queueAfter, requestShown, PiecesAreBytes, beginning, ending}
+use Rattle.queue.specs.Run.{Answering, leavingOf, Asking, QueueOperation, CallFor, CountActive, TurnWith, queueCalled, queueAfter, PiecesAreBytes, beginning, ending}
 use Rattle.queue.specs.NothingLost as N
 use lib.Dec.{eqb}
 use borrow.Author.Tests.{eqb-true}
 use Rattle.wire.specs.Test.{if_then_else_, byTest}
 use Rattle.machine.specs.Timeline.{RequestCall, CountCall, CallItem}
 use Rattle.machine.specs.RunLaws.{observations-append, observed-append}
-use Rattle.machine_queue.specs.Waiting.{coreOf, waitsIn}
+use Rattle.machine_queue.specs.Waiting.{isLeaving, coreOf, waitsIn}
 use Rattle.machine_queue.specs.Accounts as S
 use Rattle.machine_queue.specs.Accounts.{saidAs, saidIn, saidAll}
 use Rattle.connection.specs.Request.{Held}
@@ -43,7 +43,7 @@ use Rattle.queue_machine.specs.LiftRuns.{liftSeen}
 use Rattle.queue_link.specs.Loaded.{waitingOf, loadedQueue}
 use Rattle.queue_link.specs.LoadedTurn.{servesOf}
 use Rattle.queue_link.specs.Observing.{served-seen}
-use Rattle.queue_link.specs.LinkedRuns.{servedBy, machineItems, machineTimeline, Fine, op-is, op-fine, piece-ok, core-is, waits-are}
+use Rattle.queue_link.specs.LinkedRuns.{servedBy, machineItems, machineTimeline, Fine, op-is, op-fine, piece-ok, leaving-is, core-is, waits-are}
 use Rattle.queue_link.specs.LinkedShown.{step-observed, call-observed, no-serve}
 use Rattle.queue_theorem.specs.Theorem.{items, start-fine, ends-as, seen-as, never-full, written-as}
 use Rattle.queue.specs.Calls.{QueueMemory, connOf}
@@ -56,10 +56,14 @@ abbrev saidBy : Option Held → Asked → QueueAnswer → List Atom
 saidBy none a n = []
 saidBy (some h) a n = if Q.isTen n then [] else Q.saidIn a h
 
+-- R's request; none where it is leaving
+unfoldable liveRequest : ℕ → QueueMemory → Option Held
+liveRequest R m = if leavingOf R m then none else requestOf R (m .memory)
+
 -- what an operation says of R
 unfoldable saidOp : ℕ → QueueMemory → QueueOperation → List Atom
 saidOp R m (D.StepOver piece) = []
-saidOp R m (CallFor id a) = if eqb id R then saidBy (requestShown R m) (asked a) (toldOf (queueCalled m id a .answer)) else []
+saidOp R m (CallFor id a) = if eqb id R then saidBy (liveRequest R m) (asked a) (toldOf (queueCalled m id a .answer)) else []
 saidOp R m CountActive = []
 saidOp R m (TurnWith allowance buffer) = []
 
@@ -75,8 +79,16 @@ saidOf R os = saidAll queueingReceiver waitingQueue (observed queueingReceiver R
 said-append : (R : ℕ) (os ps : List (Observation queueingReceiver)) → saidOf R (os ++ ps) ≡ saidOf R os ++ saidOf R ps
 said-append R os ps = ap (saidAll queueingReceiver waitingQueue) (observed-append queueingReceiver R os ps) ∙ S.said-append queueingReceiver waitingQueue (observed queueingReceiver R os) (observed queueingReceiver R ps)
 
-said-call : (id : ℕ) (a : Asked) (n : QueueAnswer) (v w : Option Queued) → Q.isServeCall a ≡ false → saidIn queueingReceiver waitingQueue (CallAnswer id a n v w) ≡ saidBy (coreOf queueingReceiver waitingQueue v) a n
-unfolding saidIn saidAs coreOf
+-- the core of a request that is not leaving
+abbrev liveCore : Option Queued → Option Held
+liveCore v = if isLeaving queueingReceiver waitingQueue v then none else coreOf queueingReceiver waitingQueue v
+
+live-is : (R : ℕ) (m : QueueMemory) → liveCore (requestIn queueingReceiver R (loadedQueue m)) ≡ liveRequest R m
+unfolding liveRequest
+live-is R m = ap₂ (λ (b : Bool) (x : Option Held). if b then none else x) (leaving-is R m) (core-is R m)
+
+said-call : (id : ℕ) (a : Asked) (n : QueueAnswer) (v w : Option Queued) → Q.isServeCall a ≡ false → saidIn queueingReceiver waitingQueue (CallAnswer id a n v w) ≡ saidBy (liveCore v) a n
+unfolding saidIn saidAs isLeaving coreOf
 said-call id a n none w s = refl
 said-call id a n (some r) w s = byTest (endWaits (r .waiting)) (λ e. rw (s, e)) (λ e. rw (s, e))
 
@@ -122,10 +134,10 @@ call-says R m id a k =
     let n = toldOf (queueCalled m id a .answer) in
     let v = requestIn queueingReceiver id (loadedQueue m) in
     let w = requestIn queueingReceiver id (loadedQueue (queueCalled m id a .left)) in
-    let r : saidOf R (observations queueingReceiver (loadedQueue m) (CallItem (RequestCall id (asked a)) ∷ [])) ≡ (if eqb id R then saidBy (coreOf queueingReceiver waitingQueue v) (asked a) n else []) =
+    let r : saidOf R (observations queueingReceiver (loadedQueue m) (CallItem (RequestCall id (asked a)) ∷ [])) ≡ (if eqb id R then saidBy (liveCore v) (asked a) n else []) =
     ap (saidOf R) (call-observed m id a k) ∙ said-one R id (asked a) n v w ∙ ap (λ l. if eqb id R then l else []) (said-call id (asked a) n v w (no-serve a)) in
     byTest (eqb id R)
-    (λ e. let c : coreOf queueingReceiver waitingQueue v ≡ requestShown R m = ap (λ j. coreOf queueingReceiver waitingQueue (requestIn queueingReceiver j (loadedQueue m))) (eqb-true id R e) ∙ core-is R m in
+    (λ e. let c : liveCore v ≡ liveRequest R m = ap (λ j. liveCore (requestIn queueingReceiver j (loadedQueue m))) (eqb-true id R e) ∙ live-is R m in
     ap (λ x. if eqb id R then saidBy x (asked a) n else []) (sym c) ∙ sym r)
     (λ e. rw e (sym (r ∙ rw e)))
 
@@ -171,25 +183,25 @@ request-at : (m : QueueMemory) (id : ℕ) → connOf m .«open» ≡ true → (s
 request-at m id o s f = request-when m id true o ∙ ap (λ (x : Slot). onSlot x (λ i. some (heldAt (connOf m .table) (m .memory .store) i)) none) f
 
 shown-when : (m : QueueMemory) (id : ℕ) (b : Bool) → connOf m .«open» ≡ b
-    → requestShown id m ≡ (if (if b then onSlot (find (connOf m .table) id) (λ i. lastAt (m .waits) i) false else false) then none else requestOf id (m .memory))
-unfolding requestShown leavingOf
+    → liveRequest id m ≡ (if (if b then onSlot (find (connOf m .table) id) (λ i. lastAt (m .waits) i) false else false) then none else requestOf id (m .memory))
+unfolding liveRequest leavingOf
 shown-when m id b o = ap (λ (c : Bool). if (if c then onSlot (find (connOf m .table) id) (λ i. lastAt (m .waits) i) false else false) then none else requestOf id (m .memory)) o
 
 shown-at : (m : QueueMemory) (id : ℕ) → connOf m .«open» ≡ true → (s : Slot) → find (connOf m .table) id ≡ s
-    → requestShown id m ≡ (if onSlot s (λ i. lastAt (m .waits) i) false then none else onSlot s (λ i. some (heldAt (connOf m .table) (m .memory .store) i)) none)
+    → liveRequest id m ≡ (if onSlot s (λ i. lastAt (m .waits) i) false then none else onSlot s (λ i. some (heldAt (connOf m .table) (m .memory .store) i)) none)
 shown-at m id o s f =
     shown-when m id true o ∙ ap (λ (x : Slot). if onSlot x (λ i. lastAt (m .waits) i) false then none else requestOf id (m .memory)) f
     ∙ ap (λ v. if onSlot s (λ i. lastAt (m .waits) i) false then none else v) (request-at m id o s f)
 
 -- a call of an id, as the accounts have it
 unfoldable Told : QueueMemory → ℕ → Asking → QueueAnswer → Type 0
-Told m id a n = toldBy (asked a) n (requestOf id (m .memory)) ≡ saidBy (requestShown id m) (asked a) n
+Told m id a n = toldBy (asked a) n (requestOf id (m .memory)) ≡ saidBy (liveRequest id m) (asked a) n
 
-told-none : (m : QueueMemory) (id : ℕ) (a : Asking) (n : QueueAnswer) → requestOf id (m .memory) ≡ none → requestShown id m ≡ none → toldBy (asked a) n none ≡ [] → Told m id a n
+told-none : (m : QueueMemory) (id : ℕ) (a : Asking) (n : QueueAnswer) → requestOf id (m .memory) ≡ none → liveRequest id m ≡ none → toldBy (asked a) n none ≡ [] → Told m id a n
 unfolding Told
 told-none m id a n e d f = rw (e, d) f
 
-told-some : (m : QueueMemory) (id : ℕ) (a : Asking) (r : Queued) → requestOf id (m .memory) ≡ some (r .held) → requestShown id m ≡ (if endWaits (r .waiting) then none else some (r .held))
+told-some : (m : QueueMemory) (id : ℕ) (a : Asking) (r : Queued) → requestOf id (m .memory) ≡ some (r .held) → liveRequest id m ≡ (if endWaits (r .waiting) then none else some (r .held))
     → Told m id a (Q.outcomeAnswer (queuedCall (asked a) r))
 unfolding Told
 told-some m id a r e d =
@@ -207,7 +219,7 @@ told-call m k id a =
     closed-request : connOf m .«open» ≡ false → requestOf id (m .memory) ≡ none
     closed-request o = request-when m id false o
 
-    closed-shown : connOf m .«open» ≡ false → requestShown id m ≡ none
+    closed-shown : connOf m .«open» ≡ false → liveRequest id m ≡ none
     closed-shown o = shown-when m id false o ∙ request-when m id false o
 
     go : connOf m .«open» ≡ true → (s : Slot) → find (connOf m .table) id ≡ s → Told m id a (answerIn ((onItem queueingReceiver (loadedQueue m) (CallItem (RequestCall id (asked a)))) .1))
@@ -233,8 +245,8 @@ call-told R m id a k =
     byTest (eqb id R)
     (λ e.
     let t : Told m id a (toldOf n) = subst (λ x. Told m id a x) (sym (call-is m id a (k .good) (k .ends) .answer)) (told-call m k id a) in
-    let u : toldBy (asked a) (toldOf n) (requestOf R (m .memory)) ≡ saidBy (requestShown R m) (asked a) (toldOf n) =
-    subst (λ j. toldBy (asked a) (toldOf n) (requestOf j (m .memory)) ≡ saidBy (requestShown j m) (asked a) (toldOf n)) (eqb-true id R e) t in
+    let u : toldBy (asked a) (toldOf n) (requestOf R (m .memory)) ≡ saidBy (liveRequest R m) (asked a) (toldOf n) =
+    subst (λ j. toldBy (asked a) (toldOf n) (requestOf j (m .memory)) ≡ saidBy (liveRequest j m) (asked a) (toldOf n)) (eqb-true id R e) t in
     rw e (as-told a n (requestOf R (m .memory)) ∙ u))
     (λ e. rw e)
 

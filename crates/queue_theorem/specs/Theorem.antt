@@ -22,6 +22,7 @@ use Rattle.machine_queue.specs.Waiting.{Heard, coreOf, waitsIn, unserved, Quiet
 use Rattle.connection.specs.Sizes.{SLOTS}
 use Rattle.connection.specs.Event.{Event}
 use Rattle.connection.specs.Bytewise.{Note}
+use Rattle.connection.specs.Run.{requestOf}
 use Rattle.connection.specs.Runs.Receiver.{receiver}
 use Rattle.connection.specs.Runs.LinkingStep.{loadedOf, closed-loaded}
 use Rattle.connection.specs.Runs.LinkingRuns.{start-loaded, start-steady, BetweenRecords, between-loaded, loaded-between}
@@ -38,7 +39,7 @@ use Rattle.queue_link.specs.LoadedTurn.{Good}
 use Rattle.queue_machine.specs.EndsRight.{ends-laws}
 use Rattle.machine_queue.specs.IdsBelow.{IdsBelow, below-fresh}
 use Rattle.queue_link.specs.LinkedRuns.{machineTimeline, Fine, RunIs, run-is, waits-are, core-is}
-use Rattle.queue_link.specs.LinkedShown.{shownOf, heardOf, run-shown}
+use Rattle.queue_link.specs.LinkedShown.{shownOf, refused-buffer, heardOf, run-shown}
 use Rattle.queue_link.specs.LinkedWrites.{writtenOf, run-writes}
 use Rattle.queue_link.specs.LinkedTimeline.{askedItems, asked-same, asked-append, run-unserved, run-purged}
 use Rattle.queue_link.specs.LinkedPremises.{run-full, run-unheld}
@@ -46,7 +47,7 @@ use Rattle.queue_link.specs.LinkedQuiet.{run-quiet, run-alone}
 use Rattle.queue_link.specs.LinkedPosition.{run-place}
 use Rattle.queue.specs.Calls.{QUEUE, QueueMemory, connOf, roomAt, waitAt}
 use Rattle.queue.specs.Run as D
-use Rattle.queue.specs.Run.{Asking, QueueRun, beginning, ending, timelineOf, shown, written, requestShown}
+use Rattle.queue.specs.Run.{Asking, QueueRun, beginning, ending, timelineOf, shown, written}
 use Rattle.queue.specs.Isolation as I
 use Rattle.queue.specs.Isolation.{EndsBetweenRecords, NeverOverloaded, Settled, SettledAlone, RunsFor}
 
@@ -139,7 +140,7 @@ module _ (r : QueueRun) where
   pub written-as : (R : ℕ) → written R r ≡ writtenOf R (ranFresh queueingReceiver 15 items .seen)
   written-as R = run-writes R (r .operations) start start-fine (r .pieces) ∙ ap (writtenOf R) seen-as
 
-  core-as : (R : ℕ) → requestShown R (ending r) ≡ coreOf queueingReceiver waitingQueue (requestIn queueingReceiver R (ranFresh queueingReceiver 15 items .state))
+  core-as : (R : ℕ) → requestOf R (ending r .memory) ≡ coreOf queueingReceiver waitingQueue (requestIn queueingReceiver R (ranFresh queueingReceiver 15 items .state))
   core-as R = sym (core-is R (ending r)) ∙ ap (λ s. coreOf queueingReceiver waitingQueue (requestIn queueingReceiver R s)) ends-as
 
   -- ---- between two records
@@ -184,8 +185,8 @@ module _ (r : QueueRun) where
 same-save : (R : ℕ) {xs ys : List (Heard queueingReceiver waitingQueue)} → W.SameSave queueingReceiver waitingQueue xs ys → I.SameSave (map (shownOf R) xs) (map (shownOf R) ys)
 same-save R W.SaveNone = I.SaveNone
 same-save R (W.SaveSame s) = I.SaveSame (same-save R s)
-same-save R (W.SaveFirst s) = I.SaveFirst (same-save R s)
-same-save R (W.SaveSecond s) = I.SaveSecond (same-save R s)
+same-save R (W.SaveFirst {a = a} s) = rw (← (refused-buffer 3 a)) (I.SaveFirst (same-save R s))
+same-save R (W.SaveSecond {a = a} s) = rw (← (refused-buffer 3 a)) (I.SaveSecond (same-save R s))
 
 -- Demand 3 with the queue.
 pub isolation : I.Isolation
@@ -217,12 +218,12 @@ abbrev pub Plain : List D.Shown → Type 0
 Plain [] = Unit {0}
 Plain (D.ShownNote n ∷ l) = Plain l
 Plain (D.ShownAnswer a n v w ∷ l) = Plain l
-Plain (D.ShownLeaving a ∷ l) = ⊥
+Plain (D.ShownLeaving a b ∷ l) = ⊥
 
 plain-rest : (x : D.Shown) (l : List D.Shown) → Plain (x ∷ l) → Plain l
 plain-rest (D.ShownNote n) l h = h
 plain-rest (D.ShownAnswer a n v w) l h = h
-plain-rest (D.ShownLeaving a) l h = absurd h
+plain-rest (D.ShownLeaving a b) l h = absurd h
 
 -- Then what is shown of R is the same list, as in the theorem without a queue.
 pub plain-same : {xs ys : List D.Shown} → I.SameSave xs ys → Plain xs → Plain ys → xs ≡ ys

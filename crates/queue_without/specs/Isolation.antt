@@ -22,17 +22,17 @@ use Rattle.connection.specs.Arguments.{Argument, ForWalk, Answer, ValueIs}
 use Rattle.connection.specs.Run as Base
 use Rattle.connection.specs.Run.{Memory, Operation, Observed, Heard, Answered, memoryAfter, requestOf, seenOf, WholeRun}
 use Rattle.connection.specs.Isolation as Without
-use Rattle.connection.specs.Runs.SecondRun.{secondRun, second-run}
 use Rattle.connection.specs.Runs.Shuffled.{shuffle}
 use Rattle.examples.specs.RunTests.{heardIn}
 use Rattle.queue.specs.Calls.{QueueMemory, connOf}
 use Rattle.queue.specs.Run as D
-use Rattle.queue.specs.Run.{Asking, Straight, QueueOperation, Answering, Straightly, Shown, ShownNote, ShownAnswer, ShownLeaving, requestShown, QueueRun}
+use Rattle.queue.specs.Run.{Asking, Straight, QueueOperation, Answering, Straightly, Shown, ShownNote, ShownAnswer, ShownLeaving, QueueRun}
 use Rattle.queue.specs.Isolation as With
 use Rattle.queue_theorem.specs.Theorem
 use Rattle.queue_runs.specs.Premises.{Quiet, isWell, scanAfter, goesWell, amongOthers, onItsOwn, settled, settled-alone}
+use Rattle.queue_without.specs.AnyCutting.{AnyRun, cutting-from}
 use Rattle.queue_without.specs.Operations.{plainly, idle, plainItem, plainShown, zeroQueue, withoutQueue, never-ten, call-same, after-same}
-use Rattle.queue_without.specs.WholeRuns.{NothingQueued, plainPart, PlainRun, SameRun, waits-none, leaving-none, request-same, through, without-plain, without-same, same-run, unqueued-plain, unqueued-same}
+use Rattle.queue_without.specs.WholeRuns.{NothingQueued, plainPart, PlainRun, SameRun, waits-none, leaving-none, through, without-plain, without-same, same-run, unqueued-plain, unqueued-same}
 
 -- ---- nothing is lost between the two
 -- the arguments of a straight call
@@ -57,7 +57,7 @@ itemBack (CallItem CountCall) = CallItem CountCall
 abbrev shownBack : ℕ → Shown → Observed
 shownBack R (ShownNote n) = Heard n
 shownBack R (ShownAnswer a n before after) = Answered R (argumentOf a) (answerOf n) before after
-shownBack R (ShownLeaving a) = Heard (Note.Told Event.None)
+shownBack R (ShownLeaving a buffer) = Heard (Note.Told Event.None)
 
 items-back : (t : List (Item Argument)) → map itemBack (map plainItem t) ≡ t
 items-back [] = refl
@@ -166,8 +166,8 @@ module _ (w : WholeRun) (r : QueueRun) (p : PlainRun w r) where
   same-purged R = ap (purge R) (same .same-timeline) ∙ plain-purged R (ScanHeader []) (Base.timelineOf w)
 
   -- R's request at the end is the same.
-  pub same-requests : (R : ℕ) → requestShown R (D.ending r) ≡ requestOf R (Base.ending w)
-  same-requests R = ap (requestShown R) (same .same-ending) ∙ request-same (r .marks) (r .queue) (Base.ending w) R
+  pub same-requests : (R : ℕ) → requestOf R (D.ending r .memory) ≡ requestOf R (Base.ending w)
+  same-requests R = ap (λ (m : QueueMemory). requestOf R (m .memory)) (same .same-ending)
 
   well : (quiet : Quiet) → ((k : Scan) (x rest : List ℕ) → quiet false k x rest ≡ true) → (R : ℕ) → goesWell quiet R (D.beginning r) (ScanHeader []) (r .operations) ≡ true
   well quiet holds R = through w r p (λ m os. goesWell quiet R m (ScanHeader []) os) ∙ goes-well (r .marks) (r .queue) quiet holds R (w .operations) (Base.beginning w) (ScanHeader [])
@@ -225,7 +225,7 @@ module _ (R : ℕ) (A B : WholeRun) where
       }
 
 -- The first half: any two runs without a queue that meet the premises are isolated.
-pub any-run-without : With.Isolation → (R : ℕ) (A B : WholeRun) → 0 < R → Without.EndsBetweenRecords A → Without.NeverOverloaded R A → Without.RunsFor R A B → Without.Isolated R A B
+pub any-run-without : With.Isolation → AnyRun
 any-run-without q R A B low ends never runs =
     isolated-without R A B
     (q R (withZeros A) (withZeros B) low (ends-with A (withZeros A) (plain A) ends) (never-with A (withZeros A) (plain A) R never) (runs-with R A B runs) (settled-without A (withZeros A) (plain A) R)
@@ -234,18 +234,7 @@ any-run-without q R A B low ends never runs =
 -- Isolation without a queue is an instance of isolation with a queue. (That every cutting can be run to its end is
 -- shown without a queue, by `SecondRun.second-run`; that such a run is isolated is the instance.)
 pub isolation-without : With.Isolation → Without.Isolation
-isolation-without q = record {
-  any-run = any-run-without q;
-  any-cutting = λ R A gathered store ps low ends never size full pieces e.
-      let B = secondRun gathered store ps size full pieces in
-      record {
-        run = B;
-        same-gathered = refl;
-        same-store = refl;
-        each-stepped = refl;
-        isolated = any-run-without q R A B low ends never (second-run R A gathered store ps size full pieces low ends never e);
-      };
-}
+isolation-without q = record { any-run = any-run-without q; any-cutting = cutting-from (any-run-without q) }
 
 -- So it is proved a second time.
 pub isolation-again : Without.Isolation
@@ -255,7 +244,7 @@ isolation-again = isolation-without Theorem.isolation
 -- What of R is the same in two runs with a queue: what is shown of it, and its request and area at the end.
 pub record SameShown (R : ℕ) (A B : QueueRun) : Type 0 where
   pub same-shown : D.shown R A ≡ D.shown R B
-  pub same-request : requestShown R (D.ending A) ≡ requestShown R (D.ending B)
+  pub same-request : requestOf R (D.ending A .memory) ≡ requestOf R (D.ending B .memory)
 
 -- By the theorem without a queue: no request can tell two shuffles apart that are made by the calls with a queue, if
 -- nothing is queued and no turn is made in either.

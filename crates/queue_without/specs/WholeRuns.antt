@@ -25,7 +25,7 @@ use Rattle.queue_slot.specs.ServeLaws as Serve
 use Rattle.queue.specs.Numbers.{nobodyWaits, lastAt}
 use Rattle.queue.specs.Calls.{QueueMemory, waitAt}
 use Rattle.queue.specs.Run as D
-use Rattle.queue.specs.Run.{Asking, Straight, QueueOperation, Straightly, waitsOf, leavingOf, requestShown, Shown, ShownNote, ShownAnswer, notesOf, shownIn, recordsOf, writtenBytes, bytesIn, finalQueue, queueItems, queueTimeline, shownAll, writtenAll, notesAll, PiecesAreBytes, QueueRun}
+use Rattle.queue.specs.Run.{Asking, Straight, QueueOperation, Straightly, waitsOf, leavingOf, Shown, ShownNote, ShownAnswer, notesOf, shownIn, recordsOf, writtenBytes, bytesIn, finalQueue, queueItems, queueTimeline, shownAll, writtenAll, notesAll, PiecesAreBytes, QueueRun}
 use Rattle.queue_link.specs.Loaded.{nobody-at}
 use Rattle.queue_runs.specs.Lists.{isQueued}
 use Rattle.queue_runs.specs.Closing.{both-ways}
@@ -133,11 +133,6 @@ module _ (marks queue : List ℕ) (m : Memory) where
       go true Slot.Nowhere = refl
       go false s = refl
 
-  -- So its request and area are shown.
-  pub request-same : (R : ℕ) → requestShown R still ≡ requestOf R m
-  unfolding requestShown
-  request-same R = rw (leaving-none R)
-
   items-same : (o : Operation) → queueItems still (plainly o) ≡ map plainItem (itemsOf m o)
   unfolding queueItems itemsOf
   items-same (Base.StepOver piece) = rw (step-same marks queue m piece) (bytes-plain (Base.usedOf m piece))
@@ -153,7 +148,7 @@ shown-op marks queue R m (Base.CallFor id a) =
     (λ t.
     let e = eqb-true id R t in
     let n = called m id a .memory in
-    rw (t, leaving-none marks queue m R, call-same marks queue m id a, request-same marks queue m R, request-same marks queue n R)
+    rw (t, leaving-none marks queue m R, call-same marks queue m id a)
     (ap (λ x. ShownAnswer (Straight a) (Straightly (called m id a .answer)) (requestOf x m) (requestOf x n) ∷ []) (sym e)))
     (λ t. rw t)
 shown-op marks queue R m Base.CountActive = refl
