@@ -7,7 +7,6 @@ pub mod AlikeRuns
 pub mod AlikeItems
 pub mod AlikeSimulation
 pub mod IsolationWaiting
-pub mod Life
 pub mod Accounts
 pub mod Pump
 pub mod Everywhere

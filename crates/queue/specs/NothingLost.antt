@@ -1,34 +1,58 @@
 -- Nothing that R says is lost, and nothing comes twice: the statement.
 --
--- What R says in a run is what its calls say that are not refused, in their order: a queued call says its data, its end,
--- or the ends that are owed and END; a straight call says what it writes. In any run that ends open and never refuses R
--- for want of a slot, that is what was written of R, and then what still waits.
+-- What R says in a run is what its calls were asked to say that are not refused, in their order, straight or queued:
+-- a say its data, an end the end of its stream, a finish the ends that are owed and END. It is told from what was asked
+-- and the refusal's number; what the calls wrote is not looked at. In any run that ends open, that is what was written
+-- of R, and then what still waits.
 use mathlib.Core.Path.{_≡_}
 use mathlib.Core.Bool.{true}
 use mathlib.Core.List.{List, [], _∷_, _++_, map}
 use mathlib.Core.Option.{Option, none, some}
-use Prim.Native.Nat.{ℕ, _<_}
+use Prim.Native.Nat.{ℕ}
 use Rattle.wire.specs.Test.{if_then_else_, _=?_}
 use Rattle.connection.specs.Request.{Held}
+use Rattle.connection.specs.Arguments.{Argument, ForValue, ForSource, ForPair, ForWalk, ForSay, ForEnd, ForFinish, ValueIs, SourceIs, PairAnswer, WalkIs, Wrote, FinishedWith}
 use Rattle.connection.specs.Run.{requestOf}
-use Rattle.queue_slot.specs.Atoms.{Atom, ByteOn, EndOf, atomsOf}
+use Rattle.queue_slot.specs.Atoms.{Atom, ByteOn, EndOf}
 use Rattle.queue_slot.specs.Finishing.{lastWords}
 use Rattle.queue.specs.Calls.{QueueMemory, connOf}
-use Rattle.queue.specs.Run.{Asking, Straight, ToSay, ToEnd, ToFinish, Answering, Straightly, Queued, QueueOperation, StepOver, CallFor, CountActive, TurnWith, queueCalled, queueAfter, waitsOf, writtenBytes, QueueRun, beginning, ending, written}
-use Rattle.queue.specs.Isolation.{NeverOverloaded}
+use Rattle.queue.specs.Run.{Asking, Straight, ToSay, ToEnd, ToFinish, Answering, Straightly, Queued, QueueOperation, StepOver, CallFor, CountActive, TurnWith, queueCalled, queueAfter, waitsOf, QueueRun, beginning, ending, written}
 
--- what a queued call says that is not refused
-abbrev pub ifTaken : Answering → List Atom → List Atom
-ifTaken (Straightly n) l = []
-ifTaken (Queued n) l = if n =? 0 then l else []
+-- what a finish of R's request says: the ends that it owes, and END
+abbrev pub lastOf : Option Held → ℕ → List Atom
+lastOf none status = []
+lastOf (some h) status = lastWords (h .request .state) status
 
--- what a call says, by its answer; with R's request before it
+-- What a straight call is asked to say, with R's request before it. A call that reads says nothing.
+abbrev pub straightAsks : Argument → Option Held → List Atom
+straightAsks (ForValue name fallback) v = []
+straightAsks (ForSource name) v = []
+straightAsks (ForPair k) v = []
+straightAsks ForWalk v = []
+straightAsks (ForSay o content buffer) v = map (ByteOn o) content
+straightAsks (ForEnd o buffer) v = EndOf o ∷ []
+straightAsks (ForFinish status buffer) v = lastOf v status
+
+-- what a call is asked to say, straight or queued: one and the same
+abbrev pub asksToSay : Asking → Option Held → List Atom
+asksToSay (Straight a) v = straightAsks a v
+asksToSay (ToSay o content) v = map (ByteOn o) content
+asksToSay (ToEnd o) v = EndOf o ∷ []
+asksToSay (ToFinish status) v = lastOf v status
+
+-- the number of the refusal in an answer, 0 for none; that of a call that reads is not asked
+abbrev pub refusalIn : Answering → ℕ
+refusalIn (Straightly (Wrote n written buffer)) = n
+refusalIn (Straightly (FinishedWith n written closed buffer)) = n
+refusalIn (Straightly (ValueIs v)) = 0
+refusalIn (Straightly (SourceIs v)) = 0
+refusalIn (Straightly (PairAnswer v)) = 0
+refusalIn (Straightly (WalkIs v)) = 0
+refusalIn (Queued n) = n
+
+-- what a call says: what it is asked to say, unless it is refused
 abbrev pub saidBy : Asking → Answering → Option Held → List Atom
-saidBy (Straight a) n v = atomsOf (writtenBytes n)
-saidBy (ToSay o content) n v = ifTaken n (map (ByteOn o) content)
-saidBy (ToEnd o) n v = ifTaken n (EndOf o ∷ [])
-saidBy (ToFinish status) n none = []
-saidBy (ToFinish status) n (some h) = ifTaken n (lastWords (h .request .state) status)
+saidBy a n v = if refusalIn n =? 0 then asksToSay a v else []
 
 -- what an operation says of R
 unfoldable pub saidIn : ℕ → QueueMemory → QueueOperation → List Atom
@@ -48,4 +72,4 @@ said R r = saidAll R (beginning r) (r .operations)
 
 -- Nothing lost, nothing twice, one order.
 abbrev pub NothingLost : Type 0
-NothingLost = (R : ℕ) (r : QueueRun) → 0 < R → connOf (ending r) .«open» ≡ true → NeverOverloaded R r → said R r ≡ written R r ++ waitsOf R (ending r)
+NothingLost = (R : ℕ) (r : QueueRun) → connOf (ending r) .«open» ≡ true → said R r ≡ written R r ++ waitsOf R (ending r)

@@ -1,10 +1,10 @@
--- What a request says, the web server's end hears: in every joint run of a station with a queue, what is heard of a request
--- begins what it said, in one order: bytes on streams, ends of streams, END. It is all of it where the wire is empty,
--- nothing of the request waits and the connection is open.
+-- What a request says, the web server's end hears: in every joint run of a station with a queue, what is heard of a
+-- request begins what it said, in one order: bytes on streams, ends of streams, END. It is all of it where the wire is
+-- empty, nothing of the request waits and the connection is open.
 --
--- The connection is open at the end, and no request of that id was refused for want of a slot, as in `NothingLost`; and no
--- END_REQUEST of a refused opening of that id is among the replies.
-use Prim.Native.Nat.{ℕ, _<_}
+-- The connection is open at the end, as in `NothingLost`, and no END_REQUEST of a refused opening of that id is among
+-- the replies.
+use Prim.Native.Nat.{ℕ}
 use mathlib.Core.Path.{_≡_, refl, sym, ap, ap₂, _∙_}
 use mathlib.Core.Bool.{Bool, true, false}
 use mathlib.Core.List.{List, [], _∷_, _++_, append-assoc, append-nil}
@@ -18,7 +18,6 @@ use Rattle.queue_slot.specs.Atoms.{Atom}
 use Rattle.queue.specs.Calls.{connOf}
 use Rattle.queue.specs.Run as D
 use Rattle.queue.specs.Run.{QueueOperation, bytesIn, writtenAll, waitsOf, PiecesAreBytes, QueueRun, ending as left, written}
-use Rattle.queue.specs.Isolation.{NeverOverloaded}
 use Rattle.queue.specs.NothingLost.{said}
 use Rattle.queue_link.specs.LinkedWritten.{readOf, records-none}
 use Rattle.queue_theorem.specs.NothingLost.{nothing-lost}
@@ -42,28 +41,29 @@ unfoldable pub operations : List JointMove → List QueueOperation
 operations [] = []
 operations (x ∷ xs) = operationsIn x (operations xs)
 
--- no reply is the END_REQUEST of a refused opening of R
-abbrev pub answers : ℕ → StationEvent → Type 0
-answers R (StationEvent.Refuse id status) = id ≡ R → ⊥
-answers R (StationEvent.Query conns reqs mpxs) = Unit {0}
-answers R (StationEvent.Unknown kind) = Unit {0}
-answers R StationEvent.None = Unit {0}
-answers R (StationEvent.Open id role keep) = Unit {0}
-answers R (StationEvent.Ready id n) = Unit {0}
-answers R (StationEvent.Data id stream n) = Unit {0}
-answers R (StationEvent.End id stream measure) = Unit {0}
-answers R (StationEvent.Abort id) = Unit {0}
-answers R (StationEvent.Fault id cause) = Unit {0}
-answers R (StationEvent.Closed cause) = Unit {0}
+-- what this event is owed is not the END_REQUEST of a refused opening of R
+abbrev pub notItsRefusal : ℕ → StationEvent → Type 0
+notItsRefusal R (StationEvent.Refuse id status) = id ≡ R → ⊥
+notItsRefusal R (StationEvent.Query conns reqs mpxs) = Unit {0}
+notItsRefusal R (StationEvent.Unknown kind) = Unit {0}
+notItsRefusal R StationEvent.None = Unit {0}
+notItsRefusal R (StationEvent.Open id role keep) = Unit {0}
+notItsRefusal R (StationEvent.Ready id n) = Unit {0}
+notItsRefusal R (StationEvent.Data id stream n) = Unit {0}
+notItsRefusal R (StationEvent.End id stream measure) = Unit {0}
+notItsRefusal R (StationEvent.Abort id) = Unit {0}
+notItsRefusal R (StationEvent.Fault id cause) = Unit {0}
+notItsRefusal R (StationEvent.Closed cause) = Unit {0}
 
-abbrev pub Unrefused : ℕ → List JointMove → Type 0
-Unrefused R [] = Unit {0}
-Unrefused R (Station (Replies e buffer) ∷ xs) = answers R e × Unrefused R xs
-Unrefused R (Station (Does o) ∷ xs) = Unrefused R xs
-Unrefused R (Reads n ∷ xs) = Unrefused R xs
-Unrefused R (Opens id role keep buffer ∷ xs) = Unrefused R xs
-Unrefused R (Writes id part buffer ∷ xs) = Unrefused R xs
-Unrefused R (Asks list buffer ∷ xs) = Unrefused R xs
+-- no reply among these moves is the END_REQUEST of a refused opening of R
+abbrev pub NoRefusalOf : ℕ → List JointMove → Type 0
+NoRefusalOf R [] = Unit {0}
+NoRefusalOf R (Station (Replies e buffer) ∷ xs) = notItsRefusal R e × NoRefusalOf R xs
+NoRefusalOf R (Station (Does o) ∷ xs) = NoRefusalOf R xs
+NoRefusalOf R (Reads n ∷ xs) = NoRefusalOf R xs
+NoRefusalOf R (Opens id role keep buffer ∷ xs) = NoRefusalOf R xs
+NoRefusalOf R (Writes id part buffer ∷ xs) = NoRefusalOf R xs
+NoRefusalOf R (Asks list buffer ∷ xs) = NoRefusalOf R xs
 
 -- ---- what is meant of R is what was written of it
 -- its own operation
@@ -72,7 +72,7 @@ own-written R bytes l f =
     sym (append-nil (heardOf R l)) ∙ ap (λ (z : List Atom). heardOf R l ++ z) (sym (records-none R)) ∙ sym (f R []) ∙ ap (readOf R) (append-nil bytes)
 
 -- no reply is of R
-reply-none : (R : ℕ) (e : StationEvent) → answers R e → heardOf R (replyMeans e) ≡ []
+reply-none : (R : ℕ) (e : StationEvent) → notItsRefusal R e → heardOf R (replyMeans e) ≡ []
 unfolding heardOf
 reply-none R (StationEvent.Refuse id status) f = simp (ne-eqb id R f)
 reply-none R (StationEvent.Query conns reqs mpxs) f = refl
@@ -91,7 +91,7 @@ unfolding heardOf
 unless-none R true l e = e
 unless-none R false l e = refl
 
-run-written : (R : ℕ) (xs : List JointMove) (j : Joint) (left : List Note) → Together j left → AllFair j xs → Unrefused R xs → heardOf R (meant j xs) ≡ writtenAll R (j .station) (operations xs)
+run-written : (R : ℕ) (xs : List JointMove) (j : Joint) (left : List Note) → Together j left → AllFair j xs → NoRefusalOf R xs → heardOf R (meant j xs) ≡ writtenAll R (j .station) (operations xs)
 unfolding meant operations writtenAll heardOf after
 run-written R [] j left i f u = refl
 run-written R (Station (Does o) ∷ xs) j left i f u =
@@ -152,14 +152,14 @@ pub record SaidIsHeard (R : ℕ) (l : Lent) (xs : List JointMove) (r : QueueRun)
   -- and is all of it once the wire is empty and nothing of R waits
   pub all : ending (fresh l) xs .wire ≡ [] → waitsOf R (left r) ≡ [] → heardOf R (heard (fresh l) xs) ≡ said R r
 
-pub said-is-heard : (R : ℕ) (l : Lent) (xs : List JointMove) (f : AllFair (fresh l) xs) → 0 < R → Unrefused R xs → connOf (left (stationRun l xs f)) .«open» ≡ true → NeverOverloaded R (stationRun l xs f)
+pub said-is-heard : (R : ℕ) (l : Lent) (xs : List JointMove) (f : AllFair (fresh l) xs) → NoRefusalOf R xs → connOf (left (stationRun l xs f)) .«open» ≡ true
     → SaidIsHeard R l xs (stationRun l xs f)
-said-is-heard R l xs f low u o never =
+said-is-heard R l xs f u o =
     let j = fresh l in
     let r = stationRun l xs f in
     let k = writings-are-heard l xs f in
     let w : heardOf R (meant j xs) ≡ written R r = run-written R xs j [] (fresh-together l) f u in
-    let n : said R r ≡ written R r ++ waitsOf R (left r) = nothing-lost R r low o never in
+    let n : said R r ≡ written R r ++ waitsOf R (left r) = nothing-lost R r o in
     let h : heardOf R (heard j xs) ++ heardOf R (k .rest) ≡ written R r = sym (heard-append R (heard j xs) (k .rest)) ∙ ap (heardOf R) (k .in-order) ∙ w in
     record {
       rest = heardOf R (k .rest) ++ waitsOf R (left r);

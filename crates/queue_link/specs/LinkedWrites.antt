@@ -63,15 +63,18 @@ use Rattle.queue.specs.Run.{Asking, Answering, QueueOperation, CallFor, CountAc
 abbrev pub writtenOf : ℕ → List (Observation queueingReceiver) → List Atom
 writtenOf R os = writtenAll queueingReceiver waitingQueue (observed queueingReceiver R os)
 
-written-append : (R : ℕ) (os ps : List (Observation queueingReceiver)) → writtenOf R (os ++ ps) ≡ writtenOf R os ++ writtenOf R ps
+-- in two lists
+pub written-append : (R : ℕ) (os ps : List (Observation queueingReceiver)) → writtenOf R (os ++ ps) ≡ writtenOf R os ++ writtenOf R ps
 written-append R os ps = ap (writtenAll queueingReceiver waitingQueue) (observed-append queueingReceiver R os ps) ∙ written-all-append queueingReceiver waitingQueue (observed queueingReceiver R os) (observed queueingReceiver R ps)
 
-written-one : (R id : ℕ) (a : Asked) (n : QueueAnswer) (v w : Option Queued) → writtenOf R (CallAnswer id a n v w ∷ []) ≡ ifOwn R id (wroteBy a n)
+-- by one call
+pub written-one : (R id : ℕ) (a : Asked) (n : QueueAnswer) (v w : Option Queued) → writtenOf R (CallAnswer id a n v w ∷ []) ≡ ifOwn R id (wroteBy a n)
 unfolding observed concerns writtenAll writtenIn
 written-one R id a n v w = byTest (eqb id R) (λ e. rw e (append-nil (wroteBy a n))) (λ e. rw e)
 
 -- ---- a step
-step-writes : (R : ℕ) (f : Waiting) (os : List (Observation receiver)) → writtenOf R (liftSeen f os) ≡ []
+-- it writes nothing
+pub step-writes : (R : ℕ) (f : Waiting) (os : List (Observation receiver)) → writtenOf R (liftSeen f os) ≡ []
 unfolding liftSeen observed concerns writtenAll writtenIn asList
 step-writes R f [] = refl
 step-writes R f (RequestEvent id e ∷ os) = byTest (eqb id R) (λ d. rw d (step-writes R f os)) (λ d. rw d (step-writes R f os))
@@ -291,7 +294,8 @@ op-turn R m allowance buffer k =
     (λ e. rw e (ap (readOf R) (no-turn-bytes m allowance buffer e) ∙ records-none R ∙ sym (none-written R (loadedQueue m))))
 
 -- ---- runs
-count-writes : (R : ℕ) (s : Connection queueingReceiver) → writtenOf R (observations queueingReceiver s (CallItem CountCall ∷ [])) ≡ []
+-- the active number writes nothing
+pub count-writes : (R : ℕ) (s : Connection queueingReceiver) → writtenOf R (observations queueingReceiver s (CallItem CountCall ∷ [])) ≡ []
 unfolding observations onItem asList observed concerns writtenAll
 count-writes R (Open T F) = refl
 count-writes R Closed = refl

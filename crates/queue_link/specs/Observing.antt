@@ -28,7 +28,8 @@ unfolding lookupFurther
 further-found Absent i r e = let z : _≡_ {A = ℕ} 0 1 = cc in absurd (omega arith)
 further-found (FoundAt j q) i r e = let a : i ≡ suc j = cc in let b : q ≡ r = cc in (j, a, ap (FoundAt j) b)
 
-found-again : (id : ℕ) (T : Slots queueingReceiver) (i : ℕ) (r q : Queued) → lookup id T ≡ FoundAt i r → lookup id (set T i (HeldBy id q)) ≡ FoundAt i q
+-- a request that is put back is found again
+pub found-again : (id : ℕ) (T : Slots queueingReceiver) (i : ℕ) (r q : Queued) → lookup id T ≡ FoundAt i r → lookup id (set T i (HeldBy id q)) ≡ FoundAt i q
 unfolding lookup lookupFurther
 found-again id [] i r q e = let z : _≡_ {A = ℕ} 0 1 = cc in absurd (omega arith)
 found-again id (Vacant x ∷ T) i r q e =
@@ -41,7 +42,8 @@ found-again id (HeldBy j p ∷ T) i r q e = go (eqb j id) refl e (λ i d. found-
     go true d e f = let z : 0 ≡ i = cc in rw (← z, eq-eqb id id refl)
     go false d e f = let k = further-found (lookup id T) i r e in rw (k .1, d) (ap lookupFurther (f (k .0) (k .2)))
 
-gone : (id : ℕ) (T : Slots queueingReceiver) (i : ℕ) (r : Queued) → SlotsOk queueingReceiver ends-laws T → lookup id T ≡ FoundAt i r → lookup id (set T i (Vacant (queueingReceiver .clean))) ≡ Absent
+-- one that leaves is not
+pub gone : (id : ℕ) (T : Slots queueingReceiver) (i : ℕ) (r : Queued) → SlotsOk queueingReceiver ends-laws T → lookup id T ≡ FoundAt i r → lookup id (set T i (Vacant (queueingReceiver .clean))) ≡ Absent
 gone id T i r ok e = go (lookup id U) refl
   where
     U : Slots queueingReceiver

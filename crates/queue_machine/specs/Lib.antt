@@ -10,4 +10,6 @@ pub mod LiftRuns
 pub mod EndsRight
 pub mod Calm
 pub mod StillWaits
+pub mod KeptByBytes
+pub mod StraightSays
 pub mod Said

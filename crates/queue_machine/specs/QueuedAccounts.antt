@@ -3,42 +3,26 @@ use mathlib.Core.Path.{_≡_, refl, sym, _∙_}
 use mathlib.Core.Bool.{Bool, true, false}
 use mathlib.Core.List.{List, [], _∷_, _++_, map, append-nil}
 use mathlib.Core.Logic.{inl, inr}
-use Prim.Native.Nat.{ℕ, _+_, _<_}
+use Prim.Native.Nat.{ℕ, _+_}
 use native.Mathlib.Omega.{arith}
 use lib.ListN.{length}
 use lib.Dec.{eqb, ltb}
 use borrow.Author.Tests.{eqb-true, ne-eqb}
 use Rattle.wire.specs.Test.{if_then_else_, byTest}
-use Rattle.machine.specs.Timeline.{Item}
-use Rattle.machine.specs.Machine.{HeaderOutcome, Decided, CallOutcome, Stays, Retires, Leaves, Closes, ranFresh, observed, requestIn}
-use Rattle.machine.specs.Simulation.{EndsOpen, NeverOverloaded}
-use Rattle.machine_queue.specs.Waiting.{waitsIn, writtenAll}
-use Rattle.machine_queue.specs.Accounts.{HeaderWaits, CallAccounts, Accounting, saidAll, nothing-lost}
-use Rattle.connection.specs.declared.request.Due.{Due}
+use Rattle.machine.specs.Machine.{CallOutcome, Stays, Retires, Leaves, Closes}
+use Rattle.machine_queue.specs.Accounts.{CallAccounts, Accounting}
 use Rattle.connection.specs.declared.answer.Output.{Output}
 use Rattle.connection.specs.Request.{Held}
 use Rattle.connection.specs.RequestCalls as Of
-use Rattle.connection.specs.Bytewise.{Note}
 use Rattle.connection.specs.Arguments.{Argument, Answer, refused}
-use Rattle.connection.specs.Runs.Receiver.{receiveHeader, receiveCall}
+use Rattle.connection.specs.Runs.Receiver.{receiveCall}
 use Rattle.queue_slot.specs.Finishing.{lastWords}
 use Rattle.queue_slot.specs.Wait.{ROOM}
 use Rattle.queue_slot.specs.Atoms.{ByteOn, EndOf, endWaits, dataIn}
-use Rattle.queue_machine.specs.Queued.{Queued, queued, Asked, Straight, QueueSay, QueueEnd, QueueFinish, Serve, Straightly, Queueing, liftedHeader, queuedHeader, queuedByte, isWriter, refusalIn, refusalOf, lifted, heldUp, straightWriter, straightCall, withRequest, queueRefusal, queueSay, queueEnd, queueFinish, queuedCall, wroteIn, wroteBy, saidIn, isServeCall, EndsWithEnd, queueingReceiver, waitingQueue}
+use Rattle.queue_machine.specs.Queued.{Queued, queued, Asked, Straight, QueueSay, QueueEnd, QueueFinish, Serve, Straightly, Queueing, isWriter, refusalIn, refusalOf, lifted, heldUp, straightWriter, straightCall, withRequest, queueRefusal, queueSay, queueEnd, queueFinish, queuedCall, wroteIn, wroteBy, saidIn, isServeCall, EndsWithEnd, queueingReceiver, waitingQueue}
 use Rattle.queue_machine.specs.QueuedLaws.{Silent, NeverRetires, Clear, refused-silent, reader-silent, never-retires, writer-clear, swap, bytes-wait, ends-append, not-both, straight-ten}
 use Rattle.queue_machine.specs.QueuedCalls.{own-refusal, refusedOn, ownRefusal, own-zero, own-some, said-none, ended-none, last-waits}
-use Rattle.queue_machine.specs.QueuedServes.{refused-writes, waiting-laws}
-
-lifted-waits : (x : HeaderOutcome Held Due Note) (r : Queued) → EndsWithEnd (r .waiting) → HeaderWaits queueingReceiver waitingQueue r (liftedHeader x (r .waiting))
-lifted-waits (Decided h e k) r s = (refl, s)
-
-header-waits : (t c : ℕ) (r : Queued) → EndsWithEnd (r .waiting) → HeaderWaits queueingReceiver waitingQueue r (queuedHeader t c r)
-unfolding queuedHeader
-header-waits t c r s = lifted-waits (receiveHeader t c (r .held)) r s
-
-byte-waits : (k : Due) (b : ℕ) (r : Queued) → EndsWithEnd (r .waiting) → (((queuedByte k b r) .0) .waiting ≡ r .waiting) × EndsWithEnd (((queuedByte k b r) .0) .waiting)
-unfolding queuedByte
-byte-waits k b r s = (refl, s)
+use Rattle.queue_machine.specs.QueuedServes.{refused-writes}
 
 -- ---- straight calls
 -- an answer that is ten is a refusal
@@ -116,12 +100,6 @@ call-accounts (QueueEnd o) r e s l = end-accounts r o s l
 call-accounts (QueueFinish status) r e s l = finish-accounts r status s l
 call-accounts Serve r e s l = absurd (not-both refl e)
 
--- The receiver with a queue keeps the laws of accounts.
+-- The receiver with a queue keeps the law of accounts.
 pub accounting : Accounting queueingReceiver waitingQueue
-accounting = record { header-waits = header-waits; byte-waits = byte-waits; call-accounts = call-accounts }
-
--- Nothing of what R says is lost, and nothing comes twice, while the connection is open.
-pub nothing-of-r-lost : (R : ℕ) (t : List (Item Asked)) → 0 < R → EndsOpen queueingReceiver R (ranFresh queueingReceiver 15 t) → NeverOverloaded queueingReceiver R (ranFresh queueingReceiver 15 t)
-    → saidAll queueingReceiver waitingQueue (observed queueingReceiver R (ranFresh queueingReceiver 15 t .seen))
-    ≡ writtenAll queueingReceiver waitingQueue (observed queueingReceiver R (ranFresh queueingReceiver 15 t .seen)) ++ waitsIn queueingReceiver waitingQueue (requestIn queueingReceiver R (ranFresh queueingReceiver 15 t .state))
-nothing-of-r-lost R t = nothing-lost queueingReceiver waitingQueue waiting-laws accounting R 15 t
+accounting = call-accounts

@@ -66,7 +66,8 @@ some-run k o b l = rw (is-same o) (omega arith)
 data-written : (o : Output) (id : ℕ) (x : List ℕ) → 0 < length x → length x < 65536 → atomsOf (recordBytes (outputType o) id x) ≡ map (ByteOn o) x
 data-written o id x h g = atoms-one (outputType o) id x g ∙ output-atoms o x ∙ some-atoms o x h
 
-end-written : (o : Output) (id : ℕ) → atomsOf (recordBytes (outputType o) id []) ≡ EndOf o ∷ []
+-- a record of an end
+pub end-written : (o : Output) (id : ℕ) → atomsOf (recordBytes (outputType o) id []) ≡ EndOf o ∷ []
 end-written o id = atoms-one (outputType o) id [] (omega arith) ∙ output-atoms o []
 
 last-written : (id : ℕ) (c : List ℕ) → length c < 65536 → atomsOf (recordBytes END-REQUEST id c) ≡ EndRequest c ∷ []

@@ -1,56 +1,64 @@
 -- What a call says, told from its answer: as what the accounts say of it.
 use mathlib.Core.Path.{_≡_, refl, sym, _∙_}
 use mathlib.Core.List.{List, [], _∷_, map}
-use mathlib.Core.Option.{Option, none, some}
+use mathlib.Core.Option.{Option, some}
 use mathlib.Core.Bool.{Bool, true, false}
 use Prim.Native.Nat.{ℕ, _+_}
 use native.Mathlib.Omega.{arith}
 use lib.ListN.{length}
 use lib.Dec.{eqb, ltb}
 use borrow.Author.Tests.{eqb-true, ne-eqb}
-use Rattle.wire.specs.Test.{if_then_else_, _=?_, byTest}
+use Rattle.wire.specs.Test.{if_then_else_, byTest}
 use Rattle.machine.specs.Machine.{CallOutcome, Stays, Retires, Leaves, Closes}
 use Rattle.connection.specs.declared.answer.Output.{Output}
 use Rattle.connection.specs.Request.{Held}
-use Rattle.connection.specs.Arguments.{Argument, Answer}
+use Rattle.connection.specs.Arguments.{Argument, ForValue, ForSource, ForPair, ForWalk, ForSay, ForEnd, ForFinish, Answer, refused}
 use Rattle.connection.specs.Runs.Receiver.{receiveCall}
 use Rattle.queue_slot.specs.Atoms.{Atom, ByteOn, EndOf, dataIn, endWaits}
-use Rattle.queue_slot.specs.Finishing.{lastWords}
 use Rattle.queue_slot.specs.Wait.{ROOM}
 use Rattle.queue_machine.specs.Queued.{Queued, Asked, Straight, QueueSay, QueueEnd, QueueFinish, Serve, QueueAnswer, Straightly, Queueing, Record, isWriter, refusalIn, refusalOf, lifted, heldUp, straightWriter, straightCall, queueRefusal, queueSay, queueEnd, queueFinish, queuedCall, wroteIn, answerOf, outcomeAnswer, saidIn, isTen, isServeCall, refusedBy}
 use Rattle.queue_machine.specs.QueuedLaws.{Silent, refused-silent, reader-silent, straight-ten}
 use Rattle.queue_machine.specs.QueuedCalls.{own-refusal, refusedOn, own-zero, own-some}
 use Rattle.queue_machine.specs.QueuedServes.{refused-writes}
+use Rattle.queue_machine.specs.StraightSays.{lastOf, straightAsks, unlessRefused, call-says}
 
--- what a queued call says that is not refused
-abbrev pub taken : QueueAnswer → List Atom → List Atom
-taken (Straightly n) l = []
-taken (Queueing n) l = if n =? 0 then l else []
-taken (Record bytes) l = []
+-- what a call is asked to say
+abbrev pub asksToSay : Asked → Option Held → List Atom
+asksToSay (Straight a) v = straightAsks a v
+asksToSay (QueueSay o content) v = map (ByteOn o) content
+asksToSay (QueueEnd o) v = EndOf o ∷ []
+asksToSay (QueueFinish status) v = lastOf v status
+asksToSay Serve v = []
+
+-- the refusal in an answer, 0 for none
+abbrev pub refusalAs : QueueAnswer → ℕ
+refusalAs (Straightly n) = refusalIn n
+refusalAs (Queueing n) = n
+refusalAs (Record bytes) = 0
+
+-- what a call says, by its answer: what it is asked to say, unless it is refused
+abbrev pub toldBy : Asked → QueueAnswer → Option Held → List Atom
+toldBy a n v = unlessRefused (refusalAs n) (asksToSay a v)
 
 -- what a straight call wrote
-abbrev pub wroteAs : QueueAnswer → List Atom
+abbrev wroteAs : QueueAnswer → List Atom
 wroteAs (Straightly n) = wroteIn n
 wroteAs (Queueing n) = []
 wroteAs (Record bytes) = []
 
--- what a call says, by its answer; with the request before it
-abbrev pub toldBy : Asked → QueueAnswer → Option Held → List Atom
-toldBy (Straight a) n v = wroteAs n
-toldBy (QueueSay o content) n v = taken n (map (ByteOn o) content)
-toldBy (QueueEnd o) n v = taken n (EndOf o ∷ [])
-toldBy (QueueFinish status) n none = []
-toldBy (QueueFinish status) n (some h) = taken n (lastWords (h .request .state) status)
-toldBy Serve n v = []
-
 -- refused before the request is asked: nothing
 pub told-refused : (k : ℕ) (a : Asked) (v : Option Held) → eqb k 0 ≡ false → toldBy a (refusedBy k a) v ≡ []
-unfolding refusedBy
-told-refused k (Straight a) v e = refused-writes k a
+unfolding refusedBy refused
+told-refused k (Straight (ForValue name fallback)) v e = refl
+told-refused k (Straight (ForSource name)) v e = refl
+told-refused k (Straight (ForPair j)) v e = refl
+told-refused k (Straight ForWalk) v e = refl
+told-refused k (Straight (ForSay o content buffer)) v e = rw e
+told-refused k (Straight (ForEnd o buffer)) v e = rw e
+told-refused k (Straight (ForFinish status buffer)) v e = rw e
 told-refused k (QueueSay o content) v e = rw e
 told-refused k (QueueEnd o) v e = rw e
-told-refused k (QueueFinish status) none e = refl
-told-refused k (QueueFinish status) (some h) e = rw e
+told-refused k (QueueFinish status) v e = rw e
 told-refused k Serve v e = refl
 
 lifted-answer : (o : CallOutcome Held Answer) (l : List Atom) → outcomeAnswer (lifted o l) ≡ Straightly (answerOf o)
@@ -71,6 +79,20 @@ answer-refusal (Retires h n) = refl
 answer-refusal (Leaves n) = refl
 answer-refusal (Closes n) = refl
 
+-- ---- a straight call: what it wrote
+straight-refused : (k : ℕ) (a : Argument) (v : Option Held) → eqb k 0 ≡ false → toldBy (Straight a) (Straightly (refused k a)) v ≡ wroteIn (refused k a)
+unfolding refusedBy
+straight-refused k a v e = told-refused k (Straight a) v e ∙ sym (refused-writes k a)
+
+straight-told : (a : Argument) (r : Queued) → toldBy (Straight a) (outcomeAnswer (straightCall a r)) (some (r .held)) ≡ wroteAs (outcomeAnswer (straightCall a r))
+unfolding straightCall straightWriter
+straight-told a r =
+    let o = receiveCall a (r .held) in
+    byTest (isWriter a)
+    (λ w. byTest (endWaits (r .waiting)) (λ l. rw (w, l) (straight-refused 5 a (some (r .held)) refl))
+    (λ l. byTest (heldUp o (r .waiting)) (λ u. rw (w, l, u) (straight-refused 10 a (some (r .held)) refl)) (λ u. rw (w, l, u, lifted-answer o (r .waiting)) (call-says a (r .held)))))
+    (λ w. rw (w, lifted-answer o (r .waiting)) (call-says a (r .held)))
+
 -- ---- between finish and END: nothing
 straight-leaving : (a : Argument) (r : Queued) → endWaits (r .waiting) ≡ true → wroteAs (outcomeAnswer (straightCall a r)) ≡ []
 unfolding straightCall straightWriter
@@ -78,17 +100,21 @@ straight-leaving a r l =
     byTest (isWriter a) (λ w. rw (w, l) (refused-writes 5 a))
     (λ w. rw (w, lifted-answer (receiveCall a (r .held)) (r .waiting)) (silent-answer (receiveCall a (r .held)) (reader-silent a (r .held) w)))
 
+if-none : (b : Bool) (l : List Atom) → l ≡ [] → [] ≡ (if b then [] else l)
+if-none true l e = refl
+if-none false l e = sym e
+
 refusal-leaving : (r : Queued) (o : Output) → endWaits (r .waiting) ≡ true → queueRefusal r o ≡ 5
 unfolding queueRefusal
 refusal-leaving r o l = rw l
 
 pub told-leaving : (a : Asked) (r : Queued) → endWaits (r .waiting) ≡ true → toldBy a (outcomeAnswer (queuedCall a r)) (some (r .held)) ≡ []
 unfolding queuedCall queueSay queueEnd queueFinish
-told-leaving (Straight a) r l = straight-leaving a r l
+told-leaving (Straight a) r l = straight-told a r ∙ straight-leaving a r l
 told-leaving (QueueSay o content) r l = rw (refusal-leaving r o l)
 told-leaving (QueueEnd o) r l = rw (refusal-leaving r o l)
 told-leaving (QueueFinish status) r l = rw l
-told-leaving Serve r l = refl
+told-leaving Serve r l = sym (if-none (eqb (refusalAs (outcomeAnswer (queuedCall Serve r))) 0) [] refl)
 
 -- ---- else: as the accounts say
 ten-or-not : (b : Bool) (l : List Atom) → (b ≡ true → l ≡ []) → l ≡ (if b then [] else l)
@@ -109,12 +135,8 @@ straight-live a r l =
     (ten-or-not (eqb (refusalIn (answerOf o)) 10) (wroteIn (answerOf o)) (λ t. silent-answer o (refused-silent a (r .held) w (λ z. ten-refused (refusalIn (answerOf o)) t (answer-refusal o ∙ z)))))))
     (λ w. rw (w, lifted-answer o (r .waiting)) (ten-or-not (eqb (refusalIn (answerOf o)) 10) (wroteIn (answerOf o)) (λ t. silent-answer o (reader-silent a (r .held) w))))
 
-if-none : (b : Bool) (l : List Atom) → l ≡ [] → [] ≡ (if b then [] else l)
-if-none true l e = refl
-if-none false l e = sym e
-
 say-live : (r : Queued) (o : Output) (content : List ℕ) → endWaits (r .waiting) ≡ false
-    → taken (outcomeAnswer (queueSay r o content)) (map (ByteOn o) content) ≡ (if isTen (outcomeAnswer (queueSay r o content)) then [] else saidIn (QueueSay o content) (r .held))
+    → toldBy (QueueSay o content) (outcomeAnswer (queueSay r o content)) (some (r .held)) ≡ (if isTen (outcomeAnswer (queueSay r o content)) then [] else saidIn (QueueSay o content) (r .held))
 unfolding queueSay saidIn
 say-live r o content l =
     byTest (refusedOn (r .held) o)
@@ -128,7 +150,7 @@ say-live r o content l =
     byTest (ltb ROOM (dataIn (r .waiting) + length content)) (λ t. rw (n, t)) (λ t. rw (n, t, f)))
 
 end-live : (r : Queued) (o : Output) → endWaits (r .waiting) ≡ false
-    → taken (outcomeAnswer (queueEnd r o)) (EndOf o ∷ []) ≡ (if isTen (outcomeAnswer (queueEnd r o)) then [] else saidIn (QueueEnd o) (r .held))
+    → toldBy (QueueEnd o) (outcomeAnswer (queueEnd r o)) (some (r .held)) ≡ (if isTen (outcomeAnswer (queueEnd r o)) then [] else saidIn (QueueEnd o) (r .held))
 unfolding queueEnd saidIn
 end-live r o l =
     byTest (refusedOn (r .held) o)
@@ -142,7 +164,7 @@ end-live r o l =
 pub told-live : (a : Asked) (r : Queued) → isServeCall a ≡ false → endWaits (r .waiting) ≡ false
     → toldBy a (outcomeAnswer (queuedCall a r)) (some (r .held)) ≡ (if isTen (outcomeAnswer (queuedCall a r)) then [] else saidIn a (r .held))
 unfolding queuedCall queueFinish saidIn
-told-live (Straight a) r s l = straight-live a r l
+told-live (Straight a) r s l = straight-told a r ∙ straight-live a r l
 told-live (QueueSay o content) r s l = say-live r o content l
 told-live (QueueEnd o) r s l = end-live r o l
 told-live (QueueFinish status) r s l = rw l

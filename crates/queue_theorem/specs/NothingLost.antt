@@ -1,51 +1,50 @@
--- Nothing that R says is lost and nothing comes twice, on whole runs: what R said, in its order, is what was written of
--- R and then what still waits.
+-- Nothing that R says is lost and nothing comes twice, on whole runs: what R's calls were asked to say that were not
+-- refused, in its order, is what was written of R and then what still waits.
 use mathlib.Core.Path.{_≡_, refl, ap, ap₂, sym, _∙_, subst}
-use mathlib.Core.List.{List, [], _∷_, _++_, append-nil}
+use mathlib.Core.List.{List, [], _∷_, _++_}
 use mathlib.Core.Option.{Option, none, some}
 use mathlib.Core.Bool.{Bool, true, false}
 use Prim.Native.Nat.{ℕ}
 use native.Mathlib.Omega.{arith}
-use Rattle.machine.specs.Slots.{Absent, lookup}
-use Rattle.machine.specs.Machine.{requestCalled, Connection, Open, Closed, Observation, RequestEvent, NoticeEvent, CloseEvent, CountAnswer, CallAnswer, onItem, stateAfter, observations, asList, concerns, observed, requestIn, ranFresh}
+use Rattle.machine.specs.Slots.{Absent, lookup, contains-absent, contains-none}
+use Rattle.machine.specs.Machine.{requestCalled, Connection, Open, Closed, CallAnswer, onItem, stateAfter, observations, asList, observed, requestFound, requestIn, fresh}
 use Rattle.connection.specs.declared.state.Slot.{Slot}
 use Rattle.connection.specs.Slots.{heldAt, find, onSlot}
 use Rattle.connection.specs.Run.{requestOf}
 use Rattle.connection.specs.Runs.Loading.{loadedSlots, loadedReading}
 use Rattle.connection.specs.Runs.LoadingLaws.{lookup-loaded}
 use Rattle.connection.specs.Runs.LinkingStep.{closed-loaded, open-loaded}
-use Rattle.queue_slot.specs.AtomLaws.{atoms-none}
-use Rattle.queue_machine.specs.Queued.{queuedCall, wroteBy, Queued, Asked, Serve, QueueAnswer, queueingReceiver, waitingQueue}
-use Rattle.queue_machine.specs.Said.{toldBy, told-refused, told-leaving, told-live}
-use Rattle.queue_machine.specs.Lift.{liftSlots, liftReading, lift-lookup, Waiting, liftConnection}
+use Rattle.queue_machine.specs.Queued.{queuedCall, Queued, Asked, Serve, QueueAnswer, EndsWithEnd, queueingReceiver, waitingQueue}
+use Rattle.queue_machine.specs.StraightSays.{lastOf, unlessRefused}
+use Rattle.queue_machine.specs.Said.{asksToSay, refusalAs, toldBy, told-refused, told-leaving, told-live}
+use Rattle.queue_machine.specs.Lift.{liftSlots, liftReading, lift-lookup, liftConnection}
 use Rattle.queue_link.specs.LoadedCalls as L
 use Rattle.queue_link.specs.LinkedStraight.{answerIn, asked, toldOf}
 use Rattle.queue_link.specs.LinkedQueued.{decided-answer}
 use Rattle.queue_link.specs.LinkedFinish.{call-is}
-use Rattle.queue_link.specs.LinkedWritten.{wrote-bytes}
 use Rattle.queue.specs.Numbers.{lastAt}
-use Rattle.queue.specs.Run.{Answering, leavingOf, Asking, QueueOperation, CallFor, CountActive, TurnWith, queueCalled, queueAfter, PiecesAreBytes, beginning, ending}
+use Rattle.queue.specs.Run.{Answering, leavingOf, Asking, QueueOperation, CallFor, CountActive, TurnWith, queueCalled, queueAfter, PiecesAreBytes, QueueRun, beginning, ending}
 use Rattle.queue.specs.NothingLost as N
 use lib.Dec.{eqb}
 use borrow.Author.Tests.{eqb-true}
 use Rattle.wire.specs.Test.{if_then_else_, byTest}
-use Rattle.machine.specs.Timeline.{RequestCall, CountCall, CallItem}
-use Rattle.machine.specs.RunLaws.{observations-append, observed-append}
+use Rattle.machine.specs.Timeline.{RequestCall, CallItem}
+use Rattle.machine.specs.RunLaws.{observations-append}
 use Rattle.machine_queue.specs.Waiting.{isLeaving, coreOf, waitsIn}
-use Rattle.machine_queue.specs.Accounts as S
+use Rattle.connection.specs.Sizes.{SLOTS}
 use Rattle.machine_queue.specs.Accounts.{saidAs, saidIn, saidAll}
 use Rattle.connection.specs.Request.{Held}
-use Rattle.connection.specs.Runs.Receiver.{receiver}
+use Rattle.connection.specs.Arguments.{ForValue, ForSource, ForPair, ForWalk, ForSay, ForEnd, ForFinish, ValueIs, SourceIs, PairAnswer, WalkIs, Wrote, FinishedWith}
 use Rattle.queue_slot.specs.Atoms.{Atom, endWaits}
 use Rattle.queue_machine.specs.Queued as Q
-use Rattle.queue_machine.specs.QueuedAccounts.{nothing-of-r-lost}
-use Rattle.queue_machine.specs.LiftRuns.{liftSeen}
 use Rattle.queue_link.specs.Loaded.{waitingOf, loadedQueue}
 use Rattle.queue_link.specs.LoadedTurn.{servesOf}
 use Rattle.queue_link.specs.Observing.{served-seen}
-use Rattle.queue_link.specs.LinkedRuns.{servedBy, machineItems, machineTimeline, Fine, op-is, op-fine, piece-ok, leaving-is, core-is, waits-are}
+use Rattle.queue_link.specs.LinkedRuns.{servedBy, machineItems, machineTimeline, Fine, op-is, op-fine, piece-ok, run-is, leaving-is, core-is, waits-are}
+use Rattle.queue_link.specs.LinkedWrites.{run-writes}
 use Rattle.queue_link.specs.LinkedShown.{step-observed, call-observed, no-serve}
-use Rattle.queue_theorem.specs.Theorem.{items, start-fine, ends-as, seen-as, never-full, written-as}
+use Rattle.queue_theorem.specs.Theorem.{items, start-is, start-fine}
+use Rattle.queue_theorem.specs.RunAccounts.{saidOf, said-append, said-one, step-says, count-says, waitsAt, run-accounted}
 use Rattle.queue.specs.Calls.{QueueMemory, connOf}
 use Rattle.queue.specs.Run as D
 
@@ -73,12 +72,6 @@ saidFrom R m [] = []
 saidFrom R m (o ∷ os) = saidOp R m o ++ saidFrom R (queueAfter m o) os
 
 -- ---- on the machine
-abbrev saidOf : ℕ → List (Observation queueingReceiver) → List Atom
-saidOf R os = saidAll queueingReceiver waitingQueue (observed queueingReceiver R os)
-
-said-append : (R : ℕ) (os ps : List (Observation queueingReceiver)) → saidOf R (os ++ ps) ≡ saidOf R os ++ saidOf R ps
-said-append R os ps = ap (saidAll queueingReceiver waitingQueue) (observed-append queueingReceiver R os ps) ∙ S.said-append queueingReceiver waitingQueue (observed queueingReceiver R os) (observed queueingReceiver R ps)
-
 -- the core of a request that is not leaving
 abbrev liveCore : Option Queued → Option Held
 liveCore v = if isLeaving queueingReceiver waitingQueue v then none else coreOf queueingReceiver waitingQueue v
@@ -91,19 +84,6 @@ said-call : (id : ℕ) (a : Asked) (n : QueueAnswer) (v w : Option Queued) → Q
 unfolding saidIn saidAs isLeaving coreOf
 said-call id a n none w s = refl
 said-call id a n (some r) w s = byTest (endWaits (r .waiting)) (λ e. rw (s, e)) (λ e. rw (s, e))
-
-said-one : (R id : ℕ) (a : Asked) (n : QueueAnswer) (v w : Option Queued) → saidOf R (CallAnswer id a n v w ∷ []) ≡ (if eqb id R then saidIn queueingReceiver waitingQueue (CallAnswer id a n v w) else [])
-unfolding observed concerns saidAll
-said-one R id a n v w = byTest (eqb id R) (λ e. rw e (append-nil _)) (λ e. rw e)
-
-step-says : (R : ℕ) (f : Waiting) (os : List (Observation receiver)) → saidOf R (liftSeen f os) ≡ []
-unfolding liftSeen observed concerns saidAll saidIn asList
-step-says R f [] = refl
-step-says R f (RequestEvent id e ∷ os) = byTest (eqb id R) (λ d. rw d (step-says R f os)) (λ d. rw d (step-says R f os))
-step-says R f (NoticeEvent w ∷ os) = step-says R f os
-step-says R f (CloseEvent n ∷ os) = step-says R f os
-step-says R f (CountAnswer n ∷ os) = step-says R f os
-step-says R f (CallAnswer id a n v w ∷ os) = step-says R f os
 
 serve-says : (id : ℕ) (n : QueueAnswer) (v w : Option Queued) → saidIn queueingReceiver waitingQueue (CallAnswer id Serve n v w) ≡ []
 unfolding saidIn saidAs
@@ -122,11 +102,6 @@ serves-say R (id ∷ ids) s =
     let k = served-seen s id in
     said-append R (asList queueingReceiver (e .1)) (observations queueingReceiver (e .0) (servesOf ids))
     ∙ ap₂ (λ x y. x ++ y) (ap (λ o. saidOf R (asList queueingReceiver o)) (k .3) ∙ said-one R id Serve (k .0) (k .1) (k .2) ∙ if-none (eqb id R) _ (serve-says id (k .0) (k .1) (k .2))) (serves-say R ids (e .0))
-
-count-says : (R : ℕ) (s : Connection queueingReceiver) → saidOf R (observations queueingReceiver s (CallItem CountCall ∷ [])) ≡ []
-unfolding observations onItem asList observed concerns saidAll
-count-says R (Open T F) = refl
-count-says R Closed = refl
 
 call-says : (R : ℕ) (m : QueueMemory) (id : ℕ) (a : Asking) → Fine m → saidOp R m (CallFor id a) ≡ saidOf R (observations queueingReceiver (loadedQueue m) (machineItems m (CallFor id a)))
 unfolding saidOp machineItems
@@ -160,19 +135,35 @@ run-says R (o ∷ os) m k p =
     ∙ ap (saidOf R) (sym (observations-append queueingReceiver (loadedQueue m) (machineItems m o) (machineTimeline (queueAfter m o) os)))
 
 -- ---- what R said, by the answers
+-- the refusal and what is asked are the machine's
+refusal-told : (n : Answering) → N.refusalIn n ≡ refusalAs (toldOf n)
+refusal-told (D.Straightly (ValueIs v)) = refl
+refusal-told (D.Straightly (SourceIs v)) = refl
+refusal-told (D.Straightly (PairAnswer v)) = refl
+refusal-told (D.Straightly (WalkIs v)) = refl
+refusal-told (D.Straightly (Wrote n written buffer)) = refl
+refusal-told (D.Straightly (FinishedWith n written closed buffer)) = refl
+refusal-told (D.Queued n) = refl
+
+last-told : (v : Option Held) (status : ℕ) → N.lastOf v status ≡ lastOf v status
+last-told none status = refl
+last-told (some h) status = refl
+
+asks-told : (a : Asking) (v : Option Held) → N.asksToSay a v ≡ asksToSay (asked a) v
+asks-told (D.Straight (ForValue name fallback)) v = refl
+asks-told (D.Straight (ForSource name)) v = refl
+asks-told (D.Straight (ForPair k)) v = refl
+asks-told (D.Straight ForWalk) v = refl
+asks-told (D.Straight (ForSay o content buffer)) v = refl
+asks-told (D.Straight (ForEnd o buffer)) v = refl
+asks-told (D.Straight (ForFinish status buffer)) v = last-told v status
+asks-told (D.ToSay o content) v = refl
+asks-told (D.ToEnd o) v = refl
+asks-told (D.ToFinish status) v = last-told v status
+
 -- the answer on the machine tells as much
 as-told : (a : Asking) (n : Answering) (v : Option Held) → N.saidBy a n v ≡ toldBy (asked a) (toldOf n) v
-unfolding wroteBy
-as-told (D.Straight a) (D.Straightly n) v = sym (wrote-bytes (asked (D.Straight a)) (D.Straightly n))
-as-told (D.Straight a) (D.Queued n) v = atoms-none
-as-told (D.ToSay o content) (D.Straightly n) v = refl
-as-told (D.ToSay o content) (D.Queued n) v = refl
-as-told (D.ToEnd o) (D.Straightly n) v = refl
-as-told (D.ToEnd o) (D.Queued n) v = refl
-as-told (D.ToFinish status) (D.Straightly n) none = refl
-as-told (D.ToFinish status) (D.Queued n) none = refl
-as-told (D.ToFinish status) (D.Straightly n) (some h) = refl
-as-told (D.ToFinish status) (D.Queued n) (some h) = refl
+as-told a n v = ap₂ (λ k l. unlessRefused k l) (refusal-told n) (asks-told a v)
 
 -- the request of an id, and what is shown of it
 request-when : (m : QueueMemory) (id : ℕ) (b : Bool) → connOf m .«open» ≡ b → requestOf id (m .memory) ≡ (if b then onSlot (find (connOf m .table) id) (λ i. some (heldAt (connOf m .table) (m .memory .store) i)) none else none)
@@ -265,13 +256,23 @@ run-told R (o ∷ os) m k p =
     ap₂ (λ x y. x ++ y) (op-told R m o k) (run-told R os (queueAfter m o) (op-fine m o k (q .0)) (q .1))
 
 -- ---- the theorem
+-- of a start nothing waits
+start-waits : (R : ℕ) (r : QueueRun) → waitsAt R (loadedQueue (beginning r)) ≡ []
+unfolding fresh requestIn requestFound waitsIn
+start-waits R r = ap (waitsAt R) (start-is r) ∙ ap (λ o. waitsIn queueingReceiver waitingQueue (requestFound queueingReceiver o)) (contains-absent (queueingReceiver .clean) (contains-none (queueingReceiver .clean) R SLOTS))
+
 pub nothing-lost : N.NothingLost
-nothing-lost R r low o never =
-    let t = items r in
-    let e : ranFresh queueingReceiver 15 t .state ≡ Closed → ⊥ = λ d.
+nothing-lost R r o =
+    let m = beginning r in
+    let f = start-fine r in
+    let z = start-waits R r in
+    let e = run-is (r .operations) m f (r .pieces) .state in
+    let open-end : stateAfter queueingReceiver (loadedQueue m) (items r) ≡ Closed → ⊥ = λ d.
     let a = ap (liftConnection (waitingOf (ending r))) (open-loaded (ending r .memory) o) in
-    let z : _≡_ {A = ℕ} 0 1 = cc (sym a ∙ ends-as r ∙ d) in omega arith in
-    run-told R (r .operations) (beginning r) (start-fine r) (r .pieces)
-    ∙ run-says R (r .operations) (beginning r) (start-fine r) (r .pieces) ∙ ap (saidOf R) (seen-as r)
-    ∙ nothing-of-r-lost R t low e (never-full r R never)
-    ∙ ap₂ (λ x y. x ++ y) (sym (written-as r R)) (ap (λ s. waitsIn queueingReceiver waitingQueue (requestIn queueingReceiver R s)) (sym (ends-as r)) ∙ waits-are R (ending r))
+    let z : _≡_ {A = ℕ} 0 1 = cc (sym a ∙ e ∙ d) in omega arith in
+    let k = run-accounted R (r .operations) m f (r .pieces) open-end (subst (λ l. EndsWithEnd l) (sym z) tt) in
+    run-told R (r .operations) m f (r .pieces)
+    ∙ run-says R (r .operations) m f (r .pieces)
+    ∙ ap (λ l. l ++ saidOf R (observations queueingReceiver (loadedQueue m) (items r))) (sym z)
+    ∙ k .accounts
+    ∙ ap₂ (λ x y. x ++ y) (sym (run-writes R (r .operations) m f (r .pieces))) (ap (waitsAt R) (sym e) ∙ waits-are R (ending r))
