@@ -157,7 +157,7 @@ module _ (T : Slots receiver) (i id : ℕ) (h : Held) (t : SlotsOk receiver rece
 
 -- ---- a queued finish
 -- the memory below what waits, as a queued finish of the request in slot i leaves it
-abbrev retiredBy : Memory → ℕ → Memory
+abbrev pub retiredBy : Memory → ℕ → Memory
 retiredBy m i = withRequest (skipped m i) i (spentBy (requestAt (m .state .conn .table) i))
 
 -- the slots of a memory, and where it reads
@@ -213,7 +213,7 @@ module _ (m : Memory) (is-open : m .state .conn .«open» ≡ true) (id i : ℕ)
       (λ x. rw x (record { steady = steady; shape = shape; agrees = rw x at b; list = list }))
 
 -- A queued finish that is not refused leaves that.
-finish-leaves : (m : QueueMemory) (id status i : ℕ) → eqb (refusal (queuedRows m id (D.ToFinish status))) 0 ≡ true → T.slotOf m id ≡ i
+pub finish-leaves : (m : QueueMemory) (id status i : ℕ) → eqb (refusal (queuedRows m id (D.ToFinish status))) 0 ≡ true → T.slotOf m id ≡ i
     → queueCalled m id (D.ToFinish status) .left .memory ≡ retiredBy (m .memory) i
 unfolding queueCalled T.queueFinish putWait
 finish-leaves m id status i t there = rw (t, there)

@@ -5,7 +5,7 @@
 -- finish leaves whose buffer is just long enough, and other records leave them as they are. That END of R was
 -- written is read from the bytes of a turn.
 use mathlib.Core.Path.{_≡_, refl, ap, ap₂, sym, _∙_, subst}
-use mathlib.Core.List.{List, [], _∷_, _++_, map, flatten, append-nil}
+use mathlib.Core.List.{List, [], _∷_, _++_, flatten, append-nil}
 use mathlib.Core.Option.{Option, none, some}
 use mathlib.Core.Bool.{Bool, true, false, not}
 use Prim.Native.Nat.{ℕ, zero, suc, _<_}
@@ -21,7 +21,6 @@ use Rattle.machine.specs.Machine.{requestIn}
 use Rattle.machine_queue.specs.Pump.{nextWaiting, waiting-below}
 use Rattle.connection.specs.declared.request.Request.{Request}
 use Rattle.connection.specs.declared.state.Slot.{Slot}
-use Rattle.connection.specs.declared.answer.Output.{Output}
 use Rattle.connection.specs.Sizes.{SLOTS}
 use Rattle.connection.specs.Codes.{outputType}
 use Rattle.connection.specs.Slots.{requestAt, find}
@@ -38,60 +37,25 @@ use Rattle.connection.specs.Runs.HistoryRuns.{Holds, holds-step, holds-call, ho
 use Rattle.connection.specs.Runs.LinkingStep.{closed-loaded}
 use Rattle.connection.specs.Runs.LinkingCalls.{resultAt}
 use Rattle.connection.specs.Runs.LinkingRuns.{request-loaded}
-use Rattle.queue_slot.specs.Atoms.{Atom, ByteOn, EndOf, EndRequest, endWaits, streamAtoms, recordAtoms, atomsOf}
-use Rattle.queue_slot.specs.AtomLaws.{atoms-one, output-atoms}
+use Rattle.queue_slot.specs.Atoms.{endWaits, atomsOf}
 use Rattle.queue_slot.specs.Wait.{Served, ServesNothing, ServesEnd, ServesData, ServesLast, served}
 use Rattle.queue_slot.specs.ServeLaws.{ServedWell, served-well}
 use Rattle.queue.specs.Calls as T
-use Rattle.queue.specs.Calls.{QueueMemory, connOf, waitAt, putWait, or, servedLast, releasedSlot, writeServed, PumpedRecord, pumpSlot, slotWaits, firstSlot, onSome, turned, pumpRefusal, pump}
+use Rattle.queue.specs.Calls.{QueueMemory, connOf, waitAt, putWait, or, servedLast, releasedSlot, writeServed, pumpSlot, slotWaits, firstSlot, onSome, turned, pumpRefusal, pump}
 use Rattle.queue.specs.Run.{QueueOperation, StepOver, CallFor, CountActive, TurnWith, queueAfter, bytesIn, PiecesAreBytes, QueueRun, beginning, finalQueue}
 use Rattle.queue.specs.Numbers.{NEXT}
 use Rattle.queue_link.specs.LoadedCalls as L
 use Rattle.queue_link.specs.LoadedTurn.{waits-open, waits-found, waiting-is, first-below}
 use Rattle.queue_link.specs.LinkedRuns.{Fine, PieceOk, piece-ok, op-fine, pump-done, pump-refused}
-use Rattle.queue_link.specs.LinkedWritten.{readOf, ifOwn, own-one, records-none}
+use Rattle.queue_link.specs.LinkedWritten.{readOf, ifOwn, records-none}
 use Rattle.queue_link.specs.LinkedWrites.{found-below, slot-fine, pumps, turn-bytes, no-turn-bytes}
 use Rattle.queue_link.specs.Loaded.{queueStep-is}
 use Rattle.queue_theorem.specs.Theorem.{start-fine}
-use Rattle.queue_runs.specs.Changes.{Serving, Goes, Ends, serving, turn-keeps}
 use Rattle.queue_runs.specs.Closing.{both-ways}
 use Rattle.queue_runs.specs.Lists.{listOfR}
 use Rattle.queue_history.specs.History.{changeTurn, historyThen, historyFrom, parametersAfter}
 use Rattle.queue_history.specs.HistoryCalls.{result-found, call-holds}
-
--- ---- END among what is written
--- END among atoms is in the first part of them, or in the second.
-end-either : (l k : List Atom) → endWaits (l ++ k) ≡ or (endWaits l) (endWaits k)
-unfolding endWaits
-end-either [] k = refl
-end-either (ByteOn o b ∷ l) k = end-either l k
-end-either (EndOf o ∷ l) k = end-either l k
-end-either (EndRequest c ∷ l) k = refl
-
--- What is said on a stream is not END.
-no-end : (o : Output) (x : List ℕ) → endWaits (streamAtoms o x) ≡ false
-unfolding endWaits
-no-end o [] = refl
-no-end o (b ∷ x) = go x
-  where
-    go : (y : List ℕ) → endWaits (map (ByteOn o) y) ≡ false
-    go [] = refl
-    go (c ∷ y) = go y
-
--- ---- closes in a turn
--- A closed connection stays closed through a record.
-closed-record : (m : QueueMemory) (i : ℕ) (p : PumpedRecord) → connOf m .«open» ≡ false → Serving m i p → connOf (p .left) .«open» ≡ false
-unfolding C.released
-closed-record m i p c (Goes e) = ap (λ (x : Memory). x .state .conn .«open») e ∙ c
-closed-record m i p c (Ends status) = go (requestAt (connOf m .table) i .state .keep)
-  where
-    go : (b : Bool) → connOf (releasedSlot (servedLast m i) i b) .«open» ≡ false
-    go true = c
-    go false = refl
-
--- It does through a turn.
-closed-turn : (k : ℕ) (m : QueueMemory) → connOf m .«open» ≡ false → connOf (turned k m .left) .«open» ≡ false
-closed-turn k m c = turn-keeps (λ q. connOf q .«open» ≡ false) (λ q i low w d. closed-record q i (pumpSlot q i) d (serving q i)) k m c
+use Rattle.queue_history.specs.TurnEnds.{end-either, closed-turn, stream-read, end-read}
 
 -- R has none, and takes none; or nothing changes
 abbrev dropsIf : Bool → ParamsChange
@@ -133,21 +97,6 @@ module _ (R : ℕ) where
       let a = ForFinish 0 (Of.finishBytes r 0) in
       finish-way m id i (r .state .keep) (Of.finishIn r 0 (Of.finishBytes r 0)) h (finish-fits r 0)
       (subst (λ (x : CallResult). Holds R (x .memory) (changed (changeBy R id (x .answer)) h)) (result-found (m .memory) id i a (k .steady) o f) (holds-call R (m .memory) id a h k))
-
-  -- ---- what records say of R
-  -- a record of a stream has no END
-  stream-read : (o : Output) (id : ℕ) (x : List ℕ) → id < 65536 → length x < 65536 → endWaits (readOf R (recordBytes (outputType o) id x)) ≡ false
-  unfolding endWaits
-  stream-read o id x hi hx =
-      ap endWaits (own-one R (outputType o) id x hi hx ∙ ap (ifOwn R id) (atoms-one (outputType o) id x hx ∙ output-atoms o x))
-      ∙ byTest (eqb id R) (λ e. rw e (no-end o x)) (λ e. rw e)
-
-  -- END is R's where its id is R
-  end-read : (id : ℕ) (x : List ℕ) → id < 65536 → length x < 65536 → endWaits (readOf R (recordBytes END-REQUEST id x)) ≡ eqb id R
-  unfolding endWaits recordAtoms
-  end-read id x hi hx =
-      ap endWaits (own-one R END-REQUEST id x hi hx ∙ ap (ifOwn R id) (atoms-one END-REQUEST id x hx))
-      ∙ byTest (eqb id R) (λ e. rw e) (λ e. rw e)
 
   -- It holds once these bytes are written and n is left: R has none where END of R is among them or n is closed.
   abbrev HoldsWritten : QueueMemory → List ℕ → History → Type 0
@@ -191,7 +140,7 @@ module _ (R : ℕ) where
     last-holds status = go (request .state .keep) (released-holds m id i h o f k)
       where
         read : endWaits (readOf R (recordBytes END-REQUEST id (endBodyBytes status REQUEST-COMPLETE))) ≡ eqb id R
-        read = end-read id (endBodyBytes status REQUEST-COMPLETE) small (omega (arith, end-length status REQUEST-COMPLETE))
+        read = end-read R id (endBodyBytes status REQUEST-COMPLETE) small (omega (arith, end-length status REQUEST-COMPLETE))
 
         go : (keep : Bool) → Holds R (releasedSlot (servedLast m i) i keep .memory) (changed (dropsIf (or (not keep) (eqb id R))) h)
             → HoldsWritten (releasedSlot (servedLast m i) i keep) (recordBytes END-REQUEST id (endBodyBytes status REQUEST-COMPLETE)) h
@@ -202,9 +151,9 @@ module _ (R : ℕ) where
     served-holds : (s : Served) → ServedWell (waitAt m i) s → HoldsWritten (writeServed (servedLast m i) i request s .left) (writeServed (servedLast m i) i request s .bytes) h
     unfolding writeServed putWait
     served-holds ServesNothing w = none-holds (servedLast m i) h k
-    served-holds (ServesEnd p v) w = rw request-id (holds-as (putWait (servedLast m i) i v) (recordBytes (outputType p) id []) h true false o (stream-read p id [] small (omega arith)) k)
+    served-holds (ServesEnd p v) w = rw request-id (holds-as (putWait (servedLast m i) i v) (recordBytes (outputType p) id []) h true false o (stream-read R p id [] small (omega arith)) k)
     served-holds (ServesData p x v) w =
-        rw request-id (holds-as (putWait (servedLast m i) i v) (recordBytes (outputType p) id x) h true false o (stream-read p id x small (omega (arith, w .4))) k)
+        rw request-id (holds-as (putWait (servedLast m i) i v) (recordBytes (outputType p) id x) h true false o (stream-read R p id x small (omega (arith, w .4))) k)
     served-holds (ServesLast status) w = rw request-id (last-holds status)
 
     -- A record of the pump.

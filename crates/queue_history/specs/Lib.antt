@@ -1,3 +1,4 @@
 pub mod History
 pub mod HistoryCalls
+pub mod TurnEnds
 pub mod HistoryRuns

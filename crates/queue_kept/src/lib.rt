@@ -1,0 +1,1 @@
+// Theorems only: what runs without a queue keep, for runs with a queue.
