@@ -9,14 +9,22 @@
 //!     bench readings ROUNDS              times of the readers of readings
 //!     bench readings count SYMBOL TOTAL  one of them once, for callgrind; prints the numbers of readings and of bytes
 //!     bench readings symbols             what they are called, and by callgrind
+//!     bench queue ROUNDS                 times without a queue and with one
+//!     bench pump ROUNDS                  times of output through the pump and straight
+//!     bench pump count SYMBOL REQUESTS BYTES ROUNDS
+//!                                        one of the two once, for callgrind; prints the numbers of content bytes, of
+//!                                        records and of bytes written
+//!     bench pump cases                   the requests and the bytes at a time that are measured
 
 mod input;
 mod lists;
+mod pump;
 mod reading;
 mod readings;
 mod receivers;
 mod tables;
 mod timing;
+mod waiting;
 
 use compare::scripts::stream;
 use compare::state::STORE;
@@ -42,10 +50,15 @@ fn main() -> ExitCode {
             _ => false,
         },
         ["params", symbol, list, ended] => params(symbol, list, ended == "1"),
-        ["agree", streams] => streams
-            .parse()
-            .is_ok_and(|streams| agree(streams) && readings::agree(streams)),
+        ["agree", streams] => streams.parse().is_ok_and(|streams| {
+            agree(streams) && waiting::agree(streams) && readings::agree(streams)
+        }),
         ["readings", ref words @ ..] => of_readings(words),
+        ["queue", rounds] => match rounds.parse() {
+            Ok(rounds) => worked(waiting::table(rounds)),
+            Err(_) => false,
+        },
+        ["pump", ref words @ ..] => of_pump(words),
         _ => false,
     };
     if done {
@@ -54,7 +67,9 @@ fn main() -> ExitCode {
         eprintln!(
             "bench time ROUNDS FILE | bench read SYMBOL PIECE | bench count SYMBOL PIECE TOTAL \
              | bench params SYMBOL LIST 0|1 | bench agree STREAMS \
-             | bench readings ROUNDS | bench readings count SYMBOL TOTAL | bench readings symbols"
+             | bench readings ROUNDS | bench readings count SYMBOL TOTAL | bench readings symbols \
+             | bench queue ROUNDS | bench pump ROUNDS | bench pump count SYMBOL REQUESTS BYTES ROUNDS \
+             | bench pump cases"
         );
         ExitCode::FAILURE
     }
@@ -70,6 +85,25 @@ fn of_readings(words: &[&str]) -> bool {
         [rounds] => {
             let rounds = rounds.parse();
             rounds.is_ok_and(|rounds| worked(readings::table(rounds)))
+        }
+        _ => false,
+    }
+}
+
+fn of_pump(words: &[&str]) -> bool {
+    match *words {
+        ["count", symbol, requests, chunk, rounds] => {
+            match (requests.parse(), chunk.parse(), rounds.parse()) {
+                (Ok(requests), Ok(chunk), Ok(rounds)) => {
+                    pump::count(symbol, requests, chunk, rounds)
+                }
+                _ => false,
+            }
+        }
+        ["cases"] => pump::cases(),
+        [rounds] => {
+            let rounds = rounds.parse();
+            rounds.is_ok_and(|rounds| worked(pump::table(rounds)))
         }
         _ => false,
     }

@@ -1,6 +1,7 @@
 //! The receivers, each a function that digests a whole input in pieces of one size, by `step` or by `next_event`. They
 //! have names of their own, so that callgrind can count their instructions and nothing else.
 
+use crate::waiting;
 use compare::digest::digest;
 use compare::state::Connection;
 
@@ -48,7 +49,7 @@ pub fn unchecked_next_digest(store: &mut [u8], input: &[u8], piece: usize) -> u6
     digest(Connection::next_with::<false>, store, input, piece)
 }
 
-fn proved_digest(store: &mut [u8], input: &[u8], piece: usize) -> u64 {
+pub fn proved_digest(store: &mut [u8], input: &[u8], piece: usize) -> u64 {
     // The library takes two slices, each as a pointer and a length, and keeps neither.
     unsafe {
         fastcgi_digest(
@@ -61,7 +62,7 @@ fn proved_digest(store: &mut [u8], input: &[u8], piece: usize) -> u64 {
     }
 }
 
-fn proved_next_digest(store: &mut [u8], input: &[u8], piece: usize) -> u64 {
+pub fn proved_next_digest(store: &mut [u8], input: &[u8], piece: usize) -> u64 {
     // As above.
     unsafe {
         fastcgi_next_digest(
@@ -113,6 +114,6 @@ pub const BY_EVENT: [Receiver; 3] = [
 ];
 
 pub fn of_symbol(symbol: &str) -> Option<&'static Receiver> {
-    const ALL: [&[Receiver]; 2] = [&BY_STEP, &BY_EVENT];
+    const ALL: [&[Receiver]; 4] = [&BY_STEP, &BY_EVENT, &waiting::BY_STEP, &waiting::BY_EVENT];
     ALL.into_iter().flatten().find(|r| r.symbol == symbol)
 }

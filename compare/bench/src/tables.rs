@@ -9,7 +9,7 @@ pub fn print(rows: &[Row]) {
     print_with_reading(rows);
 }
 
-fn size(piece: usize) -> String {
+pub fn size(piece: usize) -> String {
     match piece {
         65_536 => "64 KiB".into(),
         1 => "1 byte".into(),
@@ -18,7 +18,7 @@ fn size(piece: usize) -> String {
 }
 
 /// Nanoseconds of each receiver for one of so many.
-fn each(times: [Duration; 3], count: usize) -> String {
+pub fn each(times: [Duration; 3], count: usize) -> String {
     let cells = times.map(|time| format!("{:.1}", time.as_secs_f64() * 1e9 / count as f64));
     cells.join(" | ")
 }

@@ -12,7 +12,7 @@ use std::path::Path;
 use std::time::{Duration, Instant};
 
 /// Piece sizes, and how much content goes through each: byte by byte, 64 MiB would take a minute with the reads.
-const SIZES: [(usize, usize); 3] = [(65_536, 64 << 20), (100, 64 << 20), (1, 4 << 20)];
+pub const SIZES: [(usize, usize); 3] = [(65_536, 64 << 20), (100, 64 << 20), (1, 4 << 20)];
 
 /// A round takes at least so long: a receiver that is done sooner goes several times, and the best counts.
 const ROUND: Duration = Duration::from_millis(40);
@@ -58,17 +58,21 @@ fn measure(piece: usize, total: usize, rounds: usize, file: &Path) -> io::Result
         by_event.extend(told);
         assert_eq!(read, bytes.len() as u64, "the file was not read to its end");
     }
-    for sums in [by_step, by_event] {
-        assert!(
-            sums.iter().all(|&sum| sum == sums[0] && sum != 0),
-            "the receivers tell different things"
-        );
-    }
+    told_alike(&by_step);
+    told_alike(&by_event);
     Ok(row)
 }
 
+/// Stops where these digests of one input differ.
+pub fn told_alike(sums: &[u64]) {
+    assert!(
+        sums.iter().all(|&sum| sum == sums[0] && sum != 0),
+        "the receivers tell different things"
+    );
+}
+
 /// One round of each receiver: its time, where that is better than the best so far; and what it told.
-fn round(
+pub fn round(
     receivers: &[Receiver; 3],
     bytes: &[u8],
     piece: usize,
