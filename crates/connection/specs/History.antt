@@ -17,7 +17,7 @@ use Rattle.machine.specs.Timeline.{headerType, headerId, headerContent, headerP
 use Rattle.connection.specs.Event.{Event}
 use Rattle.connection.specs.Request.{Held, listOf}
 use Rattle.connection.specs.Shape.{_and_}
-use Rattle.connection.specs.Arguments.{Answer, ValueIs, SourceIs, PairAnswer, WalkIs, Wrote, FinishedWith}
+use Rattle.connection.specs.Arguments.{Answer, RepliedWith, Wrote, FinishedWith}
 use Rattle.connection.specs.Run.{Memory, Operation, StepOver, CallFor, CountActive, called, stepOf, usedOf, memoryAfter}
 
 -- what a request's area holds up to its length; nothing where there is no request
@@ -111,10 +111,7 @@ changeOf R (Event.Unknown kind) = Keeps
 abbrev pub changeBy : ℕ → ℕ → Answer → ParamsChange
 changeBy R id (FinishedWith refusal n closed buffer) =
     if refusal =? 0 then (if closed then Drops else if id =? R then Drops else Keeps) else Keeps
-changeBy R id (ValueIs v) = Keeps
-changeBy R id (SourceIs s) = Keeps
-changeBy R id (PairAnswer p) = Keeps
-changeBy R id (WalkIs w) = Keeps
+changeBy R id (RepliedWith r) = Keeps
 changeBy R id (Wrote refusal n buffer) = Keeps
 
 -- ---- operations

@@ -6,13 +6,14 @@ use Prim.Native.Nat.{ℕ, zero, suc}
 use lib.ListN.{length, take, drop}
 use Rattle.wire.specs.Test.{if_then_else_, _=?_}
 use Rattle.machine.specs.Timeline.{RequestCall, CountCall, Item, CallItem, byteItems}
+use Rattle.connection.specs.declared.state.Conn.{Conn}
 use Rattle.connection.specs.Event.{Event}
 use Rattle.connection.specs.Request.{Held}
 use Rattle.connection.specs.Slots.{heldAt, find, onSlot}
 use Rattle.connection.specs.Step.{State, Stepped, stepped, started}
 use Rattle.connection.specs.Calls as C
 use Rattle.connection.specs.Bytewise.{Note, notes}
-use Rattle.connection.specs.Arguments.{Argument, ForValue, ForSource, ForPair, ForWalk, ForSay, ForEnd, ForFinish, Answer, ValueIs, SourceIs, PairAnswer, WalkIs, Wrote, FinishedWith}
+use Rattle.connection.specs.Arguments.{Question, ValueOf, SourceOf, PairOf, WalkOf, Reply, ValueIs, SourceIs, PairAnswer, WalkIs, Argument, ForRead, ForSay, ForEnd, ForFinish, Answer, RepliedWith, Wrote, FinishedWith}
 use Rattle.wire.specs.Bytes.{AllBytes}
 use Rattle.connection.specs.Sizes.{STORE, QUERY}
 
@@ -45,6 +46,13 @@ pub record CallResult : Type 0 where
   pub memory : Memory
   pub answer : Answer
 
+-- what a call that only reads answers
+abbrev pub repliedTo : Conn → List ℕ → ℕ → Question → Reply
+repliedTo c store id (ValueOf name fallback) = ValueIs (C.value c store id name fallback)
+repliedTo c store id (SourceOf name) = SourceIs (C.source c store id name)
+repliedTo c store id (PairOf k) = PairAnswer (C.pairAtNumber c store id k)
+repliedTo c store id WalkOf = WalkIs (C.walk c store id)
+
 -- a call that only reads
 abbrev pub unchanged : Memory → Answer → CallResult
 unchanged m a = record { memory = m; answer = a }
@@ -67,10 +75,7 @@ finishedBy m w =
 
 -- the calls that name an id
 unfoldable pub called : Memory → ℕ → Argument → CallResult
-called m id (ForValue name fallback) = unchanged m (ValueIs (C.value (m .state .conn) (m .store) id name fallback))
-called m id (ForSource name) = unchanged m (SourceIs (C.source (m .state .conn) (m .store) id name))
-called m id (ForPair k) = unchanged m (PairAnswer (C.pairAtNumber (m .state .conn) (m .store) id k))
-called m id ForWalk = unchanged m (WalkIs (C.walk (m .state .conn) (m .store) id))
+called m id (ForRead q) = unchanged m (RepliedWith (repliedTo (m .state .conn) (m .store) id q))
 called m id (ForSay output bytes buffer) = changedBy m (C.say (m .state .conn) id output bytes buffer)
 called m id (ForEnd output buffer) = changedBy m (C.endStream (m .state .conn) id output buffer)
 called m id (ForFinish status buffer) = finishedBy m (C.finish (m .state .conn) (m .store) id status buffer)

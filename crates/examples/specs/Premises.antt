@@ -28,7 +28,7 @@ use Rattle.connection.specs.Shape.{idFits, slotsFit, positionFits, inShape}
 use Rattle.connection.specs.Step.{closes, onInactive, onActive, judged, opens, begun, ofBegin, ofRequest, advances, stepRefusal, stepped, started}
 use Rattle.connection.specs.Calls as C
 use Rattle.connection.specs.Bytewise.{Note, showing}
-use Rattle.connection.specs.Arguments.{ForPair, PairAnswer}
+use Rattle.connection.specs.Arguments.{PairOf, PairAnswer, ForRead, RepliedWith}
 use Rattle.connection.specs.Run.{Operation, StepOver, CallFor, Observed, Heard, Answered, requestOf, called, memoryAfter, seenIn, itemsOf, finalMemory, allSeen, timeline, startOf, seenOf}
 use Rattle.connection.specs.Runs.RunParts.{fresh, header, begin, paramsEnd, one, one-shown, opened-one}
 
@@ -47,12 +47,12 @@ others =
 
 -- 1 is asked for its first pair, and has none; n of its STDIN bytes have been shown
 abbrev noPair : Operation
-noPair = CallFor 1 (ForPair 0)
+noPair = CallFor 1 (ForRead (PairOf 0))
 
 abbrev answered : ℕ → Observed
 answered n =
     let held = one-shown n 0 Turn.Stdin (zeros AREA) in
-    Answered 1 (ForPair 0) (PairAnswer (Of.PairRefused 7)) held held
+    Answered 1 (ForRead (PairOf 0)) (RepliedWith (PairAnswer (Of.PairRefused 7))) held held
 
 abbrev ready : Observed
 ready = Heard (Note.Told (Event.Ready 1 0))

@@ -34,7 +34,7 @@ use Rattle.connection.specs.Shape.{idFits, slotsFit, positionFits, inShape}
 use Rattle.connection.specs.Step.{onInactive, onActive, judged, opens, begun, ofBegin, ofRequest, advances, stepRefusal, stepped, started}
 use Rattle.connection.specs.Calls as C
 use Rattle.connection.specs.Bytewise.{Note, showing}
-use Rattle.connection.specs.Arguments.{ForValue, ForSay, ForFinish, ValueIs, Wrote, FinishedWith}
+use Rattle.connection.specs.Arguments.{ValueOf, ValueIs, ForRead, ForSay, ForFinish, RepliedWith, Wrote, FinishedWith}
 use Rattle.connection.specs.Run.{Operation, StepOver, CallFor, CountActive, Heard, Answered, requestOf, called, memoryAfter, seenIn, itemsOf, finalMemory, allSeen, timeline, startOf, WholeRun, ending, timelineOf, observedIn, seenOf, observed}
 use Rattle.connection.specs.Isolation.{EndsBetweenRecords, Isolated}
 use Rattle.connection.specs.Runs.Records.{between-whole}
@@ -65,7 +65,7 @@ both =
     ∷ StepOver (1 ∷ 1 ∷ 65 ∷ [])
     ∷ StepOver (66 ∷ [])
     ∷ StepOver (1 ∷ 4 ∷ 0 ∷ 1 ∷ 0 ∷ 0 ∷ 0 ∷ 0 ∷ [])
-    ∷ CallFor 1 (ForValue (65 ∷ []) (33 ∷ []))
+    ∷ CallFor 1 (ForRead (ValueOf (65 ∷ []) (33 ∷ [])))
     ∷ CallFor 2 (ForSay Output.Stdout (65 ∷ []) buffer)
     ∷ StepOver (1 ∷ 5 ∷ 0 ∷ 1 ∷ 0 ∷ 3 ∷ 1 ∷ 0 ∷ [])
     ∷ CallFor 2 (ForFinish 0 buffer)
@@ -88,7 +88,7 @@ alone =
     ∷ StepOver (1 ∷ 4 ∷ 0 ∷ 1 ∷ 0 ∷ 4 ∷ 0 ∷ 0 ∷ [])
     ∷ StepOver (1 ∷ 1 ∷ 65 ∷ 66 ∷ [])
     ∷ StepOver (1 ∷ 4 ∷ 0 ∷ 1 ∷ 0 ∷ 0 ∷ 0 ∷ 0 ∷ [])
-    ∷ CallFor 1 (ForValue (65 ∷ []) (33 ∷ []))
+    ∷ CallFor 1 (ForRead (ValueOf (65 ∷ []) (33 ∷ [])))
     ∷ StepOver (1 ∷ 5 ∷ 0 ∷ 1 ∷ 0 ∷ 3 ∷ 1 ∷ 0 ∷ [])
     ∷ StepOver (45 ∷ [])
     ∷ StepOver (49 ∷ [])
@@ -145,7 +145,7 @@ pairArea = 1 ∷ 1 ∷ 65 ∷ 66 ∷ zeros (AREA - 4)
 pub observed-of-one : observed 1 A
     ≡ Heard (Note.Told (Event.Open 1 1 true))
     ∷ Heard (Note.Told (Event.Ready 1 4))
-    ∷ Answered 1 (ForValue (65 ∷ []) (33 ∷ [])) (ValueIs (66 ∷ [])) (some (one 4 Turn.Stdin false 0 pairArea)) (some (one 4 Turn.Stdin false 0 pairArea))
+    ∷ Answered 1 (ForRead (ValueOf (65 ∷ []) (33 ∷ []))) (RepliedWith (ValueIs (66 ∷ []))) (some (one 4 Turn.Stdin false 0 pairArea)) (some (one 4 Turn.Stdin false 0 pairArea))
     ∷ Heard (Note.Shown 1 STDIN 45)
     ∷ Heard (Note.Shown 1 STDIN 49)
     ∷ Answered 1 (ForSay Output.Stderr (66 ∷ []) buffer)

@@ -41,7 +41,7 @@ use Rattle.connection.specs.Shape.{idFits, slotsFit, positionFits, inShape}
 use Rattle.connection.specs.Step.{onInactive, onActive, judged, opens, begun, ofBegin, ofRequest, advances, stepRefusal, stepped, started}
 use Rattle.connection.specs.Calls as C
 use Rattle.connection.specs.Bytewise.{Note, showing}
-use Rattle.connection.specs.Arguments.{Argument, ForPair, ForSay, ForFinish, PairAnswer, Wrote, FinishedWith}
+use Rattle.connection.specs.Arguments.{PairOf, PairAnswer, Argument, ForRead, ForSay, ForFinish, RepliedWith, Wrote, FinishedWith}
 use Rattle.connection.specs.Run.{Memory, Operation, StepOver, CallFor, CountActive, Observed, Heard, Answered, requestOf, called, memoryAfter, seenIn, itemsOf, finalMemory, allSeen, timeline, startOf, WholeRun, ending, timelineOf, observedIn, seenOf}
 use Rattle.connection.specs.Isolation.{EndsBetweenRecords}
 use Rattle.connection.specs.Shuffle.{SameForEach, SameOf}
@@ -68,7 +68,7 @@ pair b = 1 ∷ 1 ∷ 65 ∷ b ∷ []
 
 -- the first pair of 1 is asked for; something is said for 1 on STDERR; 2 is finished with the status 938
 abbrev firstPair : Argument
-firstPair = ForPair 0
+firstPair = ForRead (PairOf 0)
 
 abbrev saying : Argument
 saying = ForSay Output.Stderr (66 ∷ []) buffer
@@ -243,7 +243,7 @@ abbrev pub ofOne : List Observed
 ofOne =
     Heard (Note.Told (Event.Open 1 1 true))
     ∷ Heard (Note.Told (Event.Ready 1 4))
-    ∷ Answered 1 firstPair (PairAnswer (Of.PairIs (record { name = 2; «name_len» = 1; value = 3; «value_len» = 1 })))
+    ∷ Answered 1 firstPair (RepliedWith (PairAnswer (Of.PairIs (record { name = 2; «name_len» = 1; value = 3; «value_len» = 1 }))))
     (some (one false 0)) (some (one false 0))
     ∷ Heard (Note.Shown 1 STDIN 45)
     ∷ Heard (Note.Shown 1 STDIN 49)

@@ -18,7 +18,7 @@ use Rattle.record.specs.Split.{split}
 use Rattle.machine.specs.Timeline.{Item, itemBytes, purge, Scan, ScanHeader, scanNext, isOwn}
 use Rattle.connection.specs.Event.{Event}
 use Rattle.connection.specs.Bytewise.{Note}
-use Rattle.connection.specs.Arguments.{ValueIs, SourceIs, PairAnswer, WalkIs, Wrote, FinishedWith}
+use Rattle.connection.specs.Arguments.{RepliedWith, Wrote, FinishedWith}
 use Rattle.connection.specs.Run.{requestOf}
 use Rattle.queue.specs.Calls.{QueueMemory, connOf}
 use Rattle.queue.specs.Run.{Asking, QueueOperation, StepOver, CallFor, CountActive, TurnWith, Answering, Straightly, Queued, queueCalled, usedOf, queueAfter, waitsOf, leavingOf, bufferLeft, Shown, ShownAnswer, ShownLeaving, queueTimeline, notesAll, QueueRun, beginning, ending, timelineOf, shown, written}
@@ -37,10 +37,7 @@ NeverOverloaded R r = List·Memᴰ (Note.Told (Event.Refuse R OVERLOADED)) (note
 abbrev pub isTen : Answering → Bool
 isTen (Straightly (Wrote n written buffer)) = n =? 10
 isTen (Straightly (FinishedWith n written closed buffer)) = n =? 10
-isTen (Straightly (ValueIs v)) = false
-isTen (Straightly (SourceIs v)) = false
-isTen (Straightly (PairAnswer v)) = false
-isTen (Straightly (WalkIs v)) = false
+isTen (Straightly (RepliedWith r)) = false
 isTen (Queued n) = n =? 10
 
 -- no call of R is refused by 10, from a memory on, over these operations

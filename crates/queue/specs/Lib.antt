@@ -7,4 +7,5 @@ pub mod Fairness
 pub mod NothingLost
 pub mod NumberLaws
 pub mod Areas
+pub mod ReplyLaws
 pub mod PumpTests

@@ -11,7 +11,7 @@ use mathlib.Core.Option.{Option, none, some}
 use Prim.Native.Nat.{ℕ}
 use Rattle.wire.specs.Test.{if_then_else_, _=?_}
 use Rattle.connection.specs.Request.{Held}
-use Rattle.connection.specs.Arguments.{Argument, ForValue, ForSource, ForPair, ForWalk, ForSay, ForEnd, ForFinish, ValueIs, SourceIs, PairAnswer, WalkIs, Wrote, FinishedWith}
+use Rattle.connection.specs.Arguments.{Argument, ForRead, ForSay, ForEnd, ForFinish, RepliedWith, Wrote, FinishedWith}
 use Rattle.connection.specs.Run.{requestOf}
 use Rattle.queue_slot.specs.Atoms.{Atom, ByteOn, EndOf}
 use Rattle.queue_slot.specs.Finishing.{lastWords}
@@ -25,10 +25,7 @@ lastOf (some h) status = lastWords (h .request .state) status
 
 -- What a straight call is asked to say, with R's request before it. A call that reads says nothing.
 abbrev pub straightAsks : Argument → Option Held → List Atom
-straightAsks (ForValue name fallback) v = []
-straightAsks (ForSource name) v = []
-straightAsks (ForPair k) v = []
-straightAsks ForWalk v = []
+straightAsks (ForRead q) v = []
 straightAsks (ForSay o content buffer) v = map (ByteOn o) content
 straightAsks (ForEnd o buffer) v = EndOf o ∷ []
 straightAsks (ForFinish status buffer) v = lastOf v status
@@ -44,10 +41,7 @@ asksToSay (ToFinish status) v = lastOf v status
 abbrev pub refusalIn : Answering → ℕ
 refusalIn (Straightly (Wrote n written buffer)) = n
 refusalIn (Straightly (FinishedWith n written closed buffer)) = n
-refusalIn (Straightly (ValueIs v)) = 0
-refusalIn (Straightly (SourceIs v)) = 0
-refusalIn (Straightly (PairAnswer v)) = 0
-refusalIn (Straightly (WalkIs v)) = 0
+refusalIn (Straightly (RepliedWith r)) = 0
 refusalIn (Queued n) = n
 
 -- what a call says: what it is asked to say, unless it is refused

@@ -19,7 +19,7 @@ use Rattle.connection.specs.Event.{Event}
 use Rattle.connection.specs.Sizes.{STORE, QUERY}
 use Rattle.connection.specs.Request.{counted, aborted, withTurn, withLife, faulted, turned, paramsFault, paramsEnded, onParams, onStdin, onInput, onLive, onHeader, opened}
 use Rattle.connection.specs.RequestCalls as Of
-use Rattle.connection.specs.Arguments.{ForSay, ForFinish, Wrote, FinishedWith, ValueIs, SourceIs, PairAnswer, WalkIs}
+use Rattle.connection.specs.Arguments.{ForSay, ForFinish, Wrote, FinishedWith, RepliedWith}
 use Rattle.connection.specs.Slots.{requestAt, areaAt, putRequest, putArea, takeSlot, freeSlot, holdsId, findFrom}
 use Rattle.connection.specs.Shape.{idFits, slotsFit, positionFits, inShape}
 use Rattle.connection.specs.Step.{onInactive, onActive, judged, opens, begun, ofBegin, ofRequest, advances, stepRefusal, stepped, started}
@@ -65,10 +65,7 @@ three-records = refl
 abbrev pub numberOf : Answering → ℕ
 numberOf (Straightly (Wrote n written buffer)) = n
 numberOf (Straightly (FinishedWith n written closed buffer)) = n
-numberOf (Straightly (ValueIs v)) = 0
-numberOf (Straightly (SourceIs v)) = 0
-numberOf (Straightly (PairAnswer v)) = 0
-numberOf (Straightly (WalkIs v)) = 0
+numberOf (Straightly (RepliedWith r)) = 0
 numberOf (Queued n) = n
 
 abbrev pub refusalOf : QueueMemory → ℕ → Asking → ℕ

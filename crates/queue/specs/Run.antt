@@ -13,7 +13,7 @@ use Rattle.connection.specs.declared.answer.Output.{Output}
 use Rattle.connection.specs.Sizes.{STORE, QUERY}
 use Rattle.connection.specs.Bytewise.{Note, notes}
 use Rattle.connection.specs.Request.{Held}
-use Rattle.connection.specs.Arguments.{Argument, ForValue, ForSource, ForPair, ForWalk, ForSay, ForEnd, ForFinish, Answer, ValueIs, SourceIs, PairAnswer, WalkIs, Wrote, FinishedWith}
+use Rattle.connection.specs.Arguments.{Question, ValueOf, SourceOf, PairOf, WalkOf, Reply, ValueIs, SourceIs, PairAnswer, WalkIs, Argument, ForRead, ForSay, ForEnd, ForFinish, Answer, RepliedWith, Wrote, FinishedWith}
 use Rattle.connection.specs.Slots.{find, onSlot}
 use Rattle.connection.specs.Calls as C
 use Rattle.connection.specs.Run.{Memory, requestOf, eventId, startOf}
@@ -69,16 +69,16 @@ finishedBy m w =
       answer = Straightly (FinishedWith (w .refusal) (w .written) (w .closed) (w .buffer));
     }
 
--- a call that only reads
-abbrev pub reads : QueueMemory → Answer → QueueResult
-reads m a = record { left = m; answer = Straightly a }
+-- what a call that only reads answers
+abbrev pub queueReply : QueueMemory → ℕ → Question → Reply
+queueReply m id (ValueOf name fallback) = ValueIs (queueValue m id name fallback)
+queueReply m id (SourceOf name) = SourceIs (queueSource m id name)
+queueReply m id (PairOf k) = PairAnswer (queuePair m id k)
+queueReply m id WalkOf = WalkIs (queueWalk m id)
 
 -- the calls that name an id
 unfoldable pub queueCalled : QueueMemory → ℕ → Asking → QueueResult
-queueCalled m id (Straight (ForValue name fallback)) = reads m (ValueIs (queueValue m id name fallback))
-queueCalled m id (Straight (ForSource name)) = reads m (SourceIs (queueSource m id name))
-queueCalled m id (Straight (ForPair k)) = reads m (PairAnswer (queuePair m id k))
-queueCalled m id (Straight ForWalk) = reads m (WalkIs (queueWalk m id))
+queueCalled m id (Straight (ForRead q)) = record { left = m; answer = Straightly (RepliedWith (queueReply m id q)) }
 queueCalled m id (Straight (ForSay o content buffer)) = changedBy m (straightSay m id o content buffer)
 queueCalled m id (Straight (ForEnd o buffer)) = changedBy m (straightEnd m id o buffer)
 queueCalled m id (Straight (ForFinish status buffer)) = finishedBy m (straightFinish m id status buffer)
@@ -110,10 +110,7 @@ leavingOf R m = if connOf m .«open» then onSlot (find (connOf m .table) R) (λ
 abbrev pub bufferLeft : Answering → List ℕ
 bufferLeft (Straightly (Wrote n written buffer)) = buffer
 bufferLeft (Straightly (FinishedWith n written closed buffer)) = buffer
-bufferLeft (Straightly (ValueIs v)) = []
-bufferLeft (Straightly (SourceIs v)) = []
-bufferLeft (Straightly (PairAnswer v)) = []
-bufferLeft (Straightly (WalkIs v)) = []
+bufferLeft (Straightly (RepliedWith r)) = []
 bufferLeft (Queued n) = []
 
 -- What is shown of R: what a step tells of it; a call with its answer and R's request and area before and after it,
@@ -152,10 +149,7 @@ recordsOf R (r ∷ rs) = (if r .id =? R then recordAtoms (r .kind) (r .content) 
 abbrev pub writtenBytes : Answering → List ℕ
 writtenBytes (Straightly (Wrote n written buffer)) = take written buffer
 writtenBytes (Straightly (FinishedWith n written closed buffer)) = take written buffer
-writtenBytes (Straightly (ValueIs v)) = []
-writtenBytes (Straightly (SourceIs v)) = []
-writtenBytes (Straightly (PairAnswer v)) = []
-writtenBytes (Straightly (WalkIs v)) = []
+writtenBytes (Straightly (RepliedWith r)) = []
 writtenBytes (Queued n) = []
 
 -- the bytes that an operation wrote, as they stand in its buffer

@@ -12,7 +12,7 @@ use Rattle.connection.specs.Sizes.{SLOTS}
 use Rattle.connection.specs.Codes.{outputType}
 use Rattle.connection.specs.Slots.{requestAt}
 use Rattle.connection.specs.Calls as C
-use Rattle.connection.specs.Arguments.{Argument, ForValue, ForSource, ForPair, ForWalk, ForSay, ForEnd, ForFinish}
+use Rattle.connection.specs.Arguments.{Argument, ForRead, ForSay, ForEnd, ForFinish}
 use Rattle.server.specs.Event.{Event, Note, showing}
 use Rattle.queue_slot.specs.Wait.{Served, ServesNothing, ServesEnd, ServesData, ServesLast, served}
 use Rattle.queue.specs.Numbers.{NEXT}
@@ -38,10 +38,7 @@ wireOf m (Replies e buffer) = take (C.replied e buffer .written) (C.replied e bu
 -- ---- what is meant by it, unless it was refused
 -- a straight call
 abbrev pub straightMeans : QueueMemory → ℕ → Argument → List Note
-straightMeans m id (ForValue name fallback) = []
-straightMeans m id (ForSource name) = []
-straightMeans m id (ForPair k) = []
-straightMeans m id ForWalk = []
+straightMeans m id (ForRead q) = []
 straightMeans m id (ForSay o x buffer) = unless (straightSay m id o x buffer .refusal) (showing id (outputType o) x)
 straightMeans m id (ForEnd o buffer) = unless (straightEnd m id o buffer .refusal) (Note.Told (Event.Ended id (outputType o)) ∷ [])
 straightMeans m id (ForFinish status buffer) = unless (straightFinish m id status buffer .refusal) (finishNotes (requestOf m id .state) id status)

@@ -17,7 +17,7 @@ use Rattle.connection.specs.Refusal.{refusal}
 use Rattle.connection.specs.Slots.{noState, requestAt, find}
 use Rattle.connection.specs.RequestCalls as Of
 use Rattle.connection.specs.Calls as C
-use Rattle.connection.specs.Arguments.{Argument, ForValue, ForSource, ForPair, ForWalk, ForSay, ForEnd, ForFinish}
+use Rattle.connection.specs.Arguments.{Argument, ForRead, ForSay, ForEnd, ForFinish}
 use Rattle.connection.specs.Run.{Memory, stepOf, memoryOf}
 use Rattle.connection.specs.Runs.LinkingCalls.{slot-found}
 use Rattle.server.specs.Event.{Note}
@@ -124,10 +124,7 @@ module _ (m : QueueMemory) (t : Table) (v : List ℕ) (fine : Fine m) (nothing :
 
   straight-heard : (id : ℕ) (x : Argument) → id < 65536 → argumentFits x → Straightly id x
   unfolding queueCalled
-  straight-heard id (ForValue name fallback) hi f = nothing-heard m t v ready a
-  straight-heard id (ForSource name) hi f = nothing-heard m t v ready a
-  straight-heard id (ForPair k) hi f = nothing-heard m t v ready a
-  straight-heard id ForWalk hi f = nothing-heard m t v ready a
+  straight-heard id (ForRead q) hi f = nothing-heard m t v ready a
   straight-heard id (ForSay o x buffer) hi f = say-straight id o x buffer hi f
   straight-heard id (ForEnd o buffer) hi f = end-straight id o buffer hi
   straight-heard id (ForFinish status buffer) hi f = finish-straight id status buffer hi f

@@ -29,7 +29,7 @@ use Rattle.connection.specs.Slots.{requestAt, heldAt, find}
 use Rattle.connection.specs.RequestCalls.{inParams}
 use Rattle.connection.specs.RequestCalls as Of
 use Rattle.connection.specs.Request.{Held, isSpent, withLife}
-use Rattle.connection.specs.Arguments.{Argument, ForValue, ForSource, ForPair, ForWalk, ForSay, ForEnd, ForFinish}
+use Rattle.connection.specs.Arguments.{Argument, ForRead, ForSay, ForEnd, ForFinish}
 use Rattle.connection.specs.Run.{Memory, CallResult, called, memoryAfter}
 use Rattle.connection.specs.Laws.SlotsLaws.{find-at}
 use Rattle.connection.specs.Laws.ShapeLaws.{InUse}
@@ -302,10 +302,7 @@ module _ (R : ℕ) where
   -- A straight call.
   straight-holds : (m : QueueMemory) (id : ℕ) (a : Argument) (h : History) → Holds R (m .memory) h → HoldsCalled m id (D.Straight a) h
   unfolding queueCalled straightSay straightEnd straightFinish called memoryAfter
-  straight-holds m id (ForValue name fallback) h k = k
-  straight-holds m id (ForSource name) h k = k
-  straight-holds m id (ForPair n) h k = k
-  straight-holds m id ForWalk h k = k
+  straight-holds m id (ForRead q) h k = k
   straight-holds m id (ForSay o content buffer) h k =
       byTest (eqb (refusal (straightRows m id (ForSay o content buffer))) 0) (λ t. rw t (holds-call R (m .memory) id (ForSay o content buffer) h k)) (λ t. rw t k)
   straight-holds m id (ForEnd o buffer) h k =

@@ -21,7 +21,7 @@ use Rattle.connection.specs.RequestCalls as Of
 use Rattle.connection.specs.Refusal.{refusal}
 use Rattle.connection.specs.Slots.{requestAt, heldAt, putRequest, find, onSlot}
 use Rattle.connection.specs.Calls as C
-use Rattle.connection.specs.Arguments.{Argument, ForValue, ForSource, ForPair, ForWalk, ForSay, ForEnd, ForFinish}
+use Rattle.connection.specs.Arguments.{Argument, ForRead, ForSay, ForEnd, ForFinish}
 use Rattle.connection.specs.Run.{Memory, requestOf, finishedBy}
 use Rattle.connection.specs.Laws.SlotsLaws.{Sized, request-of-put, request-of-other, find-put, find-at}
 use Rattle.connection.specs.Runs.CallShape.{withRequest}
@@ -149,10 +149,7 @@ module _ {A : Type 0} (f : Request → A) (R : ℕ) where
     -- Any straight call leaves the fact, or R goes.
     straight-fact : (m : QueueMemory) (id : ℕ) (a : Argument) → Sized (connOf m .table) → Answers m id (D.Straight a)
     unfolding queueCalled straightSay straightEnd straightFinish
-    straight-fact m id (ForValue name fallback) sized = refl
-    straight-fact m id (ForSource name) sized = refl
-    straight-fact m id (ForPair k) sized = refl
-    straight-fact m id ForWalk sized = refl
+    straight-fact m id (ForRead q) sized = refl
     straight-fact m id (ForSay o content buffer) sized =
         byTest (eqb (refusal (straightRows m id (ForSay o content buffer))) 0) (λ t. rw t (say-fact (m .memory) id o content buffer sized)) (λ t. rw t)
     straight-fact m id (ForEnd o buffer) sized = byTest (eqb (refusal (straightRows m id (ForEnd o buffer))) 0) (λ t. rw t (end-fact (m .memory) id o buffer sized)) (λ t. rw t)

@@ -6,7 +6,7 @@
 use mathlib.Core.Bool.{Bool, false}
 use Prim.Native.Nat.{ℕ}
 use Rattle.wire.specs.Test.{if_then_else_, _=?_}
-use Rattle.connection.specs.Arguments.{ValueIs, SourceIs, PairAnswer, WalkIs, Wrote, FinishedWith}
+use Rattle.connection.specs.Arguments.{RepliedWith, Wrote, FinishedWith}
 use Rattle.connection.specs.Laws.Closing.{isClosing}
 use Rattle.queue_slot.specs.Atoms.{endWaits}
 use Rattle.queue.specs.Calls.{QueueMemory, or, queueStep, Pumped, pump}
@@ -16,10 +16,7 @@ use Rattle.queue_history.specs.History.{writtenInTurn}
 -- An answer to a call for an id: a finish that is not refused, of R, or one that closes the connection.
 abbrev pub goesBy : ℕ → ℕ → Answering → Bool
 goesBy R id (Straightly (FinishedWith refusal n closed buffer)) = if refusal =? 0 then or closed (id =? R) else false
-goesBy R id (Straightly (ValueIs v)) = false
-goesBy R id (Straightly (SourceIs v)) = false
-goesBy R id (Straightly (PairAnswer v)) = false
-goesBy R id (Straightly (WalkIs v)) = false
+goesBy R id (Straightly (RepliedWith v)) = false
 goesBy R id (Straightly (Wrote refusal n buffer)) = false
 goesBy R id (Queued n) = false
 

@@ -26,7 +26,7 @@ use Rattle.connection.specs.Request.{Held, isSpent, withLife, onHeader}
 use Rattle.connection.specs.RequestCalls as Of
 use Rattle.connection.specs.RequestCalls.{inParams, isFaulted}
 use Rattle.connection.specs.Bytewise.{Note}
-use Rattle.connection.specs.Arguments.{Argument, ForValue, ForSource, ForPair, ForWalk, ForSay, ForEnd, ForFinish, Answer}
+use Rattle.connection.specs.Arguments.{Argument, ForRead, ForSay, ForEnd, ForFinish, Answer}
 use Rattle.connection.specs.Runs.Receiver.{noteOf, dueStream, receiveHeader, receiveByte, receiveBegin, receiveCall}
 use Rattle.connection.specs.Runs.ReceiverLaws.{inactive-ok, management-ok}
 use Rattle.connection.specs.Runs.WellFormedLists.{ListOk, InTurn, header-list, grown-state, byte-list, begin-list, call-list}
@@ -115,10 +115,7 @@ writer-kept a r ok =
 -- every straight call
 straight-kept : (a : Argument) (r : Queued) → Kept r → Ok r (straightCall a r)
 unfolding straightCall receiveCall
-straight-kept (ForValue name fallback) r ok = (ok, λ due c u. u)
-straight-kept (ForSource name) r ok = (ok, λ due c u. u)
-straight-kept (ForPair k) r ok = (ok, λ due c u. u)
-straight-kept ForWalk r ok = (ok, λ due c u. u)
+straight-kept (ForRead q) r ok = (ok, λ due c u. u)
 straight-kept (ForSay output bytes buffer) r ok = writer-kept (ForSay output bytes buffer) r ok
 straight-kept (ForEnd output buffer) r ok = writer-kept (ForEnd output buffer) r ok
 straight-kept (ForFinish status buffer) r ok = writer-kept (ForFinish status buffer) r ok

@@ -13,7 +13,7 @@ use Rattle.connection.specs.Sizes.{SLOTS, STORE}
 use Rattle.connection.specs.Refusal.{_when_, refusal}
 use Rattle.connection.specs.RequestCalls as Of
 use Rattle.connection.specs.Slots.{find, onSlot, isFound}
-use Rattle.connection.specs.Arguments.{ForValue, ForSource, ForPair, ForWalk, ForSay, ForEnd, ForFinish}
+use Rattle.connection.specs.Arguments.{ForRead, ForSay, ForEnd, ForFinish}
 use Rattle.queue_slot.specs.Wait.{anything}
 use Rattle.queue.specs.Numbers.{lastAt}
 use Rattle.queue.specs.Calls as T
@@ -23,10 +23,7 @@ use Rattle.queue.specs.Run.{Asking, queueCalled, leavingOf, bufferLeft}
 
 -- the buffer that a call is lent; nothing where none is
 abbrev pub bufferLent : Asking → List ℕ
-bufferLent (D.Straight (ForValue name fallback)) = []
-bufferLent (D.Straight (ForSource name)) = []
-bufferLent (D.Straight (ForPair k)) = []
-bufferLent (D.Straight ForWalk) = []
+bufferLent (D.Straight (ForRead q)) = []
 bufferLent (D.Straight (ForSay o content buffer)) = buffer
 bufferLent (D.Straight (ForEnd o buffer)) = buffer
 bufferLent (D.Straight (ForFinish status buffer)) = buffer
@@ -83,10 +80,7 @@ module _ (m : QueueMemory) (id : ℕ) (l : isLeaving m id ≡ true) where
 -- Whatever the memory: a call of a request between its finish and its END leaves the lent buffer as it was.
 pub leaving-buffer : (m : QueueMemory) (id : ℕ) (a : Asking) → leavingOf id m ≡ true → bufferLeft (queueCalled m id a .answer) ≡ bufferLent a
 unfolding queueCalled
-leaving-buffer m id (D.Straight (ForValue name fallback)) l = refl
-leaving-buffer m id (D.Straight (ForSource name)) l = refl
-leaving-buffer m id (D.Straight (ForPair k)) l = refl
-leaving-buffer m id (D.Straight ForWalk) l = refl
+leaving-buffer m id (D.Straight (ForRead q)) l = refl
 leaving-buffer m id (D.Straight (ForSay o content buffer)) l = say-buffer m id (leaving-slot m id l) o content buffer
 leaving-buffer m id (D.Straight (ForEnd o buffer)) l = end-buffer m id (leaving-slot m id l) o buffer
 leaving-buffer m id (D.Straight (ForFinish status buffer)) l = finish-buffer m id (leaving-slot m id l) status buffer

@@ -28,7 +28,7 @@ use Rattle.connection.specs.Refusal.{_when_, refusal}
 use Rattle.connection.specs.Slots.{requestAt, areaAt, putArea}
 use Rattle.connection.specs.Step.{Stepped, closedConn}
 use Rattle.connection.specs.Calls as C
-use Rattle.connection.specs.Arguments.{ForValue, ForSource, ForPair, ForWalk, ForSay, ForEnd, ForFinish}
+use Rattle.connection.specs.Arguments.{ForRead, ForSay, ForEnd, ForFinish}
 use Rattle.connection.specs.Runs.LinkingStep.{open-loaded, closed-loaded}
 use Rattle.connection.specs.Runs.LinkingRuns as Links
 use Rattle.connection.specs.Runs.Records.{StandsAt, step-position}
@@ -163,10 +163,7 @@ module _ (m : QueueMemory) where
 
   call-stands : (id : ℕ) (a : Asking) → Stands p (queueCalled m id a .left)
   unfolding queueCalled
-  call-stands id (D.Straight (ForValue name fallback)) = λ e. refl
-  call-stands id (D.Straight (ForSource name)) = λ e. refl
-  call-stands id (D.Straight (ForPair k)) = λ e. refl
-  call-stands id (D.Straight ForWalk) = λ e. refl
+  call-stands id (D.Straight (ForRead q)) = λ e. refl
   call-stands id (D.Straight (ForSay o content buffer)) = say-stands id o content buffer
   call-stands id (D.Straight (ForEnd o buffer)) = end-stands id o buffer
   call-stands id (D.Straight (ForFinish status buffer)) = finish-stands id status buffer

@@ -17,7 +17,7 @@ use Rattle.machine_queue.specs.Waiting.{NoneHeldUp}
 use Rattle.connection.specs.Event.{Event}
 use Rattle.connection.specs.Bytewise.{Note, notes}
 use Rattle.connection.specs.Run as Run
-use Rattle.connection.specs.Arguments.{ValueIs, SourceIs, PairAnswer, WalkIs, Wrote, FinishedWith}
+use Rattle.connection.specs.Arguments.{RepliedWith, Wrote, FinishedWith}
 use Rattle.connection.specs.Runs.Receiver.{receiver}
 use Rattle.connection.specs.Runs.Telling.{noteWithId, toldAll}
 use Rattle.connection.specs.Runs.LinkingStep.{loadedOf}
@@ -163,10 +163,7 @@ unheld-bytes R f (CallAnswer id a n v w ∷ os) = unheld-bytes R f os
 same-ten : (n : Answering) → Q.isTen (toldOf n) ≡ isTen n
 same-ten (D.Straightly (Wrote n written buffer)) = refl
 same-ten (D.Straightly (FinishedWith n written closed buffer)) = refl
-same-ten (D.Straightly (ValueIs v)) = refl
-same-ten (D.Straightly (SourceIs v)) = refl
-same-ten (D.Straightly (PairAnswer v)) = refl
-same-ten (D.Straightly (WalkIs v)) = refl
+same-ten (D.Straightly (RepliedWith r)) = refl
 same-ten (D.Queued n) = refl
 
 abbrev TenOp : ℕ → QueueMemory → QueueOperation → Type 0

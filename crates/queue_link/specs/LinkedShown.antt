@@ -17,7 +17,7 @@ use Rattle.machine_queue.specs.Waiting.{isLeaving, coreOf, Heard, HeardEvent, H
 use Rattle.connection.specs.Bytewise.{Note, notes}
 use Rattle.connection.specs.Step.{Stepped}
 use Rattle.wire.specs.Bytes.{AllBytes}
-use Rattle.connection.specs.Arguments.{ForValue, ForSource, ForPair, ForWalk, ForSay, ForEnd, ForFinish, refused}
+use Rattle.connection.specs.Arguments.{ForRead, ForSay, ForEnd, ForFinish, refused}
 use Rattle.connection.specs.Run as Run
 use Rattle.connection.specs.Run.{Memory, Observed, Answered, StepOver, idOf, stepOf, seenIn, itemsOf}
 use Rattle.connection.specs.Runs.Receiver.{receiver, QueryWith, UnknownType}
@@ -79,10 +79,7 @@ shownOf R (HeardLeaving a) = ShownLeaving (askingOf a) (bufferLent (askingOf a))
 -- A call that is refused leaves the lent buffer as it was.
 pub refused-buffer : (n : ℕ) (a : Asked) → bufferLeft (answeringOf (Q.refusedBy n a)) ≡ bufferLent (askingOf a)
 unfolding Q.refusedBy refused
-refused-buffer n (Q.Straight (ForValue name fallback)) = refl
-refused-buffer n (Q.Straight (ForSource name)) = refl
-refused-buffer n (Q.Straight (ForPair k)) = refl
-refused-buffer n (Q.Straight ForWalk) = refl
+refused-buffer n (Q.Straight (ForRead q)) = refl
 refused-buffer n (Q.Straight (ForSay o content buffer)) = refl
 refused-buffer n (Q.Straight (ForEnd o buffer)) = refl
 refused-buffer n (Q.Straight (ForFinish status buffer)) = refl

@@ -13,7 +13,7 @@ use Rattle.connection.specs.Request.{Held}
 use Rattle.connection.specs.RequestCalls as Of
 use Rattle.connection.specs.Slots.{find}
 use Rattle.connection.specs.Calls as C
-use Rattle.connection.specs.Arguments.{Argument, Answer, ValueIs}
+use Rattle.connection.specs.Arguments.{ValueIs, Argument, Answer, RepliedWith}
 use Rattle.connection.specs.Run.{Memory, Observed, Heard, Answered, CallFor, called, memoryAfter, seenIn, itemsOf}
 use Rattle.connection.specs.Runs.Receiver.{receiver, receiveCall}
 use Rattle.connection.specs.Runs.LoadingLaws.{lookup-loaded}
@@ -163,7 +163,7 @@ module _ (m : QueueMemory) (g : Good m) (is-open : connOf m .«open» ≡ true) 
       let f = waitingOf m in
       let st : loadedOf n ≡ (callDecided receiver o i own id a slots reading) .0 = linked-left (m .memory) id a k ∙ ap (λ e. e .0) (plain-decided a) in
       let ans : called (m .memory) id a .answer ≡ Q.answerOf o =
-      linked-tells (m .memory) id a (ValueIs []) k ∙ ap (λ e. firstAnswer (ValueIs []) (toldAll (asList receiver (e .1) ++ []))) (plain-decided a) ∙ decided-answer o i own id a slots reading (ValueIs []) in
+      linked-tells (m .memory) id a (RepliedWith (ValueIs [])) k ∙ ap (λ e. firstAnswer (RepliedWith (ValueIs [])) (toldAll (asList receiver (e .1) ++ []))) (plain-decided a) ∙ decided-answer o i own id a slots reading (RepliedWith (ValueIs [])) in
       let d : onItem queueingReceiver (loadedQueue m) (CallItem (RequestCall id (Q.Straight a))) ≡ callDecided queueingReceiver (lifted o (f i)) i mine id (Q.Straight a) (liftSlots f slots) (liftReading reading) =
       L.call-decided m z y is-open id i found (Q.Straight a) ∙ ap (λ x. callDecided queueingReceiver x i mine id (Q.Straight a) (liftSlots f slots) (liftReading reading)) e in
       record {

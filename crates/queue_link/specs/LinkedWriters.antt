@@ -16,8 +16,8 @@ use Rattle.connection.specs.Request.{Held}
 use Rattle.connection.specs.RequestCalls as Of
 use Rattle.connection.specs.Slots.{requestAt, find}
 use Rattle.connection.specs.Calls as C
-use Rattle.connection.specs.Arguments.{Argument, ForValue, ForSource, ForPair, ForWalk, ForSay, ForEnd, ForFinish, ValueIs, SourceIs, PairAnswer, WalkIs, Wrote, FinishedWith, refused}
-use Rattle.connection.specs.Run.{called}
+use Rattle.connection.specs.Arguments.{Question, Argument, ForRead, ForSay, ForEnd, ForFinish, RepliedWith, Wrote, FinishedWith, refused}
+use Rattle.connection.specs.Run.{repliedTo, called}
 use Rattle.connection.specs.Laws.RefusalRows.{writes-number}
 use Rattle.connection.specs.Runs.Receiver.{receiveCall, finishedAs}
 use Rattle.queue_slot.specs.Atoms.{Atom, isSome, endWaits}
@@ -34,9 +34,10 @@ use Rattle.queue_link.specs.Loaded.{waitingOf, QueueSteady, queue-shape}
 use Rattle.queue_link.specs.LoadedCalls as L
 use Rattle.queue_link.specs.LoadedTurn.{Good}
 use Rattle.queue.specs.Calls as T
-use Rattle.queue.specs.Calls.{queueValue, queueSource, queuePair, queueWalk, straightSay, straightEnd, straightFinish, rowsOf, streamRows, isLeaving, QueueMemory, connOf, waitAt, lentRefusal}
+use Rattle.queue.specs.Calls.{straightSay, straightEnd, straightFinish, rowsOf, streamRows, isLeaving, QueueMemory, connOf, waitAt, lentRefusal}
+use Rattle.queue.specs.ReplyLaws.{queue-replied-or-refused}
 use Rattle.queue.specs.Run as D
-use Rattle.queue.specs.Run.{QueueResult, queueCalled, changedBy, finishedBy}
+use Rattle.queue.specs.Run.{QueueResult, queueReply, queueCalled, changedBy, finishedBy}
 use Rattle.connection.specs.Refusal.{_when_, refusal}
 use Rattle.queue_link.specs.LinkedStraight.{CallIs, same-with, asBefore, asIs, before-is, stays-is}
 
@@ -77,28 +78,13 @@ module _ (m : QueueMemory) (g : Good m) (is-open : connOf m .«open» ≡ true) 
   unfolding lentRefusal
   lent-is = let h = queue-shape m z in let q = eq-eqb (length (m .memory .store)) STORE (z .steady .sizes .full) in rw (q, h, is-open, found)
 
-  value-is : (name fallback : List ℕ) → queueValue m id name fallback ≡ C.value (connOf m) (m .memory .store) id name fallback
-  unfolding queueValue
-  value-is name fallback = rw lent-is
-
-  source-is : (name : List ℕ) → queueSource m id name ≡ C.source (connOf m) (m .memory .store) id name
-  unfolding queueSource
-  source-is name = rw lent-is
-
-  pair-is : (k : ℕ) → queuePair m id k ≡ C.pairAtNumber (connOf m) (m .memory .store) id k
-  unfolding queuePair
-  pair-is k = rw lent-is
-
-  walk-is : queueWalk m id ≡ C.walk (connOf m) (m .memory .store) id
-  unfolding queueWalk
-  walk-is = rw lent-is
+  -- such a call answers as without a queue
+  reply-is : (q : Question) → queueReply m id q ≡ repliedTo (connOf m) (m .memory .store) id q
+  reply-is q = rw (queue-replied-or-refused m id q, lent-is)
 
   reader-before : (a : Argument) → isWriter a ≡ false → queueCalled m id (D.Straight a) ≡ asBefore m id a
   unfolding queueCalled called
-  reader-before (ForValue name fallback) w = ap₂ (λ (x : QueueMemory) v. record { left = x; answer = D.Straightly (ValueIs v) }) (sym (same-with m)) (value-is name fallback)
-  reader-before (ForSource name) w = ap₂ (λ (x : QueueMemory) v. record { left = x; answer = D.Straightly (SourceIs v) }) (sym (same-with m)) (source-is name)
-  reader-before (ForPair k) w = ap₂ (λ (x : QueueMemory) v. record { left = x; answer = D.Straightly (PairAnswer v) }) (sym (same-with m)) (pair-is k)
-  reader-before ForWalk w = ap₂ (λ (x : QueueMemory) v. record { left = x; answer = D.Straightly (WalkIs v) }) (sym (same-with m)) walk-is
+  reader-before (ForRead q) w = ap₂ (λ (x : QueueMemory) r. record { left = x; answer = D.Straightly (RepliedWith r) }) (sym (same-with m)) (reply-is q)
   reader-before (ForSay o content buffer) w = absurd (not-both refl w)
   reader-before (ForEnd o buffer) w = absurd (not-both refl w)
   reader-before (ForFinish status buffer) w = absurd (not-both refl w)
@@ -284,10 +270,7 @@ module _ (m : QueueMemory) (g : Good m) (is-open : connOf m .«open» ≡ true) 
 
   -- Every straight call of an id that is active.
   pub straight-is : (a : Argument) → CallIs m id (D.Straight a)
-  straight-is (ForValue name fallback) = reader-is (ForValue name fallback) refl
-  straight-is (ForSource name) = reader-is (ForSource name) refl
-  straight-is (ForPair k) = reader-is (ForPair k) refl
-  straight-is ForWalk = reader-is ForWalk refl
+  straight-is (ForRead q) = reader-is (ForRead q) refl
   straight-is (ForSay o content buffer) = say-is o content buffer
   straight-is (ForEnd o buffer) = end-is o buffer
   straight-is (ForFinish status buffer) = finish-is status buffer

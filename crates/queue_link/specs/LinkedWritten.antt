@@ -21,7 +21,7 @@ use Rattle.connection.specs.Sizes.{CHUNK}
 use Rattle.connection.specs.Codes.{outputType}
 use Rattle.connection.specs.Request.{Held}
 use Rattle.connection.specs.RequestCalls as Of
-use Rattle.connection.specs.Arguments.{Argument, ForValue, ForSource, ForPair, ForWalk, ForSay, ForEnd, ForFinish, Answer, ValueIs, SourceIs, PairAnswer, WalkIs, Wrote, FinishedWith, refused}
+use Rattle.connection.specs.Arguments.{Argument, ForRead, ForSay, ForEnd, ForFinish, Answer, RepliedWith, Wrote, FinishedWith, refused}
 use Rattle.connection.specs.Runs.Receiver.{receiveCall, finishedAs}
 use Rattle.queue_slot.specs.Atoms.{Atom, recordAtoms, atomsOf, endWaits, dataIn}
 use Rattle.queue_slot.specs.AtomLaws.{atoms-record, atoms-none}
@@ -148,20 +148,14 @@ module _ (R : ℕ) where
 
   own-call : (a : Argument) (h : Held) → h .request .id < 65536 → AnswerOwn (h .request .id) (answerOf (receiveCall a h))
   unfolding receiveCall
-  own-call (ForValue name fallback) h hi = own-none (h .request .id)
-  own-call (ForSource name) h hi = own-none (h .request .id)
-  own-call (ForPair k) h hi = own-none (h .request .id)
-  own-call ForWalk h hi = own-none (h .request .id)
+  own-call (ForRead q) h hi = own-none (h .request .id)
   own-call (ForSay o content buffer) h hi = own-say (h .request) o content buffer hi
   own-call (ForEnd o buffer) h hi = own-end (h .request) o buffer hi
   own-call (ForFinish status buffer) h hi = own-finished (h .request .state .keep) h (Of.finishIn (h .request) status buffer) (h .request .id) (own-finishes (h .request) status buffer hi)
 
   own-refused : (n id : ℕ) (a : Argument) → AnswerOwn id (refused n a)
   unfolding refused
-  own-refused n id (ForValue name fallback) = own-none id
-  own-refused n id (ForSource name) = own-none id
-  own-refused n id (ForPair k) = own-none id
-  own-refused n id ForWalk = own-none id
+  own-refused n id (ForRead q) = own-none id
   own-refused n id (ForSay o content buffer) = own-none id
   own-refused n id (ForEnd o buffer) = own-none id
   own-refused n id (ForFinish status buffer) = own-none id
@@ -223,10 +217,7 @@ module _ (R : ℕ) where
 -- what the machine says was written
 pub wrote-bytes : (a : Asked) (n : Answering) → wroteBy a (toldOf n) ≡ atomsOf (writtenBytes n)
 unfolding wroteBy wroteIn
-wrote-bytes a (D.Straightly (ValueIs v)) = sym atoms-none
-wrote-bytes a (D.Straightly (SourceIs v)) = sym atoms-none
-wrote-bytes a (D.Straightly (PairAnswer v)) = sym atoms-none
-wrote-bytes a (D.Straightly (WalkIs v)) = sym atoms-none
+wrote-bytes a (D.Straightly (RepliedWith r)) = sym atoms-none
 wrote-bytes a (D.Straightly (Wrote n written buffer)) = refl
 wrote-bytes a (D.Straightly (FinishedWith n written closed buffer)) = refl
 wrote-bytes a (D.Queued n) = sym atoms-none

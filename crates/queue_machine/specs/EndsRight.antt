@@ -25,7 +25,7 @@ use Rattle.connection.specs.Sizes.{SLOTS, QUERY}
 use Rattle.connection.specs.Request.{Held, withTurn, withLife, withShown, unshown, faulted, aborted, turned, onHeader}
 use Rattle.connection.specs.RequestCalls as Of
 use Rattle.connection.specs.Bytewise.{Note}
-use Rattle.connection.specs.Arguments.{Argument, ForValue, ForSource, ForPair, ForWalk, ForSay, ForEnd, ForFinish, Answer, FinishedWith}
+use Rattle.connection.specs.Arguments.{Argument, ForRead, ForSay, ForEnd, ForFinish, Answer, FinishedWith}
 use Rattle.connection.specs.Runs.Receiver.{noteOf, dueStream, receiveHeader, receiveByte, receiveBegin, receiveCall, finishedAs}
 use Rattle.connection.specs.Runs.ReceiverLaws.{inactive-ok, management-ok}
 use Rattle.queue_slot.specs.Finishing.{lastWords}
@@ -141,10 +141,7 @@ finish-grows keep h w = go (eqb (w .refusal) 0) keep
 
 call-grows : (a : Argument) (h : Held) → OutcomeGrows h (receiveCall a h)
 unfolding receiveCall
-call-grows (ForValue name fallback) h = λ o d. d
-call-grows (ForSource name) h = λ o d. d
-call-grows (ForPair k) h = λ o d. d
-call-grows ForWalk h = λ o d. d
+call-grows (ForRead q) h = λ o d. d
 call-grows (ForSay output bytes buffer) h = say-grows (h .request) output bytes buffer
 call-grows (ForEnd output buffer) h = end-grows (h .request) output buffer
 call-grows (ForFinish status buffer) h = finish-grows (h .request .state .keep) h (Of.finishIn (h .request) status buffer)

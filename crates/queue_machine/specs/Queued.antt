@@ -17,7 +17,7 @@ use Rattle.connection.specs.Codes.{outputType}
 use Rattle.connection.specs.Request.{Held}
 use Rattle.connection.specs.RequestCalls.{noOutput, isEnded, saidOn, endedOn}
 use Rattle.connection.specs.Bytewise.{Note}
-use Rattle.connection.specs.Arguments.{Argument, ForValue, ForSource, ForPair, ForWalk, ForSay, ForEnd, ForFinish, Answer, ValueIs, SourceIs, PairAnswer, WalkIs, Wrote, FinishedWith, refused}
+use Rattle.connection.specs.Arguments.{Argument, ForRead, ForSay, ForEnd, ForFinish, Answer, RepliedWith, Wrote, FinishedWith, refused}
 use Rattle.connection.specs.Runs.Receiver.{receiver, receiveHeader, receiveByte, receiveBegin, receiveCall}
 use Rattle.queue_slot.specs.Finishing.{spentBy, lastWords}
 use Rattle.queue_slot.specs.Wait.{ROOM}
@@ -70,20 +70,14 @@ queuedBegin id body = liftedBegin (receiveBegin id body)
 
 -- ---- straight calls
 abbrev pub isWriter : Argument → Bool
-isWriter (ForValue name fallback) = false
-isWriter (ForSource name) = false
-isWriter (ForPair k) = false
-isWriter ForWalk = false
+isWriter (ForRead q) = false
 isWriter (ForSay output bytes buffer) = true
 isWriter (ForEnd output buffer) = true
 isWriter (ForFinish status buffer) = true
 
 -- the refusal in an answer, 0 for none
 abbrev pub refusalIn : Answer → ℕ
-refusalIn (ValueIs v) = 0
-refusalIn (SourceIs s) = 0
-refusalIn (PairAnswer p) = 0
-refusalIn (WalkIs w) = 0
+refusalIn (RepliedWith r) = 0
 refusalIn (Wrote n written buffer) = n
 refusalIn (FinishedWith n written closed buffer) = n
 
@@ -201,10 +195,7 @@ queueingReceiver =
 -- ---- what waits, is said, is written
 -- the bytes that a call wrote, read record by record
 unfoldable pub wroteIn : Answer → List Atom
-wroteIn (ValueIs v) = []
-wroteIn (SourceIs s) = []
-wroteIn (PairAnswer p) = []
-wroteIn (WalkIs w) = []
+wroteIn (RepliedWith r) = []
 wroteIn (Wrote n written buffer) = atomsOf (take written buffer)
 wroteIn (FinishedWith n written closed buffer) = atomsOf (take written buffer)
 

@@ -17,7 +17,7 @@ use Rattle.connection.specs.declared.answer.Output.{Output}
 use Rattle.connection.specs.Request.{Held}
 use Rattle.connection.specs.RequestCalls as Of
 use Rattle.connection.specs.Bytewise.{Note}
-use Rattle.connection.specs.Arguments.{Argument, ForValue, ForSource, ForPair, ForWalk, ForSay, ForEnd, ForFinish, Answer, FinishedWith, refused}
+use Rattle.connection.specs.Arguments.{Argument, ForRead, ForSay, ForEnd, ForFinish, Answer, FinishedWith, refused}
 use Rattle.connection.specs.Laws.RefusalRows.{writes-number}
 use Rattle.connection.specs.Runs.Receiver.{receiveHeader, receiveByte, receiveBegin, receiveCall, finishedAs}
 use Rattle.queue_slot.specs.Atoms.{Atom, ByteOn, EndOf, EndRequest, isSome, endWaits, isSame, runFrom, atomsOf}
@@ -137,10 +137,7 @@ finish-silent keep h w d = go (eqb (w .refusal) 0) refl keep d
 -- so it is where a writer is refused
 pub refused-silent : (a : Argument) (h : Held) → isWriter a ≡ true → (refusalOf (receiveCall a h) ≡ 0 → ⊥) → Silent (receiveCall a h)
 unfolding receiveCall wroteIn Of.sayIn Of.endIn
-refused-silent (ForValue name fallback) h w d = refl
-refused-silent (ForSource name) h w d = refl
-refused-silent (ForPair k) h w d = refl
-refused-silent ForWalk h w d = refl
+refused-silent (ForRead q) h w d = refl
 refused-silent (ForSay o bytes buffer) h w d =
     let n = Of.outputRefusal (h .request) o (Of.sayBytes (h .request) o bytes) buffer in
     no-bytes _ _ (writes-none n (Of.sayBytes (h .request) o bytes) (Of.saidOn (h .request) o bytes) (h .request) buffer (λ e. d (writes-number n (Of.sayBytes (h .request) o bytes) (Of.saidOn (h .request) o bytes) (h .request) buffer ∙ e)))
@@ -152,10 +149,7 @@ refused-silent (ForFinish status buffer) h w d = finish-silent (h .request .stat
 -- and where a call only reads
 pub reader-silent : (a : Argument) (h : Held) → isWriter a ≡ false → Silent (receiveCall a h)
 unfolding receiveCall wroteIn
-reader-silent (ForValue name fallback) h e = refl
-reader-silent (ForSource name) h e = refl
-reader-silent (ForPair k) h e = refl
-reader-silent ForWalk h e = refl
+reader-silent (ForRead q) h e = refl
 reader-silent (ForSay o bytes buffer) h e = let z : _≡_ {A = ℕ} 0 1 = cc in absurd (omega arith)
 reader-silent (ForEnd o buffer) h e = let z : _≡_ {A = ℕ} 0 1 = cc in absurd (omega arith)
 reader-silent (ForFinish status buffer) h e = let z : _≡_ {A = ℕ} 0 1 = cc in absurd (omega arith)
@@ -172,10 +166,7 @@ finish-not-retires keep h w = go (eqb (w .refusal) 0) keep
 -- it never does
 pub never-retires : (a : Argument) (h : Held) → NeverRetires (receiveCall a h)
 unfolding receiveCall
-never-retires (ForValue name fallback) h = tt
-never-retires (ForSource name) h = tt
-never-retires (ForPair k) h = tt
-never-retires ForWalk h = tt
+never-retires (ForRead q) h = tt
 never-retires (ForSay o bytes buffer) h = tt
 never-retires (ForEnd o buffer) h = tt
 never-retires (ForFinish status buffer) h = finish-not-retires (h .request .state .keep) h (Of.finishIn (h .request) status buffer)
@@ -211,10 +202,7 @@ lifted-alike a r q (Closes n) er eq v cr cq sr sq lr lq = tt
 -- ten is told
 pub straight-ten : (a : Argument) → isWriter a ≡ true → isTen (Straightly (refused 10 a)) ≡ true
 unfolding refused
-straight-ten (ForValue name fallback) e = let z : _≡_ {A = ℕ} 0 1 = cc in absurd (omega arith)
-straight-ten (ForSource name) e = let z : _≡_ {A = ℕ} 0 1 = cc in absurd (omega arith)
-straight-ten (ForPair k) e = let z : _≡_ {A = ℕ} 0 1 = cc in absurd (omega arith)
-straight-ten ForWalk e = let z : _≡_ {A = ℕ} 0 1 = cc in absurd (omega arith)
+straight-ten (ForRead q) e = let z : _≡_ {A = ℕ} 0 1 = cc in absurd (omega arith)
 straight-ten (ForSay o bytes buffer) e = refl
 straight-ten (ForEnd o buffer) e = refl
 straight-ten (ForFinish status buffer) e = refl

@@ -14,7 +14,7 @@ use Rattle.connection.specs.declared.answer.Output.{Output}
 use Rattle.connection.specs.Codes.{outputType}
 use Rattle.connection.specs.Request.{Held}
 use Rattle.connection.specs.RequestCalls as Of
-use Rattle.connection.specs.Arguments.{Argument, ForValue, ForSource, ForPair, ForWalk, ForSay, ForEnd, ForFinish, refused}
+use Rattle.connection.specs.Arguments.{Argument, ForRead, ForSay, ForEnd, ForFinish, refused}
 use Rattle.connection.specs.Runs.Receiver.{receiveCall}
 use Rattle.queue_slot.specs.Atoms.{RUN, Atom, ByteOn, EndOf, EndRequest, endWaits, runFrom, next, recordAtoms, atomsOf}
 use Rattle.queue_slot.specs.AtomLaws.{is-same, atoms-none, atoms-one, output-atoms, some-atoms}
@@ -25,20 +25,14 @@ use Rattle.queue_machine.specs.QueuedCalls.{call-alike}
 -- ---- a request that is leaving
 pub refused-writes : (n : ℕ) (a : Argument) → wroteIn (refused n a) ≡ []
 unfolding wroteIn refused
-refused-writes n (ForValue name fallback) = refl
-refused-writes n (ForSource name) = refl
-refused-writes n (ForPair k) = refl
-refused-writes n ForWalk = refl
+refused-writes n (ForRead q) = refl
 refused-writes n (ForSay o bytes buffer) = atoms-none
 refused-writes n (ForEnd o buffer) = atoms-none
 refused-writes n (ForFinish status buffer) = atoms-none
 
 reader-leaving : (a : Argument) (r : Queued) → isWriter a ≡ false → CallLeaving queueingReceiver waitingQueue (Straight a) r (lifted (receiveCall a (r .held)) (r .waiting))
 unfolding receiveCall wroteBy wroteIn
-reader-leaving (ForValue name fallback) r e = (refl, refl)
-reader-leaving (ForSource name) r e = (refl, refl)
-reader-leaving (ForPair k) r e = (refl, refl)
-reader-leaving ForWalk r e = (refl, refl)
+reader-leaving (ForRead q) r e = (refl, refl)
 reader-leaving (ForSay o bytes buffer) r e = absurd (not-both refl e)
 reader-leaving (ForEnd o buffer) r e = absurd (not-both refl e)
 reader-leaving (ForFinish status buffer) r e = absurd (not-both refl e)

@@ -12,7 +12,7 @@ use Rattle.wire.specs.Test.{if_then_else_, byTest}
 use Rattle.machine.specs.Machine.{CallOutcome, Stays, Retires, Leaves, Closes}
 use Rattle.connection.specs.declared.answer.Output.{Output}
 use Rattle.connection.specs.Request.{Held}
-use Rattle.connection.specs.Arguments.{Argument, ForValue, ForSource, ForPair, ForWalk, ForSay, ForEnd, ForFinish, Answer, refused}
+use Rattle.connection.specs.Arguments.{Argument, ForRead, ForSay, ForEnd, ForFinish, Answer, refused}
 use Rattle.connection.specs.Runs.Receiver.{receiveCall}
 use Rattle.queue_slot.specs.Atoms.{Atom, ByteOn, EndOf, dataIn, endWaits}
 use Rattle.queue_slot.specs.Wait.{ROOM}
@@ -49,10 +49,7 @@ wroteAs (Record bytes) = []
 -- refused before the request is asked: nothing
 pub told-refused : (k : ℕ) (a : Asked) (v : Option Held) → eqb k 0 ≡ false → toldBy a (refusedBy k a) v ≡ []
 unfolding refusedBy refused
-told-refused k (Straight (ForValue name fallback)) v e = refl
-told-refused k (Straight (ForSource name)) v e = refl
-told-refused k (Straight (ForPair j)) v e = refl
-told-refused k (Straight ForWalk) v e = refl
+told-refused k (Straight (ForRead q)) v e = refl
 told-refused k (Straight (ForSay o content buffer)) v e = rw e
 told-refused k (Straight (ForEnd o buffer)) v e = rw e
 told-refused k (Straight (ForFinish status buffer)) v e = rw e

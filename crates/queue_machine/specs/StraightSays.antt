@@ -20,7 +20,7 @@ use Rattle.connection.specs.Sizes.{CHUNK}
 use Rattle.connection.specs.Codes.{outputType}
 use Rattle.connection.specs.Request.{Held}
 use Rattle.connection.specs.RequestCalls as Of
-use Rattle.connection.specs.Arguments.{Argument, ForValue, ForSource, ForPair, ForWalk, ForSay, ForEnd, ForFinish, FinishedWith}
+use Rattle.connection.specs.Arguments.{Argument, ForRead, ForSay, ForEnd, ForFinish, FinishedWith}
 use Rattle.connection.specs.Runs.Receiver.{receiveCall, finishedAs}
 use Rattle.queue_slot.specs.Atoms.{Atom, ByteOn, EndOf, finishOf, recordAtoms, atomsOf}
 use Rattle.queue_slot.specs.AtomLaws.{atoms-none, atoms-record, atoms-one, output-atoms, atoms-stream}
@@ -35,10 +35,7 @@ lastOf (some h) status = lastWords (h .request .state) status
 
 -- what a straight call is asked to say, with the request before it
 abbrev pub straightAsks : Argument → Option Held → List Atom
-straightAsks (ForValue name fallback) v = []
-straightAsks (ForSource name) v = []
-straightAsks (ForPair k) v = []
-straightAsks ForWalk v = []
+straightAsks (ForRead q) v = []
 straightAsks (ForSay o content buffer) v = map (ByteOn o) content
 straightAsks (ForEnd o buffer) v = EndOf o ∷ []
 straightAsks (ForFinish status buffer) v = lastOf v status
@@ -83,10 +80,7 @@ finished-says keep h w l e = go (eqb (w .refusal) 0) refl keep
 -- Of every straight call: the bytes that it writes, read record by record, are what it was asked to say.
 pub call-says : (a : Argument) (h : Held) → unlessRefused (refusalIn (answerOf (receiveCall a h))) (straightAsks a (some h)) ≡ wroteIn (answerOf (receiveCall a h))
 unfolding receiveCall wroteIn Of.sayIn Of.endIn Of.finishIn
-call-says (ForValue name fallback) h = refl
-call-says (ForSource name) h = refl
-call-says (ForPair k) h = refl
-call-says ForWalk h = refl
+call-says (ForRead q) h = refl
 call-says (ForSay o content buffer) h =
     writes-says (Of.outputRefusal (h .request) o (Of.sayBytes (h .request) o content) buffer) (Of.sayBytes (h .request) o content) (Of.saidOn (h .request) o content) (h .request) buffer (map (ByteOn o) content)
     (atoms-stream CHUNK (h .request .id) o (omega arith) (omega arith) content)

@@ -18,7 +18,7 @@ use Rattle.machine_queue.specs.AlikeRelation.{written}
 use Rattle.connection.specs.declared.answer.Output.{Output}
 use Rattle.connection.specs.Request.{withTurn, withLife, faulted, turned, paramsFault, paramsEnded, onParams, onStdin, onInput, onLive, onHeader, opened}
 use Rattle.connection.specs.RequestCalls as Of
-use Rattle.connection.specs.Arguments.{ForPair, refused}
+use Rattle.connection.specs.Arguments.{PairOf, ForRead, refused}
 use Rattle.connection.specs.Runs.Receiver.{cleanArea, receiveHeader, receiveByte, receiveBegin, receiveQuery, receiveManagement, receiveInactive, finishedAs, receiveCall}
 use Rattle.queue_slot.specs.Finishing.{spentBy, lastWords}
 use Rattle.queue_slot.specs.Atoms.{Atom, ByteOn, EndOf, finishOf, dataIn, isSome, endWaits, runFrom, next, recordAtoms, atomsOf}
@@ -39,14 +39,14 @@ abbrev pub whole : List (Item Asked)
 whole =
     byteItems (begin 2 ++ (begin 1 ++ (ready 1 ++ ready 2)))
     ++ (call 2 (QueueSay Output.Stdout (50 ∷ [])) ∷ call 1 (QueueSay Output.Stdout (97 ∷ 98 ∷ [])) ∷ call 1 Serve ∷ call 1 (QueueSay Output.Stderr (99 ∷ [])) ∷ call 1 (QueueFinish 7)
-    ∷ call 2 Serve ∷ call 1 Serve ∷ call 1 (Straight (ForPair 0)) ∷ call 1 Serve ∷ call 1 Serve ∷ call 1 Serve ∷ call 1 (Straight (ForPair 0)) ∷ [])
+    ∷ call 2 Serve ∷ call 1 Serve ∷ call 1 (Straight (ForRead (PairOf 0))) ∷ call 1 Serve ∷ call 1 Serve ∷ call 1 Serve ∷ call 1 (Straight (ForRead (PairOf 0))) ∷ [])
 
 -- alone: it is served at the end of what it says only
 abbrev pub alone : List (Item Asked)
 alone =
     byteItems (begin 1 ++ ready 1)
     ++ (call 1 (QueueSay Output.Stdout (97 ∷ 98 ∷ [])) ∷ call 1 (QueueSay Output.Stderr (99 ∷ [])) ∷ call 1 (QueueFinish 7)
-    ∷ call 1 Serve ∷ call 1 Serve ∷ call 1 Serve ∷ call 1 Serve ∷ call 1 Serve ∷ call 1 (Straight (ForPair 0)) ∷ call 1 (Straight (ForPair 0)) ∷ [])
+    ∷ call 1 Serve ∷ call 1 Serve ∷ call 1 Serve ∷ call 1 Serve ∷ call 1 Serve ∷ call 1 (Straight (ForRead (PairOf 0))) ∷ call 1 (Straight (ForRead (PairOf 0))) ∷ [])
 
 -- the items are the same
 pub same-items : unserved queueingReceiver waitingQueue alone ≡ unserved queueingReceiver waitingQueue (purge 1 whole)

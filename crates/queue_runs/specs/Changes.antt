@@ -23,7 +23,7 @@ use Rattle.connection.specs.Sizes.{SLOTS, STORE}
 use Rattle.connection.specs.Refusal.{Row, _when_, refusal}
 use Rattle.connection.specs.Slots.{requestAt, find, isFound}
 use Rattle.connection.specs.RequestCalls as Of
-use Rattle.connection.specs.Arguments.{Argument, ForValue, ForSource, ForPair, ForWalk, ForSay, ForEnd, ForFinish}
+use Rattle.connection.specs.Arguments.{Argument, ForRead, ForSay, ForEnd, ForFinish}
 use Rattle.connection.specs.Run.{called, stepOf, memoryOf}
 use Rattle.connection.specs.Laws.SlotsLaws.{found-true}
 use Rattle.connection.specs.Runs.ReceiverLaws.{SameList}
@@ -73,10 +73,7 @@ lastRows m id bytes buffer = (6 when (length buffer <? length bytes)) ∷ (10 wh
 
 -- of straight calls; those that read have rows of their own
 abbrev pub straightRows : QueueMemory → ℕ → Argument → List Row
-straightRows m id (ForValue name fallback) = []
-straightRows m id (ForSource name) = []
-straightRows m id (ForPair k) = []
-straightRows m id ForWalk = []
+straightRows m id (ForRead q) = []
 straightRows m id (ForSay o content buffer) = rowsOf m id (streamRows m id o (lastRows m id (Of.sayBytes (T.requestOf m id) o content) buffer))
 straightRows m id (ForEnd o buffer) = rowsOf m id (streamRows m id o (lastRows m id (Of.endBytes (T.requestOf m id) o) buffer))
 straightRows m id (ForFinish status buffer) =
@@ -102,10 +99,7 @@ step-change m piece =
 -- ---- straight calls
 straight-change : (m : QueueMemory) (id : ℕ) (a : Argument) → Change m (CallFor id (D.Straight a)) (queueCalled m id (D.Straight a) .left)
 unfolding queueCalled straightSay straightEnd straightFinish called
-straight-change m id (ForValue name fallback) = Keeps
-straight-change m id (ForSource name) = Keeps
-straight-change m id (ForPair k) = Keeps
-straight-change m id ForWalk = Keeps
+straight-change m id (ForRead q) = Keeps
 straight-change m id (ForSay o content buffer) =
     let rows = straightRows m id (ForSay o content buffer) in
     byTest (eqb (refusal rows) 0) (λ t. rw t (Writes id (ForSay o content buffer) (not-false (connOf m .«open») (let-through rows 1 (eqb-true (refusal rows) 0 t) refl))))

@@ -25,12 +25,16 @@ use Rattle.pair_list.specs.List as P
 use Rattle.pair_list.specs.List.{firstNamed}
 use Rattle.pair_list.specs.declared.Found.{Found}
 use Rattle.connection.specs.Calls as C
-use Rattle.connection.specs.Arguments.{ForValue, ForSource, ForPair, ForWalk, ForSay, ForEnd, ForFinish, ValueIs, SourceIs, PairAnswer, WalkIs, Wrote, FinishedWith}
+use Rattle.connection.specs.Arguments.{Question, ValueOf, SourceOf, PairOf, WalkOf, Reply, ValueIs, SourceIs, PairAnswer, WalkIs, refusedReply, ForRead, ForSay, ForEnd, ForFinish, RepliedWith, Wrote, FinishedWith}
 use Rattle.connection.specs.Request.{Held, listOf}
+use Rattle.connection.specs.Laws.RefusalRows.{sourceNumber, pairRefusal}
+use Rattle.connection.specs.Runs.Receiver.{replyIn}
+use Rattle.connection.specs.Runs.LinkingCalls.{replied-or-refused}
 use Rattle.queue.specs.Calls as T
-use Rattle.queue.specs.Calls.{QUEUE, PUMPED, QueueMemory, connOf, queueInShape, rowsOf, queueStepRefusal, sayRefusal, lentRefusal, queueSource, queuePair, queueWalk, queueCount, straightSay, straightEnd, straightFinish, pumpRefusal, or}
+use Rattle.queue.specs.Calls.{QUEUE, PUMPED, QueueMemory, connOf, queueInShape, rowsOf, queueStepRefusal, sayRefusal, lentRefusal, queueCount, straightSay, straightEnd, straightFinish, pumpRefusal, or}
 use Rattle.queue.specs.Run as D
-use Rattle.queue.specs.Run.{Asking, queueCalled}
+use Rattle.queue.specs.Run.{Asking, queueReply, queueCalled}
+use Rattle.queue.specs.ReplyLaws.{queue-replied-or-refused}
 use Rattle.queue_runs.specs.Rows.{refused-by}
 use Rattle.queue_runs.specs.Changes.{stepRows, straightRows, queuedRows}
 
@@ -44,21 +48,16 @@ pub record Sound (m : QueueMemory) : Type 0 where
 abbrev pub Allowed : ℕ → Type 0
 Allowed n = (n ≡ 2 → ⊥) × (n ≡ 9 → ⊥)
 
--- the number of the refusal in an answer, 0 for none
-abbrev pub sourceNumber : Of.Source → ℕ
-sourceNumber Of.FromStore = 0
-sourceNumber Of.FromFallback = 0
-sourceNumber (Of.SourceRefused n) = n
+-- the number of the refusal in what a call that only reads answers, 0 for none
+abbrev pub replyNumber : Reply → ℕ
+replyNumber (ValueIs v) = 0
+replyNumber (SourceIs v) = sourceNumber v
+replyNumber (PairAnswer v) = pairRefusal v
+replyNumber (WalkIs v) = v .refusal
 
-abbrev pub pairNumber : Of.Numbered → ℕ
-pairNumber (Of.PairIs p) = 0
-pairNumber (Of.PairRefused n) = n
-
+-- the number of the refusal in an answer
 abbrev pub numberIn : D.Answering → ℕ
-numberIn (D.Straightly (ValueIs v)) = 0
-numberIn (D.Straightly (SourceIs v)) = sourceNumber v
-numberIn (D.Straightly (PairAnswer v)) = pairNumber v
-numberIn (D.Straightly (WalkIs v)) = v .refusal
+numberIn (D.Straightly (RepliedWith r)) = replyNumber r
 numberIn (D.Straightly (Wrote n written buffer)) = n
 numberIn (D.Straightly (FinishedWith n written closed buffer)) = n
 numberIn (D.Queued n) = n
@@ -129,17 +128,31 @@ source-one h name = byTest (Of.noList (h .request)) (λ t. rw t four-allowed) (�
     go (Found.At p) = zero-allowed
     go Found.Nothing = zero-allowed
 
-pair-one : (h : Held) (k : ℕ) → Allowed (pairNumber (Of.pairIn h k))
+pair-one : (h : Held) (k : ℕ) → Allowed (pairRefusal (Of.pairIn h k))
 unfolding Of.pairIn
 pair-one h k = byTest (Of.noList (h .request)) (λ t. rw t four-allowed) (λ t. rw t (go (P.pairNumber (listOf h) k)))
   where
-    go : (f : Found) → Allowed (pairNumber (Of.onFound f Of.PairIs (Of.PairRefused 7)))
+    go : (f : Found) → Allowed (pairRefusal (Of.onFound f Of.PairIs (Of.PairRefused 7)))
     go (Found.At p) = zero-allowed
     go Found.Nothing = (λ e. omega arith, λ e. omega arith)
 
 walk-one : (h : Held) → Allowed (Of.walkIn h .refusal)
 unfolding Of.walkIn
 walk-one h = byTest (Of.noList (h .request)) (λ t. rw t four-allowed) (λ t. rw t zero-allowed)
+
+-- any call that only reads, as its request answers it
+reply-one : (h : Held) (q : Question) → Allowed (replyNumber (replyIn h q))
+reply-one h (ValueOf name fallback) = zero-allowed
+reply-one h (SourceOf name) = source-one h name
+reply-one h (PairOf k) = pair-one h k
+reply-one h WalkOf = walk-one h
+
+-- and as it is refused by n
+refused-one : (n : ℕ) (q : Question) → Allowed n → Allowed (replyNumber (refusedReply n q))
+refused-one n (ValueOf name fallback) a = zero-allowed
+refused-one n (SourceOf name) a = a
+refused-one n (PairOf k) a = a
+refused-one n WalkOf a = a
 
 -- by the state's shape alone
 shape-of : (m : QueueMemory) → queueInShape m ≡ true → inShape (connOf m) ≡ true
@@ -191,36 +204,17 @@ module _ (m : QueueMemory) (s : Sound m) where
   lent-allowed id = rows-allowed ((2 when not (length (m .memory .store) =? STORE)) ∷ rowsOf m id []) (rw store-size) (rw (s .shape))
 
   -- calls that read
-  source-allowed : (id : ℕ) (name : List ℕ) → Allowed (sourceNumber (queueSource m id name))
-  unfolding queueSource C.source
-  source-allowed id name =
-      byTest (eqb (lentRefusal m id) 0)
-      (λ t. byTest (eqb (C.lentRefusal (connOf m) (m .memory .store) id) 0) (λ u. rw (t, u) (source-one (heldAt (connOf m .table) (m .memory .store) (C.slotOf (connOf m) id)) name))
-      (λ u. rw (t, u) (base-allowed id)))
-      (λ t. rw t (lent-allowed id))
-
-  pair-allowed : (id k : ℕ) → Allowed (pairNumber (queuePair m id k))
-  unfolding queuePair C.pairAtNumber
-  pair-allowed id k =
-      byTest (eqb (lentRefusal m id) 0)
-      (λ t. byTest (eqb (C.lentRefusal (connOf m) (m .memory .store) id) 0) (λ u. rw (t, u) (pair-one (heldAt (connOf m .table) (m .memory .store) (C.slotOf (connOf m) id)) k))
-      (λ u. rw (t, u) (base-allowed id)))
-      (λ t. rw t (lent-allowed id))
-
-  walk-allowed : (id : ℕ) → Allowed (queueWalk m id .refusal)
-  unfolding queueWalk C.walk
-  walk-allowed id =
-      byTest (eqb (lentRefusal m id) 0)
-      (λ t. byTest (eqb (C.lentRefusal (connOf m) (m .memory .store) id) 0) (λ u. rw (t, u) (walk-one (heldAt (connOf m .table) (m .memory .store) (C.slotOf (connOf m) id))))
-      (λ u. rw (t, u) (base-allowed id)))
-      (λ t. rw t (lent-allowed id))
+  reply-allowed : (id : ℕ) (q : Question) → Allowed (replyNumber (queueReply m id q))
+  reply-allowed id q =
+      let n = C.lentRefusal (connOf m) (m .memory .store) id in
+      rw (queue-replied-or-refused m id q, replied-or-refused (connOf m) (m .memory .store) id q)
+      (byTest (eqb (lentRefusal m id) 0)
+      (λ t. byTest (eqb n 0) (λ u. rw (t, u) (reply-one (heldAt (connOf m .table) (m .memory .store) (C.slotOf (connOf m) id)) q)) (λ u. rw (t, u) (refused-one n q (base-allowed id))))
+      (λ t. rw t (refused-one (lentRefusal m id) q (lent-allowed id))))
 
   answer-allowed : (id : ℕ) (a : Asking) → Allowed (numberIn (queueCalled m id a .answer))
   unfolding queueCalled straightSay straightEnd straightFinish T.queueSay T.queueEnd T.queueFinish sayRefusal
-  answer-allowed id (D.Straight (ForValue name fallback)) = zero-allowed
-  answer-allowed id (D.Straight (ForSource name)) = source-allowed id name
-  answer-allowed id (D.Straight (ForPair k)) = pair-allowed id k
-  answer-allowed id (D.Straight ForWalk) = walk-allowed id
+  answer-allowed id (D.Straight (ForRead q)) = reply-allowed id q
   answer-allowed id (D.Straight (ForSay o content buffer)) =
       let rows = straightRows m id (ForSay o content buffer) in
       byTest (eqb (refusal rows) 0) (λ t. rw t (say-allowed id o content buffer)) (λ t. rw t (rows-allowed rows refl (rw (s .shape))))

@@ -18,7 +18,7 @@ use Rattle.connection.specs.Refusal.{Row, _when_, holdsIn, refusal}
 use Rattle.connection.specs.RequestCalls as Of
 use Rattle.connection.specs.Slots.{requestAt, find, onSlot, isFound}
 use Rattle.connection.specs.Calls as C
-use Rattle.connection.specs.Arguments.{ForValue, ForSource, ForPair, ForWalk, ForSay, ForEnd, ForFinish}
+use Rattle.connection.specs.Arguments.{ForRead, ForSay, ForEnd, ForFinish}
 use Rattle.connection.specs.Run.{Memory}
 use Rattle.connection.specs.Laws.SlotsLaws.{find-at, found-true}
 use Rattle.connection.specs.Laws.RefusalRows.{callRows, lentRows, ofSlot, outputRows, say-rows, end-rows, finish-rows}
@@ -139,10 +139,7 @@ module _ (m : QueueMemory) (g : Good m) (n : NothingWaits m) (id : ℕ) where
   -- Where nothing waits no call is refused by 10, but for a queued say of more than ROOM bytes.
   pub idle-not-ten : (a : Asking) → SayFits a → isTen (queueCalled m id a .answer) ≡ false
   unfolding queueCalled straightSay straightEnd straightFinish T.queueSay T.queueEnd T.queueFinish sayRefusal
-  idle-not-ten (D.Straight (ForValue name fallback)) l = refl
-  idle-not-ten (D.Straight (ForSource name)) l = refl
-  idle-not-ten (D.Straight (ForPair k)) l = refl
-  idle-not-ten (D.Straight ForWalk) l = refl
+  idle-not-ten (D.Straight (ForRead q)) l = refl
   idle-not-ten (D.Straight (ForSay o content buffer)) l =
       let rows = straightRows m id (ForSay o content buffer) in
       byTest (eqb (refusal rows) 0)

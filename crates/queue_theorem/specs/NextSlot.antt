@@ -16,7 +16,7 @@ use Rattle.connection.specs.Sizes.{SLOTS}
 use Rattle.connection.specs.Refusal.{_when_, refusal}
 use Rattle.connection.specs.Slots.{requestAt, find, onSlot}
 use Rattle.connection.specs.Laws.SlotsLaws.{find-at}
-use Rattle.connection.specs.Arguments.{ForValue, ForSource, ForPair, ForWalk, ForSay, ForEnd, ForFinish}
+use Rattle.connection.specs.Arguments.{ForRead, ForSay, ForEnd, ForFinish}
 use Rattle.queue_slot.specs.Wait.{Wait, nothingIn, Served, ServesNothing, ServesEnd, ServesData, ServesLast, served}
 use Rattle.queue.specs.Numbers.{NEXT, keptWaits}
 use Rattle.queue.specs.NumberLaws.{next-of-put}
@@ -80,10 +80,7 @@ both-next m id c r v = next-of-put (m .waits) (T.slotOf m id) v (slot-most m id)
 -- the calls, one by one
 call-next : (m : QueueMemory) (id : ℕ) (a : Asking) → connOf (queueCalled m id a .left) .«open» ≡ true → nextOf (queueCalled m id a .left) ≡ nextOf m
 unfolding queueCalled T.queueSay T.queueEnd T.queueFinish
-call-next m id (D.Straight (ForValue name fallback)) o = refl
-call-next m id (D.Straight (ForSource name)) o = refl
-call-next m id (D.Straight (ForPair k)) o = refl
-call-next m id (D.Straight ForWalk) o = refl
+call-next m id (D.Straight (ForRead q)) o = refl
 call-next m id (D.Straight (ForSay p content buffer)) o = kept-next m _ o
 call-next m id (D.Straight (ForEnd p buffer)) o = kept-next m _ o
 call-next m id (D.Straight (ForFinish status buffer)) o = kept-next m _ o

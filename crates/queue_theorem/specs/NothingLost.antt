@@ -34,7 +34,7 @@ use Rattle.machine_queue.specs.Waiting.{isLeaving, coreOf, waitsIn}
 use Rattle.connection.specs.Sizes.{SLOTS}
 use Rattle.machine_queue.specs.Accounts.{saidAs, saidIn, saidAll}
 use Rattle.connection.specs.Request.{Held}
-use Rattle.connection.specs.Arguments.{ForValue, ForSource, ForPair, ForWalk, ForSay, ForEnd, ForFinish, ValueIs, SourceIs, PairAnswer, WalkIs, Wrote, FinishedWith}
+use Rattle.connection.specs.Arguments.{ForRead, ForSay, ForEnd, ForFinish, RepliedWith, Wrote, FinishedWith}
 use Rattle.queue_slot.specs.Atoms.{Atom, endWaits}
 use Rattle.queue_machine.specs.Queued as Q
 use Rattle.queue_link.specs.Loaded.{waitingOf, loadedQueue}
@@ -137,10 +137,7 @@ run-says R (o ∷ os) m k p =
 -- ---- what R said, by the answers
 -- the refusal and what is asked are the machine's
 refusal-told : (n : Answering) → N.refusalIn n ≡ refusalAs (toldOf n)
-refusal-told (D.Straightly (ValueIs v)) = refl
-refusal-told (D.Straightly (SourceIs v)) = refl
-refusal-told (D.Straightly (PairAnswer v)) = refl
-refusal-told (D.Straightly (WalkIs v)) = refl
+refusal-told (D.Straightly (RepliedWith r)) = refl
 refusal-told (D.Straightly (Wrote n written buffer)) = refl
 refusal-told (D.Straightly (FinishedWith n written closed buffer)) = refl
 refusal-told (D.Queued n) = refl
@@ -150,10 +147,7 @@ last-told none status = refl
 last-told (some h) status = refl
 
 asks-told : (a : Asking) (v : Option Held) → N.asksToSay a v ≡ asksToSay (asked a) v
-asks-told (D.Straight (ForValue name fallback)) v = refl
-asks-told (D.Straight (ForSource name)) v = refl
-asks-told (D.Straight (ForPair k)) v = refl
-asks-told (D.Straight ForWalk) v = refl
+asks-told (D.Straight (ForRead q)) v = refl
 asks-told (D.Straight (ForSay o content buffer)) v = refl
 asks-told (D.Straight (ForEnd o buffer)) v = refl
 asks-told (D.Straight (ForFinish status buffer)) v = last-told v status

@@ -18,7 +18,7 @@ use Rattle.record.specs.Split.{split}
 use Rattle.machine.specs.Timeline.{RequestCall, CountCall, Item, ByteItem, CallItem, itemBytes, Scan, ScanHeader, scanNext, isOwn, isOwnCall, purgeFrom, purge}
 use Rattle.connection.specs.Event.{Event}
 use Rattle.connection.specs.Bytewise.{Note}
-use Rattle.connection.specs.Arguments.{Argument, ForWalk, Answer, ValueIs}
+use Rattle.connection.specs.Arguments.{WalkOf, ValueIs, Argument, ForRead, Answer, RepliedWith}
 use Rattle.connection.specs.Run as Base
 use Rattle.connection.specs.Run.{Memory, Operation, Observed, Heard, Answered, memoryAfter, requestOf, seenOf, WholeRun}
 use Rattle.connection.specs.Isolation as Without
@@ -38,14 +38,14 @@ use Rattle.queue_without.specs.WholeRuns.{NothingQueued, plainPart, Plai
 -- the arguments of a straight call
 abbrev argumentOf : Asking → Argument
 argumentOf (Straight a) = a
-argumentOf (D.ToSay o content) = ForWalk
-argumentOf (D.ToEnd o) = ForWalk
-argumentOf (D.ToFinish status) = ForWalk
+argumentOf (D.ToSay o content) = ForRead WalkOf
+argumentOf (D.ToEnd o) = ForRead WalkOf
+argumentOf (D.ToFinish status) = ForRead WalkOf
 
 -- its answer
 abbrev answerOf : Answering → Answer
 answerOf (Straightly n) = n
-answerOf (D.Queued n) = ValueIs []
+answerOf (D.Queued n) = RepliedWith (ValueIs [])
 
 -- an item of a timeline, back without a queue
 abbrev itemBack : Item Asking → Item Argument

@@ -25,16 +25,18 @@ use Rattle.connection.specs.RequestCalls as Of
 use Rattle.connection.specs.Slots.{requestAt, find, isFound}
 use Rattle.connection.specs.Step.{stepRefusal, stepped}
 use Rattle.connection.specs.Calls as C
-use Rattle.connection.specs.Arguments.{Argument, ForValue, ForSource, ForPair, ForWalk, ForSay, ForEnd, ForFinish}
+use Rattle.connection.specs.Arguments.{Question, Argument, ForRead, ForSay, ForEnd, ForFinish}
+use Rattle.connection.specs.Runs.LinkingCalls.{replied-or-refused}
 use Rattle.connection.specs.Run as Base
-use Rattle.connection.specs.Run.{Memory, Operation, Observed, Heard, Answered, called, stepOf, memoryAfter, PiecesOk, WholeRun}
+use Rattle.connection.specs.Run.{Memory, Operation, Observed, Heard, Answered, repliedTo, called, stepOf, memoryAfter, PiecesOk, WholeRun}
 use Rattle.connection.specs.Laws.SlotsLaws.{put-same}
 use Rattle.queue_slot.specs.Wait.{anything}
 use Rattle.queue.specs.Numbers.{nobodyWaits, lastAt}
 use Rattle.queue.specs.Calls as T
 use Rattle.queue.specs.Calls.{QUEUE, QueueMemory, beside, connOf, waitAt, waitFits, waitsFit, queueInShape, queueStepRefusal, queueStep, queueCount}
+use Rattle.queue.specs.ReplyLaws.{queue-replied-or-refused}
 use Rattle.queue.specs.Run as D
-use Rattle.queue.specs.Run.{Asking, Straight, QueueOperation, Straightly, QueueResult, withMemory, queueCalled, queueAfter, Shown, ShownNote, ShownAnswer, PiecesAreBytes, QueueRun}
+use Rattle.queue.specs.Run.{Asking, Straight, QueueOperation, Straightly, QueueResult, withMemory, queueReply, queueCalled, queueAfter, Shown, ShownNote, ShownAnswer, PiecesAreBytes, QueueRun}
 use Rattle.queue.specs.Isolation.{isTen}
 use Rattle.queue_link.specs.Loaded.{nobody-count, nobody-at, kept-either}
 use Rattle.queue_runs.specs.Rows.{refused-by}
@@ -191,10 +193,7 @@ own-ten r o bytes buffer = not-ten ((4 when Of.noOutput r) ∷ (5 when Of.isEnde
 -- A call without a queue is never refused by 10.
 pub never-ten : (m : Memory) (id : ℕ) (a : Argument) → isTen (Straightly (called m id a .answer)) ≡ false
 unfolding called C.say C.endStream C.finish Of.sayIn Of.endIn Of.finishIn
-never-ten m id (ForValue name fallback) = refl
-never-ten m id (ForSource name) = refl
-never-ten m id (ForPair k) = refl
-never-ten m id ForWalk = refl
+never-ten m id (ForRead q) = refl
 never-ten m id (ForSay o content buffer) =
     let c = m .state .conn in
     let r = requestAt (c .table) (C.slotOf c id) in
@@ -252,21 +251,10 @@ module _ (marks queue : List ℕ) (m : Memory) where
   unfolding T.lentRefusal C.lentRefusal
   lent-rows id = rw idle-shape
 
-  value-same : (id : ℕ) (name fallback : List ℕ) → T.queueValue still id name fallback ≡ C.value conn (m .store) id name fallback
-  unfolding T.queueValue C.value
-  value-same id name fallback = rw (lent-rows id) (byTest (C.lentRefusal conn (m .store) id =? 0) (λ t. rw t) (λ t. rw t))
-
-  source-same : (id : ℕ) (name : List ℕ) → T.queueSource still id name ≡ C.source conn (m .store) id name
-  unfolding T.queueSource C.source
-  source-same id name = rw (lent-rows id) (byTest (C.lentRefusal conn (m .store) id =? 0) (λ t. rw t) (λ t. rw t))
-
-  pair-same : (id k : ℕ) → T.queuePair still id k ≡ C.pairAtNumber conn (m .store) id k
-  unfolding T.queuePair C.pairAtNumber
-  pair-same id k = rw (lent-rows id) (byTest (C.lentRefusal conn (m .store) id =? 0) (λ t. rw t) (λ t. rw t))
-
-  walk-same : (id : ℕ) → T.queueWalk still id ≡ C.walk conn (m .store) id
-  unfolding T.queueWalk C.walk
-  walk-same id = rw (lent-rows id) (byTest (C.lentRefusal conn (m .store) id =? 0) (λ t. rw t) (λ t. rw t))
+  reply-same : (id : ℕ) (q : Question) → queueReply still id q ≡ repliedTo conn (m .store) id q
+  reply-same id q =
+      rw (queue-replied-or-refused still id q, lent-rows id, replied-or-refused conn (m .store) id q)
+      (byTest (C.lentRefusal conn (m .store) id =? 0) (λ t. rw t) (λ t. rw t))
 
   -- The active number is that without a queue.
   pub count-same : queueCount still ≡ C.activeCount conn
@@ -321,10 +309,7 @@ module _ (marks queue : List ℕ) (m : Memory) where
   -- A straight call is the call without a queue: it leaves the same, answers the same, and nothing waits behind it.
   pub call-same : (id : ℕ) (a : Argument) → queueCalled still id (Straight a) ≡ calledIdle marks queue (called m id a)
   unfolding queueCalled called
-  call-same id (ForValue name fallback) = rw (value-same id name fallback)
-  call-same id (ForSource name) = rw (source-same id name)
-  call-same id (ForPair k) = rw (pair-same id k)
-  call-same id ForWalk = rw (walk-same id)
+  call-same id (ForRead q) = rw (reply-same id q)
   call-same id (ForSay o content buffer) = rw (say-same id o content buffer) (back (called m id (ForSay o content buffer)))
   call-same id (ForEnd o buffer) = rw (end-same id o buffer) (back (called m id (ForEnd o buffer)))
   call-same id (ForFinish status buffer) = rw (finish-same id status buffer) (back (called m id (ForFinish status buffer)))

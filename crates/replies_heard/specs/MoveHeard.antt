@@ -8,7 +8,7 @@ use Rattle.connection.specs.declared.state.Table.{Table}
 use Rattle.connection.specs.Event.{Event as StationEvent}
 use Rattle.connection.specs.Slots.{noState, requestAt}
 use Rattle.connection.specs.Calls as C
-use Rattle.connection.specs.Arguments.{Argument, ForValue, ForSource, ForPair, ForWalk, ForSay, ForEnd, ForFinish}
+use Rattle.connection.specs.Arguments.{Argument, ForRead, ForSay, ForEnd, ForFinish}
 use Rattle.connection.specs.Run.{Memory, StepOver, CallFor, CountActive, called, stepOf, memoryAfter}
 use Rattle.connection.specs.Laws.SlotsLaws.{Sized}
 use Rattle.connection.specs.Runs.LinkingStep.{Steady, step-linked}
@@ -108,10 +108,7 @@ module _ (m : Memory) (t : Table) (v : List ℕ) (steady : Steady m) (ready : Re
 
   call-heard : (id : ℕ) (x : Argument) → id < 65536 → argumentFits x → CallHeard id (tableOf m) t v (wireOf m (Does (CallFor id x))) (callMeans m id x) (tableOf (called m id x .memory))
   unfolding called
-  call-heard id (ForValue name fallback) hi f = not-called id (tableOf m) t v ready
-  call-heard id (ForSource name) hi f = not-called id (tableOf m) t v ready
-  call-heard id (ForPair k) hi f = not-called id (tableOf m) t v ready
-  call-heard id ForWalk hi f = not-called id (tableOf m) t v ready
+  call-heard id (ForRead q) hi f = not-called id (tableOf m) t v ready
   call-heard id (ForSay o x buffer) hi f = say-heard (m .state .conn) id t v ready (a id) hi o x buffer f
   call-heard id (ForEnd o buffer) hi f = end-heard (m .state .conn) id t v ready (a id) hi o buffer
   call-heard id (ForFinish status buffer) hi f = finish-heard (m .state .conn) (m .store) id status buffer t v ready (a id) hi f

@@ -13,7 +13,7 @@ use Rattle.connection.specs.Codes.{outputType}
 use Rattle.connection.specs.Slots.{requestAt}
 use Rattle.connection.specs.RequestCalls.{owesOut, owesErr}
 use Rattle.connection.specs.Calls as C
-use Rattle.connection.specs.Arguments.{Argument, ForValue, ForSource, ForPair, ForWalk, ForSay, ForEnd, ForFinish, Answer, ValueIs, SourceIs, PairAnswer, WalkIs, Wrote, FinishedWith}
+use Rattle.connection.specs.Arguments.{Argument, ForRead, ForSay, ForEnd, ForFinish, Answer, RepliedWith, Wrote, FinishedWith}
 use Rattle.connection.specs.Run.{Memory, Operation, StepOver, CallFor, CountActive, called, memoryAfter}
 use Rattle.server.specs.Event.{Event, Note, showing}
 
@@ -29,10 +29,7 @@ leftOf m (Replies e buffer) = m
 
 -- ---- what goes on the wire: the bytes that an answer shows as written
 abbrev pub writtenIn : Answer → List ℕ
-writtenIn (ValueIs x) = []
-writtenIn (SourceIs x) = []
-writtenIn (PairAnswer x) = []
-writtenIn (WalkIs x) = []
+writtenIn (RepliedWith r) = []
 writtenIn (Wrote n k buffer) = take k buffer
 writtenIn (FinishedWith n k closed buffer) = take k buffer
 
@@ -56,10 +53,7 @@ finishNotes m id status =
     ++ (endNote (owesErr m) id STDERR ++ (Note.Told (Event.Finished id status REQUEST-COMPLETE) ∷ []))
 
 abbrev pub callMeans : Memory → ℕ → Argument → List Note
-callMeans m id (ForValue name fallback) = []
-callMeans m id (ForSource name) = []
-callMeans m id (ForPair k) = []
-callMeans m id ForWalk = []
+callMeans m id (ForRead q) = []
 callMeans m id (ForSay o x buffer) =
     unless (C.say (m .state .conn) id o x buffer .refusal) (showing id (outputType o) x)
 callMeans m id (ForEnd o buffer) =
@@ -90,10 +84,7 @@ meantBy m (Replies e buffer) = unless (C.replied e buffer .refusal) (replyMeans 
 
 -- ---- bounds, as the code's types have them: pieces and data are bytes, ids have two, statuses four, types one
 abbrev pub argumentFits : Argument → Type 0
-argumentFits (ForValue name fallback) = Unit {0}
-argumentFits (ForSource name) = Unit {0}
-argumentFits (ForPair k) = Unit {0}
-argumentFits ForWalk = Unit {0}
+argumentFits (ForRead q) = Unit {0}
 argumentFits (ForSay o x buffer) = AllBytes x
 argumentFits (ForEnd o buffer) = Unit {0}
 argumentFits (ForFinish status buffer) = status < 4294967296

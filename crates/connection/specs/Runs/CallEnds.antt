@@ -12,7 +12,7 @@ use Rattle.connection.specs.Shape.{inShape}
 use Rattle.connection.specs.Slots.{requestAt}
 use Rattle.connection.specs.RequestCalls as Of
 use Rattle.connection.specs.Calls as C
-use Rattle.connection.specs.Arguments.{Argument, ForValue, ForSource, ForPair, ForWalk, ForSay, ForEnd, ForFinish}
+use Rattle.connection.specs.Arguments.{Argument, ForRead, ForSay, ForEnd, ForFinish}
 use Rattle.connection.specs.Run.{Memory, called}
 use Rattle.connection.specs.Laws.SlotsLaws.{Sized}
 use Rattle.connection.specs.Laws.ShapeLaws.{shaped, in-shape, closed-in-shape}
@@ -52,10 +52,7 @@ pub data ClosesBy (m : Memory) (id : ℕ) : Argument → Type 0 where
 -- The only call that closes a connection.
 pub call-closes : (m : Memory) (id : ℕ) (a : Argument) → m .state .conn .«open» ≡ true → called m id a .memory .state .conn .«open» ≡ false → ClosesBy m id a
 unfolding called C.say C.endStream C.finish C.finishes C.released
-call-closes m id (ForValue name fallback) o e = let z : _≡_ {A = ℕ} 0 1 = cc in absurd (omega arith)
-call-closes m id (ForSource name) o e = let z : _≡_ {A = ℕ} 0 1 = cc in absurd (omega arith)
-call-closes m id (ForPair k) o e = let z : _≡_ {A = ℕ} 0 1 = cc in absurd (omega arith)
-call-closes m id ForWalk o e = let z : _≡_ {A = ℕ} 0 1 = cc in absurd (omega arith)
+call-closes m id (ForRead q) o e = let z : _≡_ {A = ℕ} 0 1 = cc in absurd (omega arith)
 call-closes m id (ForSay output bytes buffer) o e =
     byTest (eqb (C.callRefusal (m .state .conn) id) 0) (λ t. let z : _≡_ {A = ℕ} 0 1 = cc (simp t at e) in absurd (omega arith)) (λ t. let z : _≡_ {A = ℕ} 0 1 = cc (simp t at e) in absurd (omega arith))
 call-closes m id (ForEnd output buffer) o e =

@@ -20,7 +20,7 @@ use Rattle.connection.specs.RequestCalls as Of
 use Rattle.connection.specs.Slots.{requestAt, freeSlot}
 use Rattle.connection.specs.Step.{started}
 use Rattle.connection.specs.Calls as C
-use Rattle.connection.specs.Arguments.{Argument, ForValue, ForSource, ForPair, ForWalk, ForSay, ForEnd, ForFinish}
+use Rattle.connection.specs.Arguments.{Argument, ForRead, ForSay, ForEnd, ForFinish}
 use Rattle.connection.specs.Run.{Memory, Operation, StepOver, CallFor, CountActive, Observed, called, memoryAfter, seenIn, finalMemory, allSeen, startOf, PiecesOk, beginning, ending, observedIn}
 use Rattle.connection.specs.Counts.{shownIn, CountsAreShown}
 use Rattle.connection.specs.Laws.SlotsLaws.{Sized, Distinct, other-of-free, find-at, only-slot}
@@ -84,10 +84,7 @@ module _ (R : ℕ) (c : Shown) where
   -- Any call: R's counts stay, or R is not active after it.
   call-counts : (m : Memory) (id : ℕ) (a : Argument) → Sized (m .state .conn .table) → CountsOf R c (m .state .conn) → CountsOf R c (called m id a .memory .state .conn)
   unfolding called C.say C.endStream
-  call-counts m id (ForValue name fallback) sized counts = counts
-  call-counts m id (ForSource name) sized counts = counts
-  call-counts m id (ForPair k) sized counts = counts
-  call-counts m id ForWalk sized counts = counts
+  call-counts m id (ForRead q) sized counts = counts
   call-counts m id (ForSay output bytes buffer) sized counts =
       let conn = m .state .conn in
       let j = C.slotOf conn id in

@@ -9,7 +9,7 @@ use Rattle.machine.specs.Timeline.{Item, ByteItem, CallItem, Scan, ScanHeader, 
 use Rattle.machine.specs.Machine.{Observation, RequestEvent, NoticeEvent, CloseEvent, CountAnswer, CallAnswer}
 use Rattle.connection.specs.Event.{Event}
 use Rattle.connection.specs.Bytewise.{Note}
-use Rattle.connection.specs.Arguments.{Argument, Answer, ValueIs, SourceIs, PairAnswer, WalkIs, Wrote, FinishedWith}
+use Rattle.connection.specs.Arguments.{Argument, Answer, RepliedWith, Wrote, FinishedWith}
 use Rattle.connection.specs.Runs.Receiver.{receiver}
 use Rattle.connection.specs.History.{scanParams}
 
@@ -35,19 +35,13 @@ tellsAnew (Note.Shown id stream b) = false
 
 -- a finish that is not refused
 abbrev pub isFinish : Answer → Bool
-isFinish (ValueIs v) = false
-isFinish (SourceIs s) = false
-isFinish (PairAnswer p) = false
-isFinish (WalkIs w) = false
+isFinish (RepliedWith r) = false
 isFinish (Wrote refusal n buffer) = false
 isFinish (FinishedWith refusal n closed buffer) = refusal =? 0
 
 -- and it closed the connection
 abbrev pub isClose : Answer → Bool
-isClose (ValueIs v) = false
-isClose (SourceIs s) = false
-isClose (PairAnswer p) = false
-isClose (WalkIs w) = false
+isClose (RepliedWith r) = false
 isClose (Wrote refusal n buffer) = false
 isClose (FinishedWith refusal n closed buffer) = closed
 

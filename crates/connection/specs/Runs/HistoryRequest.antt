@@ -23,7 +23,7 @@ use Rattle.connection.specs.Bytewise.{Note}
 use borrow.Author.Tests.{eq-eqb}
 use Rattle.connection.specs.declared.request.Request.{Request}
 use Rattle.connection.specs.RequestCalls.{inParams}
-use Rattle.connection.specs.Arguments.{Argument, ForValue, ForSource, ForPair, ForWalk, ForSay, ForEnd, ForFinish, Answer, FinishedWith, refused}
+use Rattle.connection.specs.Arguments.{Argument, ForRead, ForSay, ForEnd, ForFinish, Answer, FinishedWith, refused}
 use Rattle.connection.specs.Runs.Receiver.{beginAs, receiveBegin, finishedAs, receiveCall}
 use Rattle.connection.specs.Runs.ReceiverLaws.{say-same, end-same}
 use Rattle.connection.specs.Runs.HistoryOnMachine.{opensOrFaults, tellsAnew, isFinish, isClose, takesAfter, takesTold}
@@ -83,20 +83,14 @@ finish-keeps keep h w = go (eqb (w .refusal) 0) refl keep
 
 pub call-keeps : (a : Argument) (h : Held) → CallKeeps h (receiveCall a h)
 unfolding receiveCall
-call-keeps (ForValue name fallback) h = (refl, refl)
-call-keeps (ForSource name) h = (refl, refl)
-call-keeps (ForPair k) h = (refl, refl)
-call-keeps ForWalk h = (refl, refl)
+call-keeps (ForRead q) h = (refl, refl)
 call-keeps (ForSay output bytes buffer) h = (refl, ap (λ n. take n (h .area)) (say-same (h .request) output bytes buffer .length))
 call-keeps (ForEnd output buffer) h = (refl, ap (λ n. take n (h .area)) (end-same (h .request) output buffer .length))
 call-keeps (ForFinish status buffer) h = finish-keeps (h .request .state .keep) h (Of.finishIn (h .request) status buffer)
 
 pub refused-keeps : (n : ℕ) (a : Argument) → eqb n 0 ≡ false → isFinish (refused n a) ≡ false
 unfolding refused
-refused-keeps n (ForValue name fallback) e = refl
-refused-keeps n (ForSource name) e = refl
-refused-keeps n (ForPair k) e = refl
-refused-keeps n ForWalk e = refl
+refused-keeps n (ForRead q) e = refl
 refused-keeps n (ForSay output bytes buffer) e = refl
 refused-keeps n (ForEnd output buffer) e = refl
 refused-keeps n (ForFinish status buffer) e = e
@@ -200,10 +194,7 @@ takes-finished keep h w = go (eqb (w .refusal) 0) keep
 
 pub takes-call : (a : Argument) (h : Held) → CallTakes h (receiveCall a h)
 unfolding receiveCall Of.sayIn Of.saidOn Of.endIn Of.endedOn
-takes-call (ForValue name fallback) h = refl
-takes-call (ForSource name) h = refl
-takes-call (ForPair k) h = refl
-takes-call ForWalk h = refl
+takes-call (ForRead q) h = refl
 takes-call (ForSay output bytes buffer) h = takes-writes _ _ _ (h .request) buffer (h .area) refl
 takes-call (ForEnd output buffer) h = takes-writes _ _ _ (h .request) buffer (h .area) refl
 takes-call (ForFinish status buffer) h = takes-finished (h .request .state .keep) h (Of.finishIn (h .request) status buffer)

@@ -12,7 +12,7 @@ use Rattle.machine.specs.Machine.{Observation, RequestEvent, NoticeEvent, Close
 use Rattle.connection.specs.Event.{Event}
 use Rattle.connection.specs.Step.{queryOf}
 use Rattle.connection.specs.Bytewise.{Note, notes, showing}
-use Rattle.connection.specs.Arguments.{Argument, Answer, ValueIs, SourceIs, PairAnswer, WalkIs, Wrote, FinishedWith}
+use Rattle.connection.specs.Arguments.{Argument, Answer, RepliedWith, Wrote, FinishedWith}
 use Rattle.connection.specs.Run.{Observed, Heard, Answered}
 use Rattle.connection.specs.History.{History, withByte, ParamsChange, Keeps, Begins, Ends, Drops, changed, changeOf, changeBy}
 use Rattle.connection.specs.Runs.Receiver.{receiver, QueryWith, UnknownType}
@@ -155,19 +155,13 @@ module _ (R : ℕ) where
 
   takes-answer : (id : ℕ) (n : Answer) (h : History)
       → (if isFinish n then (if isClose n then false else if eqb id R then false else h .takes) else h .takes) ≡ changed (changeBy R id n) h .takes
-  takes-answer id (ValueIs v) h = refl
-  takes-answer id (SourceIs s) h = refl
-  takes-answer id (PairAnswer p) h = refl
-  takes-answer id (WalkIs w) h = refl
+  takes-answer id (RepliedWith r) h = refl
   takes-answer id (Wrote refusal n buffer) h = refl
   takes-answer id (FinishedWith refusal n closed buffer) h = takes-finish id (eqb refusal 0) closed h
 
   list-answer : (id : ℕ) (n : Answer) (h : History)
       → (if (if isFinish n then (if isClose n then true else eqb id R) else false) then [] else h .parameters) ≡ changed (changeBy R id n) h .parameters
-  list-answer id (ValueIs v) h = refl
-  list-answer id (SourceIs s) h = refl
-  list-answer id (PairAnswer p) h = refl
-  list-answer id (WalkIs w) h = refl
+  list-answer id (RepliedWith r) h = refl
   list-answer id (Wrote refusal n buffer) h = refl
   list-answer id (FinishedWith refusal n closed buffer) h = list-finish id (eqb refusal 0) closed h
 

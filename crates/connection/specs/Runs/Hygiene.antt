@@ -24,7 +24,7 @@ use Rattle.connection.specs.Calls as C
 use Rattle.wire.specs.Bytes.{take-bytes}
 use Rattle.connection.specs.Laws.Progress.{admitted-fits, step-refused}
 use Rattle.connection.specs.Laws.Closing.{closes-by-cause, closing-frees}
-use Rattle.connection.specs.Arguments.{Argument, ForValue, ForSource, ForPair, ForWalk, ForSay, ForEnd, ForFinish}
+use Rattle.connection.specs.Arguments.{Argument, ForRead, ForSay, ForEnd, ForFinish}
 use Rattle.connection.specs.Runs.Receiver.{cleanArea, receiver}
 use Rattle.connection.specs.Runs.ReceiverLaws.{receiver-laws}
 use Rattle.connection.specs.Runs.Loading.{loadedSlot, slotOf}
@@ -109,10 +109,7 @@ closed-finish m i keep w o z =
 
 closed-result : (m : Memory) (i : ℕ) (a : Argument) → m .state .conn .«open» ≡ true → Steady m → ClosedClean (resultAt m i a .memory)
 unfolding resultAt
-closed-result m i (ForValue name fallback) o z = still-open m o
-closed-result m i (ForSource name) o z = still-open m o
-closed-result m i (ForPair k) o z = still-open m o
-closed-result m i ForWalk o z = still-open m o
+closed-result m i (ForRead q) o z = still-open m o
 closed-result m i (ForSay output bytes buffer) o z = record { connection = λ c. true-false (sym o ∙ c); store = λ c. true-false (sym o ∙ c) }
 closed-result m i (ForEnd output buffer) o z = record { connection = λ c. true-false (sym o ∙ c); store = λ c. true-false (sym o ∙ c) }
 closed-result m i (ForFinish status buffer) o z = closed-finish m i _ _ o z

@@ -19,7 +19,7 @@ use Rattle.connection.specs.Slots.{requestAt, areaAt, putRequest, find, 
 use Rattle.connection.specs.Step.{started}
 use Rattle.connection.specs.RequestCalls as Of
 use Rattle.connection.specs.Calls as C
-use Rattle.connection.specs.Arguments.{Argument, ForValue, ForSource, ForPair, ForWalk, ForSay, ForEnd, ForFinish}
+use Rattle.connection.specs.Arguments.{Argument, ForRead, ForSay, ForEnd, ForFinish}
 use Rattle.connection.specs.Run.{Memory, Operation, StepOver, CallFor, CountActive, finishedBy, called, stepOf, memoryOf, memoryAfter, startOf, PiecesOk}
 use Rattle.connection.specs.Laws.SlotsLaws.{put-sized, free-sized, put-occupied, area-length, put-area-length, find-at, found-true}
 use Rattle.connection.specs.Laws.ShapeLaws.{shaped, in-shape}
@@ -152,10 +152,7 @@ orderly-finish m id status buffer o =
 
 orderly-call : (m : Memory) (id : ℕ) (a : Argument) → Orderly m → Orderly (called m id a .memory)
 unfolding called C.say C.endStream
-orderly-call m id (ForValue name fallback) o = o
-orderly-call m id (ForSource name) o = o
-orderly-call m id (ForPair k) o = o
-orderly-call m id ForWalk o = o
+orderly-call m id (ForRead q) o = o
 orderly-call m id (ForSay output bytes buffer) o =
     let i = C.slotOf (m .state .conn) id in
     let r = requestAt (m .state .conn .table) i in

@@ -8,7 +8,7 @@ use native.Mathlib.Omega.{arith}
 use lib.ListN.{length, take, set}
 use lib.Dec.{eqb}
 use borrow.Author.Tests.{eq-eqb, ne-eqb, eqb-true, eqb-false}
-use Rattle.wire.specs.Test.{if_then_else_, byTest}
+use Rattle.wire.specs.Test.{if_then_else_, _=?_, byTest}
 use Rattle.wire.specs.Buffer.{zeros}
 use Rattle.machine.specs.Slots.{HeldBy}
 use Rattle.machine.specs.Timeline.{RequestCall, CountCall, CallItem}
@@ -26,12 +26,12 @@ use Rattle.connection.specs.Step.{openWith, closedConn}
 use Rattle.connection.specs.Calls as C
 use Rattle.connection.specs.Laws.SlotsLaws.{Holds, request-of-put, find-put, find-at, nowhere-find}
 use Rattle.connection.specs.Laws.ShapeLaws.{InUse, shaped}
-use Rattle.connection.specs.Arguments.{Argument, ForValue, ForSource, ForPair, ForWalk, ForSay, ForEnd, ForFinish, Answer, ValueIs, SourceIs, PairAnswer, WalkIs, Wrote, FinishedWith, refused}
-use Rattle.connection.specs.Runs.Receiver.{receiver, writtenAs, finishedAs, receiveCall}
+use Rattle.connection.specs.Arguments.{Question, ValueOf, SourceOf, PairOf, WalkOf, refusedReply, Argument, ForRead, ForSay, ForEnd, ForFinish, Answer, RepliedWith, Wrote, FinishedWith, refused}
+use Rattle.connection.specs.Runs.Receiver.{receiver, replyIn, writtenAs, finishedAs, receiveCall}
 use Rattle.connection.specs.Runs.ReceiverLaws.{SameList, say-same, end-same}
 use Rattle.connection.specs.Runs.Loading.{loadedSlots, loadedTarget, readingAt, loadedReading, loadedWhen}
 use Rattle.connection.specs.Runs.LoadingLaws.{loaded-kept, loaded-states, loaded-free, foundAs, lookup-loaded}
-use Rattle.connection.specs.Run.{Memory, CallFor, CountActive, requestOf, CallResult, unchanged, changedBy, finishedBy, called, memoryAfter, seenIn, itemsOf}
+use Rattle.connection.specs.Run.{Memory, CallFor, CountActive, requestOf, CallResult, repliedTo, unchanged, changedBy, finishedBy, called, memoryAfter, seenIn, itemsOf}
 use Rattle.connection.specs.Runs.Telling.{toldAll}
 use Rattle.connection.specs.Runs.LinkingStep.{loadedOf, Steady, Linked}
 use Rattle.connection.specs.Runs.CallShape.{withRequest, steady-put, free-holds, withoutRequest, steady-free, closedMemory, steady-closed}
@@ -68,14 +68,20 @@ module _ (m : Memory) (z : Steady m) (id : ℕ) where
   unfolding C.callRefusal
   call-found i e f = simp (z .shape, e, f)
 
+-- A call that only reads is answered by the request that is named, or refused.
+pub replied-or-refused : (c : Conn) (store : List ℕ) (id : ℕ) (q : Question)
+    → repliedTo c store id q ≡ (if C.lentRefusal c store id =? 0 then replyIn (heldAt (c .table) store (C.slotOf c id)) q else refusedReply (C.lentRefusal c store id) q)
+unfolding C.value C.source C.pairAtNumber C.walk
+replied-or-refused c store id (ValueOf name fallback) = byTest (C.lentRefusal c store id =? 0) (λ e. rw e) (λ e. rw e)
+replied-or-refused c store id (SourceOf name) = byTest (C.lentRefusal c store id =? 0) (λ e. rw e) (λ e. rw e)
+replied-or-refused c store id (PairOf k) = byTest (C.lentRefusal c store id =? 0) (λ e. rw e) (λ e. rw e)
+replied-or-refused c store id WalkOf = byTest (C.lentRefusal c store id =? 0) (λ e. rw e) (λ e. rw e)
+
 -- a call that is refused by 1 or 3 changes nothing
 pub refused-call : (m : Memory) (id n : ℕ) (a : Argument) → C.lentRefusal (m .state .conn) (m .store) id ≡ suc n → C.callRefusal (m .state .conn) id ≡ suc n
     → called m id a ≡ unchanged m (refused (suc n) a)
-unfolding called refused C.value C.source C.pairAtNumber C.walk C.say C.endStream C.finish
-refused-call m id n (ForValue name fallback) l c = rw (l, ne-eqb (suc n) 0 (λ e. omega arith))
-refused-call m id n (ForSource name) l c = rw (l, ne-eqb (suc n) 0 (λ e. omega arith))
-refused-call m id n (ForPair k) l c = rw (l, ne-eqb (suc n) 0 (λ e. omega arith))
-refused-call m id n ForWalk l c = rw (l, ne-eqb (suc n) 0 (λ e. omega arith))
+unfolding called refused C.say C.endStream C.finish
+refused-call m id n (ForRead q) l c = rw (replied-or-refused (m .state .conn) (m .store) id q, l, ne-eqb (suc n) 0 (λ e. omega arith))
 refused-call m id n (ForSay output bytes buffer) l c = rw (c, ne-eqb (suc n) 0 (λ e. omega arith))
 refused-call m id n (ForEnd output buffer) l c = rw (c, ne-eqb (suc n) 0 (λ e. omega arith))
 refused-call m id n (ForFinish status buffer) l c = rw (l, ne-eqb (suc n) 0 (λ e. omega arith))
@@ -217,10 +223,7 @@ module _ (t : Table) (f : Frame) (gathered store : List ℕ) (z : Steady (memory
 -- ---- every call
 -- what a call of the request in slot i comes to
 unfoldable pub resultAt : Memory → ℕ → Argument → CallResult
-resultAt m i (ForValue name fallback) = unchanged m (ValueIs (Of.valueIn (heldAt (m .state .conn .table) (m .store) i) name fallback))
-resultAt m i (ForSource name) = unchanged m (SourceIs (Of.sourceIn (heldAt (m .state .conn .table) (m .store) i) name))
-resultAt m i (ForPair k) = unchanged m (PairAnswer (Of.pairIn (heldAt (m .state .conn .table) (m .store) i) k))
-resultAt m i ForWalk = unchanged m (WalkIs (Of.walkIn (heldAt (m .state .conn .table) (m .store) i)))
+resultAt m i (ForRead q) = unchanged m (RepliedWith (replyIn (heldAt (m .state .conn .table) (m .store) i) q))
 resultAt m i (ForSay output bytes buffer) = changedBy m (C.writtenBy (m .state .conn) i (Of.sayIn (requestAt (m .state .conn .table) i) output bytes buffer))
 resultAt m i (ForEnd output buffer) = changedBy m (C.writtenBy (m .state .conn) i (Of.endIn (requestAt (m .state .conn .table) i) output buffer))
 resultAt m i (ForFinish status buffer) =
@@ -234,11 +237,8 @@ slot-found c id i e = rw e
 -- A call of an id that is found.
 pub found-result : (m : Memory) (id i : ℕ) (a : Argument) → C.lentRefusal (m .state .conn) (m .store) id ≡ 0 → C.callRefusal (m .state .conn) id ≡ 0 → C.slotOf (m .state .conn) id ≡ i
     → called m id a ≡ resultAt m i a
-unfolding called resultAt C.value C.source C.pairAtNumber C.walk C.say C.endStream C.finish
-found-result m id i (ForValue name fallback) l c s = rw (l, s)
-found-result m id i (ForSource name) l c s = rw (l, s)
-found-result m id i (ForPair k) l c s = rw (l, s)
-found-result m id i ForWalk l c s = rw (l, s)
+unfolding called resultAt C.say C.endStream C.finish
+found-result m id i (ForRead q) l c s = rw (replied-or-refused (m .state .conn) (m .store) id q, l, s)
 found-result m id i (ForSay output bytes buffer) l c s = rw (c, s)
 found-result m id i (ForEnd output buffer) l c s = rw (c, s)
 found-result m id i (ForFinish status buffer) l c s = rw (l, s)
@@ -247,11 +247,7 @@ agrees-found : (t : Table) (f : Frame) (gathered store : List ℕ) → Steady (m
     → Agrees (memoryAt t f gathered store) id a (resultAt (memoryAt t f gathered store) i a)
     (callDecided receiver (receiveCall a (heldAt t store i)) i (heldAt t store i) id a (loadedSlots t store) (loadedReading f gathered))
 unfolding resultAt receiveCall
-agrees-found t f gathered store z id i (ForValue name fallback) e =
-    answers t f gathered store z id (ForValue name fallback) i e (ValueIs (Of.valueIn (heldAt t store i) name fallback))
-agrees-found t f gathered store z id i (ForSource name) e = answers t f gathered store z id (ForSource name) i e (SourceIs (Of.sourceIn (heldAt t store i) name))
-agrees-found t f gathered store z id i (ForPair k) e = answers t f gathered store z id (ForPair k) i e (PairAnswer (Of.pairIn (heldAt t store i) k))
-agrees-found t f gathered store z id i ForWalk e = answers t f gathered store z id ForWalk i e (WalkIs (Of.walkIn (heldAt t store i)))
+agrees-found t f gathered store z id i (ForRead q) e = answers t f gathered store z id (ForRead q) i e (RepliedWith (replyIn (heldAt t store i) q))
 agrees-found t f gathered store z id i (ForSay output bytes buffer) e =
     writes t f gathered store z id (ForSay output bytes buffer) i e (Of.sayIn (requestAt t i) output bytes buffer) (say-same (requestAt t i) output bytes buffer)
 agrees-found t f gathered store z id i (ForEnd output buffer) e =

@@ -19,7 +19,7 @@ use Rattle.connection.specs.Request.{Held, Ruled, onHeader, onContent, o
 use Rattle.connection.specs.RequestCalls as Of
 use Rattle.connection.specs.Step.{queryOf, onRole}
 use Rattle.connection.specs.Bytewise.{Note}
-use Rattle.connection.specs.Arguments.{Argument, ForValue, ForSource, ForPair, ForWalk, ForSay, ForEnd, ForFinish, Answer, ValueIs, SourceIs, PairAnswer, WalkIs, Wrote, FinishedWith, refused}
+use Rattle.connection.specs.Arguments.{Question, ValueOf, SourceOf, PairOf, WalkOf, Reply, ValueIs, SourceIs, PairAnswer, WalkIs, Argument, ForRead, ForSay, ForEnd, ForFinish, Answer, RepliedWith, Wrote, FinishedWith, refused}
 
 -- the area of a slot that is free
 unfoldable pub cleanArea : List ℕ
@@ -94,6 +94,13 @@ unfoldable pub receiveInactive : ℕ → ℕ → InactiveOutcome
 receiveInactive kind n = if kind =? BEGIN-REQUEST then (if n =? 8 then NewBegin else WrongBegin) else PassedOver
 
 -- ---- calls
+-- what the request answers to a call that only reads
+abbrev pub replyIn : Held → Question → Reply
+replyIn h (ValueOf name fallback) = ValueIs (Of.valueIn h name fallback)
+replyIn h (SourceOf name) = SourceIs (Of.sourceIn h name)
+replyIn h (PairOf k) = PairAnswer (Of.pairIn h k)
+replyIn h WalkOf = WalkIs (Of.walkIn h)
+
 -- a call that writes
 abbrev pub writtenAs : Held → Of.Writing → CallOutcome Held Answer
 writtenAs h w =
@@ -108,10 +115,7 @@ finishedAs keep h w =
 
 -- the calls, each answered by its request
 unfoldable pub receiveCall : Argument → Held → CallOutcome Held Answer
-receiveCall (ForValue name fallback) h = Stays h (ValueIs (Of.valueIn h name fallback))
-receiveCall (ForSource name) h = Stays h (SourceIs (Of.sourceIn h name))
-receiveCall (ForPair k) h = Stays h (PairAnswer (Of.pairIn h k))
-receiveCall ForWalk h = Stays h (WalkIs (Of.walkIn h))
+receiveCall (ForRead q) h = Stays h (RepliedWith (replyIn h q))
 receiveCall (ForSay output bytes buffer) h = writtenAs h (Of.sayIn (h .request) output bytes buffer)
 receiveCall (ForEnd output buffer) h = writtenAs h (Of.endIn (h .request) output buffer)
 receiveCall (ForFinish status buffer) h = finishedAs (h .request .state .keep) h (Of.finishIn (h .request) status buffer)

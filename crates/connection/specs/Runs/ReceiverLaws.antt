@@ -28,7 +28,7 @@ use Rattle.connection.specs.RequestCalls as Of
 use Rattle.connection.specs.Laws.RequestShape.{Room, keeps-header}
 use Rattle.connection.specs.Laws.CuttingContent.{grown-room}
 use Rattle.connection.specs.Bytewise.{Note}
-use Rattle.connection.specs.Arguments.{Argument, ForValue, ForSource, ForPair, ForWalk, ForSay, ForEnd, ForFinish, FinishedWith}
+use Rattle.connection.specs.Arguments.{Argument, ForRead, ForSay, ForEnd, ForFinish, FinishedWith}
 use Rattle.connection.specs.Runs.Receiver.{cleanArea, receiveHeader, receiveByte, beginAs, receiveBegin, receiveManagement, receiveInactive, writtenAs, finishedAs, receiveCall, receiver, noteOf, dueStream}
 use Rattle.connection.specs.Laws.Rules.{by-rule}
 
@@ -175,10 +175,7 @@ finished-ok keep h w f = go (eqb (w .refusal) 0) keep
 -- Every call keeps it in shape.
 pub call-ok : (a : Argument) (h : Held) → RequestOk h → CallOutcomeOk RequestOk StreamOk h (receiveCall a h)
 unfolding receiveCall
-call-ok (ForValue name fallback) h f = (f, λ due n r. r)
-call-ok (ForSource name) h f = (f, λ due n r. r)
-call-ok (ForPair k) h f = (f, λ due n r. r)
-call-ok ForWalk h f = (f, λ due n r. r)
+call-ok (ForRead q) h f = (f, λ due n r. r)
 call-ok (ForSay output bytes buffer) h f = written-ok h (Of.sayIn (h .request) output bytes buffer) f (say-same (h .request) output bytes buffer)
 call-ok (ForEnd output buffer) h f = written-ok h (Of.endIn (h .request) output buffer) f (end-same (h .request) output buffer)
 call-ok (ForFinish status buffer) h f = finished-ok (h .request .state .keep) h (Of.finishIn (h .request) status buffer) f

@@ -33,7 +33,7 @@ use Rattle.connection.specs.Calls as C
 use Rattle.connection.specs.Laws.PieceLaws.{by-step}
 use Rattle.connection.specs.Laws.ShapeLaws.{shaped}
 use Rattle.connection.specs.Laws.Progress.{fits-admitted, step-advances, step-nothing}
-use Rattle.connection.specs.Arguments.{Argument, ForValue, ForSource, ForPair, ForWalk, ForSay, ForEnd, ForFinish}
+use Rattle.connection.specs.Arguments.{Argument, ForRead, ForSay, ForEnd, ForFinish}
 use Rattle.connection.specs.Run.{Memory, Operation, StepOver, CallFor, CountActive, CallResult, finishedBy, called, stepOf, usedOf, memoryAfter, itemsOf, finalMemory, timeline, startOf, PiecesOk, WholeRun, beginning, ending, timelineOf}
 use Rattle.connection.specs.Runs.LinkingStep.{Steady, step-linked}
 use Rattle.connection.specs.Runs.LinkingCalls.{lent-absent, call-absent, lent-found, call-found, refused-call, resultAt, slot-found, found-result, call-linked}
@@ -154,10 +154,7 @@ call-finish m i keep w =
 
 call-result : (m : Memory) (i : ℕ) (a : Argument) → StandsAt (m .state .conn .frame .position) (resultAt m i a .memory .state .conn)
 unfolding resultAt
-call-result m i (ForValue name fallback) o = refl
-call-result m i (ForSource name) o = refl
-call-result m i (ForPair k) o = refl
-call-result m i ForWalk o = refl
+call-result m i (ForRead q) o = refl
 call-result m i (ForSay output bytes buffer) o = refl
 call-result m i (ForEnd output buffer) o = refl
 call-result m i (ForFinish status buffer) o = call-finish m i _ _ o

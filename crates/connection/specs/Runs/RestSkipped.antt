@@ -20,7 +20,7 @@ use Rattle.connection.specs.Event.{Event}
 use Rattle.connection.specs.Step.{State, Stepped, dueTo, advances, stepRefusal, stepped}
 use Rattle.connection.specs.Calls as C
 use Rattle.connection.specs.Bytewise.{Note, notes}
-use Rattle.connection.specs.Arguments.{Argument, ForValue, ForSource, ForPair, ForWalk, ForSay, ForEnd, ForFinish}
+use Rattle.connection.specs.Arguments.{Argument, ForRead, ForSay, ForEnd, ForFinish}
 use Rattle.connection.specs.Run.{Memory, Operation, StepOver, CallFor, CountActive, Heard, Answered, requestOf, finishedBy, called, stepOf, memoryOf, usedOf, memoryAfter, seenIn, itemsOf, finalMemory, allSeen, timeline}
 use Rattle.connection.specs.Laws.Progress.{admitted-fits, in-content, step-refused, step-nothing, step-advances, step-uses-some, step-uses-no-more}
 use Rattle.connection.specs.Runs.LinkingCalls.{slot-found}
@@ -110,10 +110,7 @@ skips-finish n m id status buffer k =
 -- No call ends the skipping.
 pub skips-call : (n : ℕ) (m : Memory) (id : ℕ) (a : Argument) → Skips n m → Skips n (called m id a .memory)
 unfolding called C.say C.endStream
-skips-call n m id (ForValue name fallback) k = k
-skips-call n m id (ForSource name) k = k
-skips-call n m id (ForPair i) k = k
-skips-call n m id ForWalk k = k
+skips-call n m id (ForRead q) k = k
 skips-call n m id (ForSay output bytes buffer) k =
     byTest (eqb (C.callRefusal (m .state .conn) id) 0) (λ t. simp t k) (λ t. simp t k)
 skips-call n m id (ForEnd output buffer) k =

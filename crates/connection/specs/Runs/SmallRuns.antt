@@ -31,7 +31,7 @@ use Rattle.connection.specs.Shape.{idFits, slotsFit, positionFits, inSha
 use Rattle.connection.specs.Step.{names, queryOf, queried, onManagement, ofQuery, onInactive, onActive, judged, opens, begun, ofBegin, ofRequest, advances, stepRefusal, stepped, started}
 use Rattle.connection.specs.Calls as C
 use Rattle.connection.specs.Bytewise.{Note, showing}
-use Rattle.connection.specs.Arguments.{ForValue, ForPair, ForSay, ForFinish, ValueIs, PairAnswer, FinishedWith}
+use Rattle.connection.specs.Arguments.{ValueOf, PairOf, ValueIs, PairAnswer, ForRead, ForSay, ForFinish, RepliedWith, FinishedWith}
 use Rattle.connection.specs.Run.{Operation, StepOver, CallFor, Observed, Heard, Answered, requestOf, called, memoryAfter, seenIn, itemsOf, finalMemory, allSeen, timeline, startOf, seenOf}
 use Rattle.connection.specs.Runs.RunParts.{fresh, header, begin, paramsEnd, oneParam, finish, one, one-shown, opened-one}
 
@@ -72,9 +72,9 @@ pub record SmallRuns : Type 0 where
   slots-apart : Alike (begin 1 ++ begin 2) (begin 1) (opened-one ∷ []) (one 0 Turn.Params (zeros AREA))
   -- 2 is in the first slot, 1 in the second; the first pair of 1 is asked for. (offset_in_store: its name lies
   -- past the first area.)
-  offsets-in-area : Alike (begin 2 ++ begin 1 ++ (header 4 1 2 ∷ StepOver (0 ∷ 0 ∷ []) ∷ []) ++ paramsEnd 1 ++ (CallFor 1 (ForPair 0) ∷ [])) (begin 1 ++ (header 4 1 2 ∷ StepOver (0 ∷ 0 ∷ []) ∷ []) ++ paramsEnd 1 ++ (CallFor 1 (ForPair 0) ∷ []))
+  offsets-in-area : Alike (begin 2 ++ begin 1 ++ (header 4 1 2 ∷ StepOver (0 ∷ 0 ∷ []) ∷ []) ++ paramsEnd 1 ++ (CallFor 1 (ForRead (PairOf 0)) ∷ [])) (begin 1 ++ (header 4 1 2 ∷ StepOver (0 ∷ 0 ∷ []) ∷ []) ++ paramsEnd 1 ++ (CallFor 1 (ForRead (PairOf 0)) ∷ []))
       (opened-one ∷ Heard (Note.Told (Event.Ready 1 2))
-      ∷ Answered 1 (ForPair 0) (PairAnswer (Of.PairIs (record { name = 2; «name_len» = 0; value = 2; «value_len» = 0 }))) (one 2 Turn.Stdin (zeros AREA)) (one 2 Turn.Stdin (zeros AREA))
+      ∷ Answered 1 (ForRead (PairOf 0)) (RepliedWith (PairAnswer (Of.PairIs (record { name = 2; «name_len» = 0; value = 2; «value_len» = 0 })))) (one 2 Turn.Stdin (zeros AREA)) (one 2 Turn.Stdin (zeros AREA))
       ∷ [])
       (one 2 Turn.Stdin (zeros AREA))
   -- Something is said on STDERR for 2, then 1 is finished. (stderr_flag_shared: an end of STDERR is written for 1,
@@ -88,22 +88,22 @@ pub record SmallRuns : Type 0 where
   areas-zeroed : Alike (begin 2 ++ oneParam 2 7 ++ finish 2 ++ begin 1) (begin 1) (opened-one ∷ []) (one 0 Turn.Params (zeros AREA))
   -- A BEGIN of 2 is half gathered when 1 is asked for a pair; its rest comes before a byte of 1.
   begin-half-gathered : Alike
-      (begin 1 ++ paramsEnd 1 ++ (header 1 2 8 ∷ StepOver (0 ∷ 1 ∷ 1 ∷ []) ∷ CallFor 1 (ForPair 0) ∷ StepOver (0 ∷ 0 ∷ 0 ∷ 0 ∷ 0 ∷ []) ∷ []) ++ (header 5 1 1 ∷ StepOver (9 ∷ []) ∷ []))
-      (begin 1 ++ paramsEnd 1 ++ (CallFor 1 (ForPair 0) ∷ []) ++ (header 5 1 1 ∷ StepOver (9 ∷ []) ∷ []))
+      (begin 1 ++ paramsEnd 1 ++ (header 1 2 8 ∷ StepOver (0 ∷ 1 ∷ 1 ∷ []) ∷ CallFor 1 (ForRead (PairOf 0)) ∷ StepOver (0 ∷ 0 ∷ 0 ∷ 0 ∷ 0 ∷ []) ∷ []) ++ (header 5 1 1 ∷ StepOver (9 ∷ []) ∷ []))
+      (begin 1 ++ paramsEnd 1 ++ (CallFor 1 (ForRead (PairOf 0)) ∷ []) ++ (header 5 1 1 ∷ StepOver (9 ∷ []) ∷ []))
       (opened-one ∷ Heard (Note.Told (Event.Ready 1 0))
-      ∷ Answered 1 (ForPair 0) (PairAnswer (Of.PairRefused 7)) (one 0 Turn.Stdin (zeros AREA)) (one 0 Turn.Stdin (zeros AREA))
+      ∷ Answered 1 (ForRead (PairOf 0)) (RepliedWith (PairAnswer (Of.PairRefused 7))) (one 0 Turn.Stdin (zeros AREA)) (one 0 Turn.Stdin (zeros AREA))
       ∷ Heard (Note.Shown 1 STDIN 9) ∷ [])
       (one-shown 1 0 Turn.Stdin (zeros AREA))
   -- A query comes in between, cut by a call of 1: its bytes are no parameters of 1.
   query-in-between : Alike
-      (begin 1 ++ (header 9 0 2 ∷ StepOver (0 ∷ []) ∷ CallFor 1 (ForPair 0) ∷ StepOver (0 ∷ []) ∷ []) ++ oneParam 1 7) (begin 1 ++ (CallFor 1 (ForPair 0) ∷ []) ++ oneParam 1 7)
-      (opened-one ∷ Answered 1 (ForPair 0) (PairAnswer (Of.PairRefused 4)) (one 0 Turn.Params (zeros AREA)) (one 0 Turn.Params (zeros AREA)) ∷ [])
+      (begin 1 ++ (header 9 0 2 ∷ StepOver (0 ∷ []) ∷ CallFor 1 (ForRead (PairOf 0)) ∷ StepOver (0 ∷ []) ∷ []) ++ oneParam 1 7) (begin 1 ++ (CallFor 1 (ForRead (PairOf 0)) ∷ []) ++ oneParam 1 7)
+      (opened-one ∷ Answered 1 (ForRead (PairOf 0)) (RepliedWith (PairAnswer (Of.PairRefused 4))) (one 0 Turn.Params (zeros AREA)) (one 0 Turn.Params (zeros AREA)) ∷ [])
       (one 1 Turn.Params (7 ∷ zeros (AREA - 1)))
   -- 2 and 1 both have the name A, with the values B and C; each is asked for it.
   values-apart : Alike
-      (begin 2 ++ begin 1 ++ pairOf 2 66 ++ pairOf 1 67 ++ (CallFor 2 (ForValue (65 ∷ []) []) ∷ CallFor 1 (ForValue (65 ∷ []) []) ∷ [])) (begin 1 ++ pairOf 1 67 ++ (CallFor 1 (ForValue (65 ∷ []) []) ∷ []))
+      (begin 2 ++ begin 1 ++ pairOf 2 66 ++ pairOf 1 67 ++ (CallFor 2 (ForRead (ValueOf (65 ∷ []) [])) ∷ CallFor 1 (ForRead (ValueOf (65 ∷ []) [])) ∷ [])) (begin 1 ++ pairOf 1 67 ++ (CallFor 1 (ForRead (ValueOf (65 ∷ []) [])) ∷ []))
       (opened-one ∷ Heard (Note.Told (Event.Ready 1 4))
-      ∷ Answered 1 (ForValue (65 ∷ []) []) (ValueIs (67 ∷ [])) (one 4 Turn.Stdin (1 ∷ 1 ∷ 65 ∷ 67 ∷ zeros (AREA - 4))) (one 4 Turn.Stdin (1 ∷ 1 ∷ 65 ∷ 67 ∷ zeros (AREA - 4)))
+      ∷ Answered 1 (ForRead (ValueOf (65 ∷ []) [])) (RepliedWith (ValueIs (67 ∷ []))) (one 4 Turn.Stdin (1 ∷ 1 ∷ 65 ∷ 67 ∷ zeros (AREA - 4))) (one 4 Turn.Stdin (1 ∷ 1 ∷ 65 ∷ 67 ∷ zeros (AREA - 4)))
       ∷ [])
       (one 4 Turn.Stdin (1 ∷ 1 ∷ 65 ∷ 67 ∷ zeros (AREA - 4)))
   -- Fifteen others are active, so 1 has the last slot.

@@ -17,7 +17,7 @@ use Rattle.connection.specs.Request.{Held, isSpent}
 use Rattle.connection.specs.RequestCalls as Of
 use Rattle.connection.specs.Slots.{requestAt, heldAt, freeSlot, find}
 use Rattle.connection.specs.Calls as C
-use Rattle.connection.specs.Arguments.{Argument, ForValue, ForSource, ForPair, ForWalk, ForSay, ForEnd, ForFinish}
+use Rattle.connection.specs.Arguments.{Argument, ForRead, ForSay, ForEnd, ForFinish}
 use Rattle.connection.specs.Run.{Memory, Operation, StepOver, CallFor, CountActive, requestOf, changedBy, finishedBy, called, stepOf, memoryOf, memoryAfter, finalMemory, PiecesOk, WholeRun, beginning, ending}
 use Rattle.connection.specs.Laws.SlotsLaws.{Sized, Distinct, other-of-free, taken-of-free-other, find-at, only-slot}
 use Rattle.connection.specs.Laws.ShapeLaws.{shaped}
@@ -129,10 +129,7 @@ module _ (R : ℕ) (h : Held) (spent : isSpent (h .request .state .life) ≡ tru
     -- any call
     still-called : (id : ℕ) (a : Argument) → LeavesAlone R m (CallFor id a) → StillSpent R h (called m id a .memory)
     unfolding called C.say C.endStream
-    still-called id (ForValue name fallback) a = still m i is-open found life
-    still-called id (ForSource name) a = still m i is-open found life
-    still-called id (ForPair k) a = still m i is-open found life
-    still-called id ForWalk a = still m i is-open found life
+    still-called id (ForRead q) a = still m i is-open found life
     still-called id (ForSay output bytes buffer) a =
         let j = C.slotOf (m .state .conn) id in
         let r = requestAt (m .state .conn .table) j in

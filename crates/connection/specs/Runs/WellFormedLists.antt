@@ -30,7 +30,7 @@ use Rattle.connection.specs.RequestCalls.{inParams, isFaulted}
 use Rattle.connection.specs.Slots.{heldAt}
 use Rattle.connection.specs.Bytewise.{Note}
 use Rattle.connection.specs.Laws.ShapeLaws.{InUse}
-use Rattle.connection.specs.Arguments.{Argument, ForValue, ForSource, ForPair, ForWalk, ForSay, ForEnd, ForFinish, FinishedWith}
+use Rattle.connection.specs.Arguments.{Argument, ForRead, ForSay, ForEnd, ForFinish, FinishedWith}
 use Rattle.connection.specs.Runs.Receiver.{receiver, noteOf, dueStream, receiveHeader, receiveByte, beginAs, receiveBegin, writtenAs, finishedAs, receiveCall}
 use Rattle.connection.specs.Runs.ReceiverLaws.{inactive-ok, management-ok}
 use Rattle.connection.specs.Runs.Loading.{loadedSlot, slotOf}
@@ -185,10 +185,7 @@ finished-list keep h w f = go (eqb (w .refusal) 0) keep
 -- Every call keeps it.
 pub call-list : (a : Argument) (h : Held) → ListOk h → CallOutcomeOk ListOk InTurn h (receiveCall a h)
 unfolding receiveCall
-call-list (ForValue name fallback) h f = (f, λ due n r. r)
-call-list (ForSource name) h f = (f, λ due n r. r)
-call-list (ForPair k) h f = (f, λ due n r. r)
-call-list ForWalk h f = (f, λ due n r. r)
+call-list (ForRead q) h f = (f, λ due n r. r)
 call-list (ForSay output bytes buffer) h f = written-list h (Of.sayIn (h .request) output bytes buffer) f (turn-say (h .request) output bytes buffer)
 call-list (ForEnd output buffer) h f = written-list h (Of.endIn (h .request) output buffer) f (turn-end (h .request) output buffer)
 call-list (ForFinish status buffer) h f = finished-list (h .request .state .keep) h (Of.finishIn (h .request) status buffer) f
