@@ -1,3 +1,4 @@
 pub mod Joins
 pub mod MarkLaws
 pub mod RunLaws
+pub mod SameLaws

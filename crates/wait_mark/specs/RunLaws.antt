@@ -12,11 +12,7 @@ use Rattle.wire.specs.Test.{if_then_else_, _=?_, _≤?_, byTest}
 use Rattle.wire.specs.Buffer.{byteAt}
 use Rattle.queue_slot.specs.Atoms.{RUN}
 use Rattle.queue_slot.specs.Wait.{noEnds, markEnds, runLength}
-use Rattle.wait_mark.specs.Joins.{joins}
-
--- the run where its first k bytes are known to join
-abbrev pub runFrom : List ℕ → ℕ → ℕ
-runFrom marks k = (k - 1) + runLength (RUN - (k - 1)) (drop (k - 1) marks)
+use Rattle.wait_mark.specs.Joins.{joins, runFrom}
 
 -- two bytes that join, or not
 two-turn : (k m next : ℕ) (l : List ℕ) → runLength (suc k) (m ∷ (next ∷ l)) ≡ (if joins m next then suc (runLength k (next ∷ l)) else 1)
@@ -53,11 +49,12 @@ run-turn marks j h n =
 pub run-start : (marks : List ℕ) → runLength RUN marks ≡ runFrom marks 1
 run-start marks = sym (zero-add (runLength RUN marks))
 
--- nothing waits
-pub run-none : (marks : List ℕ) → length marks ≡ 0 → runLength RUN marks ≡ 0
+-- nothing waits, or one byte
+pub run-few : (marks : List ℕ) → length marks < 2 → runLength RUN marks ≡ length marks
 unfolding runLength
-run-none [] e = refl
-run-none (m ∷ marks) e = absurd (omega arith)
+run-few [] h = refl
+run-few (m ∷ []) h = refl
+run-few (m ∷ (next ∷ marks)) h = absurd (omega arith)
 
 -- the next byte joins, or not
 run-next : (marks : List ℕ) (k : ℕ) → 0 < k → k < RUN → k < length marks

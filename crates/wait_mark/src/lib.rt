@@ -4,11 +4,14 @@ use queue::sizes::RUN;
 use queue_slot::Ends;
 use wire::least;
 ghost use mathlib.Core.Path.{_≡_};
+ghost use Prim.Native.Nat.{_≤_, _<_};
+ghost use lib.ListN.{length};
+ghost use Rattle.slot_check.specs.Quick.{anyOf};
 ghost use Rattle.queue_slot.specs.Atoms.{RUN};
 ghost use Rattle.queue_slot.specs.Wait.{oneEnd, withEnd, noEnds, streamNumber, endsNumber, endsOf};
 ghost use Rattle.queue_slot.specs.Wait.{markOf, markStream, markEnds, markEnded, runLength};
 ghost use Rattle.queue_slot.specs.declared.Ends.{Ends};
-ghost use Rattle.wait_mark.specs.Joins.{doubled, joins};
+ghost use Rattle.wait_mark.specs.Joins.{doubled, joins, isOther, runFrom};
 
 // One end.
 fn one_end(output: Output) -> Ends
@@ -152,15 +155,45 @@ fn joins(mark: u8, next: u8) -> bool
     false
 }
 
+// One of the first n marks is not this one. The loop has no early end, so that it takes many marks at a time.
+fn any_other(marks: &[u8], mark: u8, n: usize) -> bool
+    requires { ⌜ n ≤ length (now marks) ⌝ }
+    ensures { λ r. ⌜ r ≡ anyOf n (isOther (now (marks .entry)) mark) 0 ⌝ }
+{
+    let mut any = false;
+    let mut i: usize = 0;
+    while i < n {
+        any = any | (marks[i] != mark);
+        i += 1;
+    }
+    any
+}
+
+// So many of the first n bytes are known to go into the next record: all but the last where these have one mark and no
+// end, which is quick to see; else one.
+fn run_known(marks: &[u8], n: usize) -> usize
+    requires { ⌜ (1 < n) × (n ≤ RUN) × (n ≤ length (now marks)) ⌝ }
+    ensures { λ r. ⌜ (0 < r) × (r ≤ n) × (runLength RUN (now (marks .entry)) ≡ runFrom (now (marks .entry)) r) ⌝ }
+{
+    let first = marks[0];
+    if 1 < first {
+        return 1;
+    }
+    if any_other(marks, first, n - 1) {
+        return 1;
+    }
+    n - 1
+}
+
 // How many of these bytes go into the next record: those of one stream from the first on, short of any end, up to 512.
 pub fn run_length(marks: &[u8]) -> usize
     ensures { λ r. ⌜ r ≡ runLength RUN (now (marks .entry)) ⌝ }
 {
     let n = least(RUN, marks.len());
-    if n == 0 {
-        return 0;
+    if n < 2 {
+        return n;
     }
-    let mut k: usize = 1;
+    let mut k = run_known(marks, n);
     while k < n {
         if !joins(marks[k - 1], marks[k]) {
             return k;
