@@ -1,5 +1,7 @@
 // Asks the plain receiver for one event after another of a captured connection from standard input, and prints the
 // lines that the replay prints.
+#![tactic(auto)]
+
 use connection::event::Event;
 use event_text::{LONGEST, write_byte_line, write_line};
 use libc::{STDIN_FILENO, STDOUT_FILENO};

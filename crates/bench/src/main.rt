@@ -1,6 +1,8 @@
 // The web server's end played from a script: a command on each line of standard input, an answer on each line of
 // standard output. With the argument `station` it drives a station besides: what is written goes to descriptor 3, and
 // what the station answers comes from descriptor 4.
+#![tactic(auto)]
+
 mod answer;
 mod command;
 mod feeding;

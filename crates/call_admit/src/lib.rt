@@ -1,4 +1,6 @@
 // What every call asks first: the rows of the table of refusals that are not the request's own, and the slot of its id.
+#![tactic(auto)]
+
 ghost use Rattle.std.specs.Prelude.{◌≡◌, length};
 ghost use Rattle.call_admit.specs.Admission.{admitted_by, call_admission, lent_admission};
 

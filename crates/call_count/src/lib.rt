@@ -1,4 +1,6 @@
 // The number of active requests.
+#![tactic(auto)]
+
 ghost use Rattle.std.specs.Prelude.{◌≡◌};
 ghost use Rattle.connection.specs.Calls.{active_count};
 ghost use Rattle.call_count.specs.Answer.{counted_by};

@@ -1,4 +1,6 @@
 // The end of a request (finish): what is owed is written, its slot and its area are given back.
+#![tactic(auto)]
+
 ghost use Rattle.std.specs.Prelude.{◌≡◌, ◌+◌, ◌≤◌, length};
 ghost use Rattle.wire.specs.Buffer.{put_at};
 ghost use Rattle.connection.specs.RequestCalls.{owes_out, owes_err, finish_bytes};

@@ -1,4 +1,6 @@
 // Where a request's list of parameters lies in the store.
+#![tactic(auto)]
+
 ghost use Rattle.std.specs.Prelude.{◌≡◌};
 ghost use Rattle.call_list.specs.Listing.{no_list_of, listed_by, listing};
 

@@ -1,5 +1,1 @@
 pub mod Answer
-pub mod Laws
-pub mod Outcome
-pub mod ReadBack
-pub mod Shape

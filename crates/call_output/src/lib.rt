@@ -1,4 +1,6 @@
 // Output of a request: the request that a call names writes, and is put back.
+#![tactic(auto)]
+
 ghost use Rattle.std.specs.Prelude.{◌≡◌};
 ghost use Rattle.connection.specs.declared.answer.Wrote.{Wrote};
 ghost use Rattle.connection.specs.Calls.{puts_request, say, end_stream};

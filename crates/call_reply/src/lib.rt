@@ -1,4 +1,6 @@
 // The reply that an event owes to the web server.
+#![tactic(auto)]
+
 ghost use Rattle.std.specs.Prelude.{◌≡◌, [], ◌+◌, ◌≤◌, length};
 ghost use Rattle.wire.specs.Buffer.{put_at};
 ghost use Rattle.connection.specs.Codes.{event_of};

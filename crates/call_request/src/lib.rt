@@ -1,4 +1,6 @@
 // What a request is: its role, whose turn it is, whether it is spent, its counts.
+#![tactic(auto)]
+
 ghost use Rattle.std.specs.Prelude.{◌≡◌};
 ghost use Rattle.connection.specs.Calls.{request_named};
 ghost use Rattle.call_request.specs.Answer.{request_by};

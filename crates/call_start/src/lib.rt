@@ -1,4 +1,6 @@
 // Start.
+#![tactic(auto)]
+
 ghost use Rattle.std.specs.Prelude.{◌≡◌};
 ghost use Rattle.connection.specs.Step.{started};
 ghost use Rattle.call_start.specs.Answer.{started_by};

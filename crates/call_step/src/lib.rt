@@ -1,6 +1,8 @@
 // The calls that read: one step, and steps up to the next event. Both are one loop, which tests row 9 once. The loop is
 // lent what waits for the pump; the calls without a queue lend that nothing does. (The test of what waits and its drop at
 // a close stand inside the loop, since around it they would have the table copied twice more in every step.)
+#![tactic(auto)]
+
 ghost use Rattle.std.specs.Prelude.{◌≡◌, true, false, length};
 ghost use Rattle.connection.specs.Codes.{event_of};
 ghost use Rattle.connection.specs.Sizes.{SLOTS, STORE};

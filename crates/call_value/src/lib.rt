@@ -1,4 +1,6 @@
 // A request's parameters: a value by its name, a pair by its number.
+#![tactic(auto)]
+
 ghost use Rattle.std.specs.Prelude.{◌≡◌};
 ghost use Rattle.std.proofs.Math.Option.{none, some};
 ghost use Rattle.connection.specs.Calls.{value, source, pair_at_number};

@@ -1,4 +1,6 @@
 // What each case of an answer is in the rules' numbers.
+#![tactic(auto)]
+
 ghost use Rattle.std.specs.Prelude.{◌≡◌};
 ghost use Rattle.connection.specs.Codes.{role_number, stream_type, output_type, status_number, fault_number, close_number};
 ghost use Rattle.connection.specs.Codes.{fault_cause, close_cause, refusal_number};

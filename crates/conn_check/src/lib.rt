@@ -1,4 +1,6 @@
 // Whether a state is in shape (row 9 of the table of refusals).
+#![tactic(auto)]
+
 ghost use Rattle.std.specs.Prelude.{◌≡◌, [], leb, ◌+◌};
 ghost use Rattle.connection.specs.declared.state.Target.{Target};
 ghost use Rattle.connection.specs.Shape.{position_fits};

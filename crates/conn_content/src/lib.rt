@@ -1,4 +1,6 @@
 // Content bytes of a record, each given to what they are for.
+#![tactic(auto)]
+
 ghost use Rattle.std.specs.Prelude.{◌≡◌, List, ℕ, ◌+◌, ◌≤◌, ◌<◌, length};
 ghost use Rattle.connection.specs.declared.state.Table.{Table};
 ghost use Rattle.connection.specs.declared.state.Frame.{Frame};
@@ -7,7 +9,7 @@ ghost use Rattle.connection.specs.Codes.{event_of, stream_due};
 ghost use Rattle.connection.specs.declared.event.Event.{Event};
 ghost use Rattle.connection.specs.Sizes.{SLOTS, STORE, QUERY};
 ghost use Rattle.connection.specs.Slots.{request_at, area_at, put_area, free_slot_of};
-ghost use Rattle.connection.specs.Laws.ShapeLaws.{Aimed};
+ghost use Rattle.connection.specs.Fits.{Aimed};
 ghost use Rattle.connection.specs.Step.{frame_within, reads, opens, begun, of_begin, of_query, of_request, on_target};
 ghost use Rattle.connection.specs.Decision.{open_state, applied};
 

@@ -1,5 +1,7 @@
 // The frame, which is the record being read; what a step decides where nothing else changes; and how a connection
 // closes.
+#![tactic(auto)]
+
 ghost use Rattle.std.specs.Prelude.{◌≡◌, List, ℕ};
 ghost use Rattle.connection.specs.declared.state.Table.{Table};
 ghost use Rattle.connection.specs.declared.state.Frame.{Frame};

@@ -1,4 +1,6 @@
 // Management records, which have id 0: a query, or a type that is not known (rules 2 and 3).
+#![tactic(auto)]
+
 ghost use Rattle.std.specs.Prelude.{◌≡◌, List, ℕ, ◌≤◌, length};
 ghost use Rattle.connection.specs.declared.state.Table.{Table};
 ghost use Rattle.connection.specs.declared.state.Frame.{Frame};

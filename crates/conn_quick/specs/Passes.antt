@@ -7,7 +7,8 @@ use Rattle.connection.specs.declared.state.Table.{Table}
 use Rattle.connection.specs.declared.state.Frame.{Frame}
 use Rattle.connection.specs.Codes.{event_of}
 use Rattle.connection.specs.Decision.{open_state}
-use Rattle.connection.specs.Laws.ShapeLaws.{Placed, Aimed}
+use Rattle.connection.proofs.Laws.ShapeLaws.{Placed}
+use Rattle.connection.specs.Fits.{Aimed}
 use Rattle.connection.specs.Step.{Stepped, advances}
 use Rattle.connection.specs.Request.{shown_more}
 use Rattle.connection.specs.Slots.{shown_at}

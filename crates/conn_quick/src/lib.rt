@@ -1,5 +1,7 @@
 // Two ways of a step for most of the bytes of a long body: content of STDIN or DATA, and a header that goes on with such
 // a stream. They change the frame and at most one slot, look at a few fields of the table and copy none of it.
+#![tactic(auto)]
+
 ghost use Rattle.std.specs.Prelude.{◌≡◌, true, List, ℕ, ◌≤◌, ◌<◌, length};
 ghost use Rattle.record.specs.Header.{header_of};
 ghost use Rattle.record_reader.specs.Position.{advanced};

@@ -1,13 +1,15 @@
 // One step of a connection that may read: what its bytes come to, and the table changed by it.
+#![tactic(auto)]
+
 ghost use Rattle.std.specs.Prelude.{◌≡◌, List, ℕ, ◌≤◌, ◌<◌, length, take, true};
 ghost use Rattle.connection.specs.Shape.{in_shape};
 ghost use Rattle.connection.specs.Sizes.{STORE};
-ghost use Rattle.connection.specs.Laws.ShapeLaws.{Aimed};
+ghost use Rattle.connection.specs.Fits.{Aimed};
 ghost use Rattle.connection.specs.Step.{frame_at, on_phase, open_with, advances};
 ghost use Rattle.record.specs.declared.header.Header.{Header};
 ghost use Rattle.record_reader.specs.declared.Phase.{Phase};
 ghost use Rattle.record_reader.specs.Position.{advanced};
-ghost use Rattle.connection.specs.Laws.PieceLaws.{HeaderFits};
+ghost use Rattle.connection.specs.Fits.{HeaderFits};
 ghost use Rattle.connection.specs.Decision.{open_state, applied, conn_after, store_after};
 ghost use Rattle.conn_step.specs.Answer.{stepped_by};
 ghost use Rattle.connection.specs.Step.{state_of};

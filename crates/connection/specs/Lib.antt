@@ -5,6 +5,7 @@ pub mod Refusal
 pub mod Request
 pub mod Slots
 pub mod Shape
+pub mod Fits
 pub mod Step
 pub mod RequestCalls
 pub mod Calls
@@ -16,5 +17,4 @@ pub mod Isolation
 pub mod Shuffle
 pub mod History
 pub mod Counts
-pub mod Laws
 pub mod Runs

@@ -1,4 +1,6 @@
 // The calls tried by hand: a command on each line of standard input, an answer on each line of standard output.
+#![tactic(auto)]
+
 mod answer;
 mod ask;
 mod command;

@@ -1,4 +1,6 @@
 // Numbers written in decimal digits.
+#![tactic(auto)]
+
 ghost use Rattle.std.specs.Prelude.{◌≡◌, true, ◌<◌};
 ghost use Rattle.decimal.specs.Decimal.{is_digit, digit_value, decimal_of, read_as};
 

@@ -1,5 +1,7 @@
 // One number for all that a connection tells, by which two receivers can be compared and the cost of a call be
 // measured.
+#![tactic(auto)]
+
 ghost use Rattle.std.specs.Prelude.{◌≡◌, ℕ, ◌≤◌, ◌<◌};
 ghost use Rattle.connection.specs.Codes.{event_of, fault_number, fault_cause, close_number, close_cause};
 ghost use Rattle.codes.specs.Place.{cause_of};

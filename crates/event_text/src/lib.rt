@@ -1,4 +1,6 @@
 // The text of events: a line for an event, and a line for a data byte.
+#![tactic(auto)]
+
 mod draft;
 mod text;
 

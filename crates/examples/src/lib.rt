@@ -1,1 +1,2 @@
 // Theorems only: the cases that the papers want proved, in specs/.
+#![tactic(auto)]

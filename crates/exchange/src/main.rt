@@ -7,6 +7,8 @@
 // STDERR and ends with the status 938, as in the specification's example of an application that fails. A request that
 // faults or is aborted is ended at once, so that its slot is free again. Replies that events owe are written as they
 // come.
+#![tactic(auto)]
+
 mod noted;
 mod say;
 mod turn;

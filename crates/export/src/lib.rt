@@ -1,5 +1,7 @@
 // The receiver linked from another language: a whole input is fed to a fresh connection, piece by piece, and all that
 // its steps tell comes back as one number.
+#![tactic(auto)]
+
 ghost use Rattle.std.specs.Prelude.{◌≡◌};
 ghost use Rattle.connection.specs.Step.{state_of};
 ghost use Rattle.export.specs.Fed.{fed_by, fed_all, digest_by, digest};

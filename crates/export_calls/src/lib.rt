@@ -3,6 +3,8 @@
 //
 // Each function has one shape. A state, an event, a reader or a stream with an unknown code is refused by 9, with the
 // state as it came. Otherwise the state is read, the call is made, and its answer is put into numbers.
+#![tactic(auto)]
+
 mod ask;
 mod body;
 mod feed;

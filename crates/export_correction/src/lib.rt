@@ -1,4 +1,6 @@
 // Ice correction linked from another language: the cards come as kinds and floats, one by one.
+#![tactic(auto)]
+
 use fastcgi::{Calibration, Card, Corrected, Curve, correct, correction_fault_number};
 
 // Kind 0 is a thawed curve, which has no slope; any other kind is a frozen one.

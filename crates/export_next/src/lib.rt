@@ -1,5 +1,7 @@
 // The receiver linked from another language, going from event to event: as `export`, with `next_event` in place of
 // `step`.
+#![tactic(auto)]
+
 use digest::{mix, next_end};
 use fastcgi::{Conn, QUERY, next_event, start};
 

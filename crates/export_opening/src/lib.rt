@@ -1,5 +1,7 @@
 // What the libraries share that measure how output is written: a connection whose requests are open, and a digest of
 // the bytes that were written.
+#![tactic(auto)]
+
 ghost use Rattle.std.specs.Prelude.{◌≤◌, ◌<◌};
 
 use fastcgi_queue::{Conn, QUERY, WAITS, next_event, start};

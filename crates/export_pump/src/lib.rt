@@ -1,6 +1,8 @@
 // Output through the queue, linked from another language to be measured: in each round every request lets a chunk wait
 // on STDOUT, and turns of the pump write all that waits. The calls stand alone in their library, since a compiler
 // makes other code of them elsewhere.
+#![tactic(auto)]
+
 ghost use Rattle.std.specs.Prelude.{◌≤◌};
 
 use export_opening::{mix_written, open_all, put_totals};

@@ -1,6 +1,8 @@
 // The receiver with a queue linked from another language, to be measured: as `export_next`, with what waits lent to every
 // call, while nothing waits or while something does. `next_event` stands alone in its library and has one caller, as it does
 // there, since a compiler makes other code of it elsewhere.
+#![tactic(auto)]
+
 ghost use Rattle.std.specs.Prelude.{◌≤◌, ◌<◌, length};
 
 use digest::{mix, next_end};

@@ -1,4 +1,6 @@
 // The receiver linked from another language, with the reads: standard input is read in pieces into a lent buffer.
+#![tactic(auto)]
+
 ghost use Rattle.std.specs.Prelude.{◌≤◌, length};
 
 use digest::mix;

@@ -1,5 +1,7 @@
 // The reader of readings linked from another language: a whole body is read in pieces, and all that the calls tell comes
 // back as one number.
+#![tactic(auto)]
+
 ghost use Rattle.std.specs.Prelude.{◌<◌};
 
 use digest::next_end;

@@ -1,6 +1,8 @@
 // Output straight into a buffer, linked from another language to be measured beside `export_pump`: in each round every
 // request writes a chunk on STDOUT, one behind the other. The calls stand alone in their library, since a compiler
 // makes other code of them elsewhere.
+#![tactic(auto)]
+
 use export_opening::{mix_written, open_all, past, put_totals};
 use fastcgi_queue::{Conn, Output, QUERY, WAITS, Wrote, write_output};
 use std::num::wrapping_add_u64;

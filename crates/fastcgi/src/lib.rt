@@ -1,5 +1,6 @@
 // The door: everything that a station program names, in one place. Each line brings in a call or a type from the crate
 // that declares it; docs/CALLS.md has what each call takes, answers and refuses.
+#![tactic(auto)]
 
 // ---- State. A connection is a value that goes from call to call; the store and the gathered bytes are lent beside it.
 pub use connection::state::Conn;

@@ -2,6 +2,7 @@
 // the calls of the crate `fastcgi` under their names, with what waits lent to them, and the calls of the queue.
 // docs/CALLS.md has what each call takes, answers and refuses. On one connection only calls of one of the two doors are
 // to be used.
+#![tactic(auto)]
 
 // ---- State. A connection is a value that goes from call to call; the store, the gathered bytes and the numbers of what
 // waits are lent beside it.

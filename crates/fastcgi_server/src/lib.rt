@@ -1,5 +1,6 @@
 // The second door: everything that a program at the web server's end names, in one place. Each line brings in a call
 // or a type from the crate that declares it; docs/SERVER.md has what each call takes, answers and refuses.
+#![tactic(auto)]
 
 // ---- State. A server's end is a value that goes from call to call; the bytes of a result of values are lent beside
 // it.

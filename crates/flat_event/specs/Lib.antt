@@ -1,4 +1,2 @@
 pub mod Kinds
 pub mod Flat
-pub mod Cases
-pub mod FlatLaws

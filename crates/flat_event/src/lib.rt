@@ -1,4 +1,6 @@
 // An event as numbers, for callers in other languages: made of an event, tested, and read back.
+#![tactic(auto)]
+
 pub mod kinds;
 
 ghost use Rattle.std.specs.Prelude.{◌≡◌, ℕ, ◌≤◌};

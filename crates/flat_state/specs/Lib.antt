@@ -1,5 +1,1 @@
 pub mod Flat
-pub mod Cases
-pub mod LoopLaws
-pub mod NumberLaws
-pub mod FlatLaws

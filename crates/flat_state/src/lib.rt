@@ -1,5 +1,7 @@
 // The state of a connection as numbers and arrays, for callers in other languages: made of a state, tested, and read
 // back.
+#![tactic(auto)]
+
 ghost use Rattle.std.specs.Prelude.{◌≡◌};
 ghost use Rattle.flat_state.specs.Flat.{turn_number, life_number, target_kind, target_number, open_number};
 ghost use Rattle.flat_state.specs.Flat.{role_of, turn_of, life_of, target_of, standing_of, standings_of, codes_of};

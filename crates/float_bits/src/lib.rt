@@ -1,4 +1,6 @@
 // Floats of 64 bits and their bit patterns, also at a NaN, where the language leaves both ways undefined.
+#![tactic(auto)]
+
 ghost use Rattle.std.specs.Prelude.{◌≡◌};
 ghost use Rattle.std.specs.Float.{binary64};
 ghost use Rattle.std.specs.Float.Ieee.{of_bits, to_bits};

@@ -1,5 +1,7 @@
 // Ice correction: a raw count corrected by the station's two calibration cards, one for thawed logs and one for frozen
 // ones. Each operation on floats is rounded once, in the order that the definition has.
+#![tactic(auto)]
+
 ghost use Rattle.std.specs.Prelude.{◌≡◌};
 ghost use Rattle.ice_correction.specs.Correction.{allowed, floats_allowed, is_thawed, is_frozen, degrees_of, by_curve};
 ghost use Rattle.ice_correction.specs.Correction.{corrected, fault_number, answer_of};

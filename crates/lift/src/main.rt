@@ -1,5 +1,7 @@
 // Lifts one request out of a capture, which comes in on standard input. Its records go to standard output, and what
 // the capture is goes to standard error, in one line. The request's id is the first argument.
+#![tactic(auto)]
+
 ghost use Rattle.std.specs.Prelude.{◌≤◌};
 
 use codes::{close_number, refusal_number};

@@ -1,4 +1,6 @@
 // Lifts one request out of a captured connection: its records are copied, and the capture is checked by replaying it.
+#![tactic(auto)]
+
 pub mod calls;
 mod marks;
 mod way;

@@ -1,17 +1,1 @@
 pub mod Statement
-pub mod CopyRecords
-pub mod FrontLaws
-pub mod Closings
-pub mod LiftLaws
-pub mod OwnRequest
-pub mod SameEvents
-pub mod Final
-pub mod CallLaws
-pub mod Replay
-pub mod PartPosition
-pub mod PartTests
-pub mod Reading
-pub mod OneStep
-pub mod ReadStep
-pub mod AnyCalls
-pub mod Theorem

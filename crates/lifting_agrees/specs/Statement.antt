@@ -21,7 +21,7 @@ use Rattle.connection.specs.Sizes.{STORE, QUERY}
 use Rattle.connection.specs.Event.{Event}
 use Rattle.connection.specs.Bytewise.{Note, Told, Shown}
 use Rattle.connection.specs.Run.{event_id}
-use Rattle.wire.specs.Bytes.{AllBytes}
+use Rattle.wire.proofs.Bytes.{AllBytes}
 use Rattle.plain.specs.Plain.{Word, heard}
 use Rattle.plain.specs.Plain as P
 use Rattle.lifting.specs.Lift.{Verdict, Clean, Cut, ClosedAt, copy_of, verdict_of}

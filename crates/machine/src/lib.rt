@@ -1,1 +1,2 @@
 // Theorems only: requests on one connection are kept apart, for any machine of one request.
+#![tactic(auto)]

@@ -1,13 +1,2 @@
 pub mod Waiting
-pub mod Appends
-pub mod AlikeRelation
-pub mod AlikeBytes
-pub mod AlikeCalls
-pub mod AlikeRuns
-pub mod AlikeItems
-pub mod AlikeSimulation
-pub mod IsolationWaiting
-pub mod Accounts
 pub mod Pump
-pub mod Everywhere
-pub mod IdsBelow

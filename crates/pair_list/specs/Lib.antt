@@ -1,3 +1,1 @@
 pub mod List
-pub mod ListLaws
-pub mod ReadBackList

@@ -1,4 +1,6 @@
 // A list of pairs: how it ends, and a pair found by its name or its number.
+#![tactic(auto)]
+
 ghost use Rattle.std.specs.Prelude.{◌≡◌};
 ghost use Rattle.pair_list.specs.List.{ending_of, first_from, first_named, pair_number};
 

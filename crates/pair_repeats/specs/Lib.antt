@@ -1,4 +1,2 @@
 pub mod Repeats
 pub mod Keys
-pub mod KeysLaws
-pub mod RepeatsLaws

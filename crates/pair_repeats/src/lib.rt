@@ -1,6 +1,8 @@
 // Whether two pairs of a list have the same name. Reading all later pairs for each pair would take about twenty
 // million instructions for the names that 4,096 bytes can hold. So each name has a key, a number, and later pairs
 // are read only where one of them has the same key.
+#![tactic(auto)]
+
 ghost use Rattle.std.specs.Prelude.{◌≤◌, ◌≡◌, length};
 ghost use Rattle.pair_list.specs.List.{first_from, is_named};
 ghost use Rattle.pair_repeats.specs.Repeats.{repeats};

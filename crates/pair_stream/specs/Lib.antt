@@ -1,3 +1,1 @@
 pub mod Stream
-pub mod PartLaws
-pub mod StreamLaws

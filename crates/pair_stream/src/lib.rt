@@ -1,5 +1,7 @@
 // A pair written as a stream: in records, cut where a record is full. The pair is never put together in one place; its
 // lengths, its name and its value are three slices, and each record takes what falls into it of each.
+#![tactic(auto)]
+
 ghost use Rattle.std.specs.Prelude.{◌≡◌, true, ◌++◌, ◌+◌, ◌-◌, ◌≤◌, length, take, drop};
 ghost use Rattle.wire.specs.Buffer.{copied};
 ghost use Rattle.record_writer.specs.Written.{Placed, record_length, stream_fits, record_placed, stream_placed};

@@ -1,4 +1,6 @@
 // A pair written into a lent buffer.
+#![tactic(auto)]
+
 ghost use Rattle.std.specs.Prelude.{◌≡◌, ◌+◌, ◌≤◌, ◌<◌, ◌++◌, length, take};
 ghost use Rattle.wire.specs.Buffer.{put_at};
 ghost use Rattle.pairs.specs.Length.{length_bytes};

@@ -1,4 +1,2 @@
 pub mod Length
 pub mod Pair
-pub mod PairLaws
-pub mod ReadBack

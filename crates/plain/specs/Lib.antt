@@ -2,8 +2,3 @@
 pub mod Plain
 pub mod Code
 pub mod Promise
-pub mod StoreLaws
-pub mod TableLaws
-pub mod RuleLaws
-pub mod RecordLaws
-pub mod Cases

@@ -1,6 +1,8 @@
 // The plain receiver: a whole connection in one lent slice, and nothing kept between calls. It goes by the text of the
 // rules (docs/RULES.md): split off a record, look up its id in a table of requests, apply the rule. With the stepping
 // receiver it shares the types of events and roles, the code that reads pairs, and three functions on bytes.
+#![tactic(auto)]
+
 mod live;
 mod rules;
 mod table;

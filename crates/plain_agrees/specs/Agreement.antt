@@ -19,7 +19,7 @@ use Rattle.connection.specs.Sizes.{QUERY, STORE}
 use Rattle.connection.specs.Event.{Event}
 use Rattle.connection.specs.Step.{started}
 use Rattle.connection.specs.Bytewise.{Note, Told, Shown, Run, fed_pieces, joined}
-use Rattle.wire.specs.Bytes.{AllBytes}
+use Rattle.wire.proofs.Bytes.{AllBytes}
 use Rattle.plain.specs.Plain.{Word, Open, Cut, Closed, heard, answer_in, answer}
 
 -- ---- closes

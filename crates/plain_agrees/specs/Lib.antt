@@ -1,7 +1,1 @@
 pub mod Agreement
-pub mod Counts
-pub mod Requests
-pub mod Rules
-pub mod Content
-pub mod OneRecord
-pub mod Theorem

@@ -5,7 +5,3 @@ pub mod Run
 pub mod Isolation
 pub mod Fairness
 pub mod NothingLost
-pub mod NumberLaws
-pub mod Areas
-pub mod ReplyLaws
-pub mod PumpTests

@@ -13,7 +13,7 @@ use Rattle.connection.specs.Arguments.{Question, ValueOf, SourceOf, PairOf, Walk
 use Rattle.connection.specs.Slots.{find, onSlot}
 use Rattle.connection.specs.Calls as C
 use Rattle.connection.specs.Run.{Memory, request_of, event_id, start_of}
-use Rattle.wire.specs.Bytes.{AllBytes}
+use Rattle.wire.proofs.Bytes.{AllBytes}
 use Rattle.queue_slot.specs.Atoms.{Atom, record_atoms}
 use Rattle.queue_slot.specs.Wait.{atoms_in}
 use Rattle.queue.specs.Numbers.{nobody_waits, kept_waits, last_at}

@@ -1,4 +1,1 @@
 pub mod Admission
-pub mod AdmissionLaws
-pub mod BarredLaws
-pub mod StreamLaws

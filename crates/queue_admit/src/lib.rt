@@ -1,5 +1,7 @@
 // What every call with a queue asks first: the rows of the table of refusals that are not the request's own, the slot of
 // its id, and rows 4 and 5 of what writes on a stream.
+#![tactic(auto)]
+
 ghost use Rattle.std.specs.Prelude.{◌≡◌, ◌∷◌, [], false, length};
 ghost use Rattle.wire.specs.Test.{if◌then◌else◌};
 ghost use Rattle.connection.specs.Refusal.{◌when◌, refusal};

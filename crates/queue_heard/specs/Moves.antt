@@ -2,7 +2,7 @@
 -- owe. What goes on the wire, and what is meant by it. Definitions only.
 use Rattle.std.specs.Prelude.{ℕ, zero, suc, ◌<◌, List, [], ◌∷◌, ◌++◌, take, get_or}
 use Rattle.std.proofs.Math.Option.{Option, none, some}
-use Rattle.wire.specs.Bytes.{AllBytes}
+use Rattle.wire.proofs.Bytes.{AllBytes}
 use Rattle.record.specs.Names.{REQUEST_COMPLETE}
 use Rattle.machine_queue.specs.Pump.{next_waiting}
 use Rattle.connection.specs.Event.{Event as StationEvent}

@@ -1,4 +1,1 @@
 pub mod History
-pub mod HistoryCalls
-pub mod TurnEnds
-pub mod HistoryRuns

@@ -1,1 +1,2 @@
 // Theorems only: the parameters of a request by the history of a run with a queue.
+#![tactic(auto)]

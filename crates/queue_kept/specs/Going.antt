@@ -6,7 +6,7 @@
 use Rattle.std.specs.Prelude.{Bool, false, ℕ}
 use Rattle.wire.specs.Test.{if◌then◌else◌, ◌=?◌}
 use Rattle.connection.specs.Arguments.{RepliedWith, Wrote, FinishedWith}
-use Rattle.connection.specs.Laws.Closing.{is_closing}
+use Rattle.connection.proofs.Laws.Closing.{is_closing}
 use Rattle.queue_slot.specs.Atoms.{end_waits}
 use Rattle.queue.specs.Calls.{QueueMemory, or, queue_step, Pumped, pump}
 use Rattle.queue.specs.Run.{QueueOperation, StepOver, CallFor, CountActive, TurnWith, Answering, Straightly, Queued, queue_called}

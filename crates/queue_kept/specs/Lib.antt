@@ -1,15 +1,2 @@
-pub mod ListLaws
-pub mod QueueLists
 pub mod Going
-pub mod GoingLaws
-pub mod CallsKeep
 pub mod QueueCounts
-pub mod CountsStep
-pub mod CountsRuns
-pub mod CountsShown
-pub mod QueueSpent
-pub mod QueueSilent
-pub mod QueueReady
-pub mod QueueFreed
-pub mod QueueRest
-pub mod CountsCases

@@ -1,1 +1,2 @@
 // Theorems only: runs with a queue are runs of the machine with a queue.
+#![tactic(auto)]

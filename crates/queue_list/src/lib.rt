@@ -1,5 +1,7 @@
 // Calls that ask for a request's parameters, for what a request is, and for how many requests are active, with what waits
 // lent beside the state: they answer as without a queue, but for row 9, which is wider.
+#![tactic(auto)]
+
 ghost use Rattle.std.specs.Prelude.{◌≡◌, List, ℕ};
 ghost use Rattle.call_count.specs.Answer.{counted_by};
 ghost use Rattle.call_request.specs.Answer.{request_by};

@@ -1,3 +1,1 @@
 pub mod Lies
-pub mod LiesLaws
-pub mod BytesLaws

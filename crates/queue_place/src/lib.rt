@@ -1,5 +1,7 @@
 // Where a request's list, and the value of a name in it, lie in the store: for callers in other languages, which cannot
 // be handed a part of it.
+#![tactic(auto)]
+
 ghost use Rattle.std.specs.Prelude.{◌≡◌, List, ℕ};
 ghost use Rattle.queue.specs.Calls.{lent};
 ghost use Rattle.queue_place.specs.Lies.{lies_by, value_lies, list_lies};

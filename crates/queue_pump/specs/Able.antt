@@ -5,24 +5,25 @@ use Rattle.std.proofs.lemmas.List.{length-replicate}
 use Rattle.std.proofs.lemmas.Bool.{eqb-false}
 use Rattle.wire.specs.Test.{byTest}
 use Rattle.wire.specs.Buffer.{zeros}
-use Rattle.slot_word.specs.WordLaws.{taken_out}
+use Rattle.slot_word.proofs.WordLaws.{taken_out}
 use Rattle.record.specs.Names.{END_REQUEST, REQUEST_COMPLETE}
-use Rattle.record.specs.Body.{end_body_bytes, end_length}
+use Rattle.record.specs.Body.{end_body_bytes}
+use Rattle.record.proofs.BodyLaws.{end_length}
 use Rattle.record_writer.specs.Written.{padding_of, record_length, record_bytes}
-use Rattle.record_writer.specs.WrittenLaws.{record_length_lem}
+use Rattle.record_writer.proofs.WrittenLaws.{record_length_lem}
 use Rattle.machine_queue.specs.Pump.{slot_after}
 use Rattle.connection.specs.declared.request.Request.{Request}
 use Rattle.connection.specs.Sizes.{SLOTS, AREA, STORE}
 use Rattle.connection.specs.Codes.{output_type}
 use Rattle.connection.specs.Slots.{request_at, area_at}
-use Rattle.connection.specs.Laws.SlotsLaws.{area_length, put_area_length}
+use Rattle.connection.proofs.Laws.SlotsLaws.{area_length, put_area_length}
 use Rattle.queue_slot.specs.Wait.{ROOM, Wait, nothing_in, Served, ServesNothing, ServesEnd, ServesData, ServesLast, served}
-use Rattle.queue_slot.specs.WaitLaws.{Sized}
-use Rattle.queue_slot.specs.ServeLaws.{ServedWell, served_well}
+use Rattle.queue_slot.proofs.WaitLaws.{Sized}
+use Rattle.queue_slot.proofs.ServeLaws.{ServedWell, served_well}
 use Rattle.queue.specs.Numbers.{NEXT, WAITS, nobody_waits, count_at, numbers_at}
-use Rattle.queue.specs.NumberLaws.{numbers_length, count_of_put, count_of_other, count_of_next, front_of_next, last_of_next, status_of_next}
+use Rattle.queue.proofs.NumberLaws.{numbers_length, count_of_put, count_of_other, count_of_next, front_of_next, last_of_next, status_of_next}
 use Rattle.queue.specs.Calls.{QUEUE, QueueMemory, room_at, wait_at, put_wait, PumpedRecord, served_last, released_slot, write_served, pump_slot}
-use Rattle.queue.specs.Areas.{Roomy, roomy_put}
+use Rattle.queue.proofs.Areas.{Roomy, roomy_put}
 
 -- Each has its size, and over ROOM data bytes wait in no slot.
 pub record Able (store waits marks queue : List ℕ) : Type 0 where

@@ -5,8 +5,9 @@ use mathlib.Core.List.{List, [], ◌∷◌, ◌++◌, flatten}
 use Rattle.std.proofs.Math.Option.{Option, none, some}
 use Rattle.wire.specs.Test.{byTest}
 use Rattle.wire.specs.Buffer.{put_at}
-use Rattle.wire.specs.BufferLaws.{put_none, put_put}
-use Rattle.machine_queue.specs.Pump.{next_waiting, waiting_below}
+use Rattle.wire.proofs.BufferLaws.{put_none, put_put}
+use Rattle.machine_queue.specs.Pump.{next_waiting}
+use Rattle.machine_queue.proofs.Pumping.{waiting_below}
 use Rattle.connection.specs.Sizes.{SLOTS}
 use Rattle.queue.specs.Numbers.{NEXT}
 use Rattle.queue.specs.Calls.{QueueMemory, conn_of, pump_slot, Turned, slot_waits, first_slot, turned, Pumped, pumped_with}

@@ -1,4 +1,6 @@
 // The pump: a turn writes what waits, a record for each slot that waits, going round.
+#![tactic(auto)]
+
 mod check;
 
 ghost use Rattle.std.specs.Prelude.{◌≡◌, false, List, ℕ, ◌+◌, ◌*◌, ◌≤◌, ◌<◌, length};

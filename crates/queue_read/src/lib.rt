@@ -1,5 +1,7 @@
 // Calls that read the connection, with what waits lent beside the state. They read as without a queue; what waits is
 // tested for its shape, and dropped where the connection closes. (Both is done inside the loop of `call_step`.)
+#![tactic(auto)]
+
 ghost use Rattle.std.specs.Prelude.{◌≡◌, List, ℕ, length};
 ghost use Rattle.wire.specs.Test.{if◌then◌else◌, ◌=?◌};
 ghost use Rattle.connection.specs.Sizes.{STORE};

@@ -1,1 +1,2 @@
 // Theorems only: what holds beside isolation of runs with a queue.
+#![tactic(auto)]

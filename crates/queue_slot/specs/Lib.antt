@@ -1,9 +1,3 @@
 pub mod Atoms
-pub mod AtomLaws
 pub mod Finishing
 pub mod Wait
-pub mod WaitLaws
-pub mod ServeLaws
-pub mod WaitRefines
-pub mod WaitKept
-pub mod Examples

@@ -1,4 +1,5 @@
 // What waits in one slot. What comes to wait there, and what is written next, is defined in specs/.
+#![tactic(auto)]
 
 // Ends of output streams that wait in one place, in their order.
 #[derive(Drop)]

@@ -1,3 +1,1 @@
-pub mod FinishLaws
 pub mod Straight
-pub mod StraightLaws

@@ -1,5 +1,7 @@
 // Calls that write straight out, while other requests may have something waiting. Of the request that they name nothing
 // may wait: 10, last of all; between its finish and its END: 5.
+#![tactic(auto)]
+
 ghost use Rattle.std.specs.Prelude.{◌≡◌, List, ℕ};
 ghost use Rattle.connection.specs.declared.answer.Wrote.{Wrote};
 ghost use Rattle.call_finish.specs.declared.FinishResult.{FinishResult};

@@ -1,1 +1,2 @@
 // Theorems only: what is promised of runs with a queue, proved.
+#![tactic(auto)]

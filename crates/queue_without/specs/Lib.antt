@@ -1,4 +1,0 @@
-pub mod Operations
-pub mod WholeRuns
-pub mod AnyCutting
-pub mod Isolation

@@ -1,4 +1,6 @@
 // Calls by which what a request says comes to wait in the queue: data, the end of a stream, the end of the request.
+#![tactic(auto)]
+
 ghost use Rattle.std.specs.Prelude.{◌≡◌, List, ℕ, ◌+◌, length};
 ghost use Rattle.wire.specs.Test.{◌≤?◌};
 ghost use Rattle.connection.specs.Calls.{puts_request};

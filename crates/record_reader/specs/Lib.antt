@@ -1,3 +1,1 @@
 pub mod Position
-pub mod PositionLaws
-pub mod PositionSplit

@@ -1,4 +1,6 @@
 // The position of a reader of records, the same at both ends of a connection.
+#![tactic(auto)]
+
 ghost use Rattle.std.specs.Prelude.{◌≡◌};
 ghost use Rattle.record_reader.specs.Position.{between_records, advanced, in_header};
 

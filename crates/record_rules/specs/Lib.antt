@@ -1,4 +1,1 @@
 pub mod Rules
-pub mod PositionWhole
-pub mod Laws
-pub mod Records

@@ -1,4 +1,1 @@
 pub mod Written
-pub mod WrittenLaws
-pub mod StreamLaws
-pub mod ReadBack

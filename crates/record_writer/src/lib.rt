@@ -1,4 +1,6 @@
 // One record, and a stream in records, written into a lent buffer.
+#![tactic(auto)]
+
 ghost use Rattle.std.specs.Prelude.{◌≡◌, ◌+◌, ◌≤◌, ◌<◌, length};
 ghost use Rattle.record_writer.specs.Written.{Placed, padding_of, record_length, record_fits, stream_fits};
 ghost use Rattle.record_writer.specs.Written.{record_placed, stream_placed};

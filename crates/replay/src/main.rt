@@ -1,4 +1,6 @@
 // Replays a captured connection from standard input: a line for each event and for each byte of data.
+#![tactic(auto)]
+
 ghost use Rattle.std.specs.Prelude.{◌≡◌, ◌-◌, ◌≤◌};
 
 use event_text::{LONGEST, write_byte_line, write_line};

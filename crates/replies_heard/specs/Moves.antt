@@ -2,7 +2,7 @@
 -- goes on the wire, and what is meant by it. Definitions only.
 use Rattle.std.specs.Prelude.{ℕ, ◌<◌, Bool, List, [], ◌∷◌, ◌++◌, take}
 use Rattle.wire.specs.Test.{if◌then◌else◌, ◌=?◌}
-use Rattle.wire.specs.Bytes.{AllBytes}
+use Rattle.wire.proofs.Bytes.{AllBytes}
 use Rattle.record.specs.Names.{STDOUT, STDERR, REQUEST_COMPLETE}
 use Rattle.connection.specs.declared.request.RequestState.{RequestState}
 use Rattle.connection.specs.Event.{Event as StationEvent}

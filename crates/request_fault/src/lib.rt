@@ -1,5 +1,7 @@
 // How one request is changed by a fault, an abort or the end of a stream. Each function is lent the request and its own
 // area, and sees no other.
+#![tactic(auto)]
+
 ghost use Rattle.std.specs.Prelude.{◌≡◌};
 ghost use Rattle.connection.specs.Codes.{event_of, fault_cause};
 ghost use Rattle.connection.specs.Request.{faulted, aborted, turned};

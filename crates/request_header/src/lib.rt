@@ -1,4 +1,6 @@
 // Rules 5 to 10: what a header does to the request that it names.
+#![tactic(auto)]
+
 ghost use Rattle.std.specs.Prelude.{◌≡◌};
 ghost use Rattle.connection.specs.Request.{in_turn, is_input, on_input, on_live, on_header};
 ghost use Rattle.request_fault.specs.Answer.{held, ruled_by};

@@ -1,5 +1,7 @@
 // What a record of an input stream does to one request. Each function is lent the request and its own
 // area, and sees no other.
+#![tactic(auto)]
+
 ghost use Rattle.std.specs.Prelude.{◌≡◌, ◌≤◌, length};
 ghost use Rattle.connection.specs.Request.{list_of, params_fault, params_ended, on_params, on_stdin, on_data, grown};
 ghost use Rattle.connection.specs.Codes.{stream_due};

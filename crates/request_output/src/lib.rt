@@ -1,4 +1,6 @@
 // Output of one request.
+#![tactic(auto)]
+
 ghost use Rattle.std.specs.Prelude.{◌≡◌, List, [], not, ℕ, length, ltb};
 ghost use Rattle.connection.specs.RequestCalls.{no_output, is_ended, uses_err, output_refusal, said_on, ended_on, say_in};
 ghost use Rattle.connection.specs.RequestCalls.{end_in};

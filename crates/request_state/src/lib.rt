@@ -1,4 +1,6 @@
 // The state of one request: the turn of its streams, and whether it is spent.
+#![tactic(auto)]
+
 ghost use Rattle.std.specs.Prelude.{◌≡◌};
 ghost use Rattle.connection.specs.Request.{with_turn, with_life, with_shown, counted, shown_more, is_spent};
 ghost use Rattle.connection.specs.Request.{after_params, after_stdin, turn_type, opened};

@@ -7,13 +7,13 @@
 use Rattle.std.specs.Prelude.{ℕ, ◌≡◌, Bool, true, false, List, [], ◌∷◌}
 use Rattle.wire.specs.Test.{if◌then◌else◌}
 use Rattle.wire.specs.Buffer.{copied}
-use Rattle.wire.specs.Bytes.{AllBytes}
+use Rattle.wire.proofs.Bytes.{AllBytes}
 use Rattle.wire.specs.Compare.{same_bytes}
-use Rattle.pair_list.specs.ReadBackList.{Named, written}
+use Rattle.pair_list.proofs.ReadBackList.{Named, written}
 use Rattle.connection.specs.Event.{Event}
 use Rattle.connection.specs.Step.{State, state_of, no_frame, open_with, MAX_CONNS, MAX_REQS, MPXS_CONNS}
 use Rattle.connection.specs.Bytewise.{Note, Run, fed_pieces, joined}
-use Rattle.meaning.specs.Steps.{Between}
+use Rattle.meaning.proofs.Steps.{Between}
 use Rattle.server.specs.declared.state.Server.{Server}
 use Rattle.server.specs.Calls.{ask_values}
 use Rattle.requests_read.specs.WrittenRequest.{bytes_in}

@@ -1,9 +1,9 @@
 -- A request as it is written, part by part, and what each part is to the station that reads it. Definitions only.
 use Rattle.std.specs.Prelude.{ℕ, ◌≤◌, ◌≡◌, Bool, List, [], ◌∷◌, ◌++◌, length}
-use Rattle.wire.specs.Bytes.{AllBytes}
+use Rattle.wire.proofs.Bytes.{AllBytes}
 use Rattle.record.specs.Names.{STDIN, DATA}
 use Rattle.pair_writer.specs.Write.{MAX_WRITTEN}
-use Rattle.pair_list.specs.ReadBackList.{Named, written}
+use Rattle.pair_list.proofs.ReadBackList.{Named, written}
 use Rattle.stated_length.specs.Stated.{stated_in}
 use Rattle.connection.specs.declared.request.Role.{Role}
 use Rattle.connection.specs.declared.request.Turn.{Turn}

@@ -4,7 +4,7 @@ use Rattle.connection.specs.declared.request.RequestState.{RequestState}
 use Rattle.connection.specs.declared.state.Slot.{Slot}
 use Rattle.connection.specs.Slots.{request_at, area_at, find}
 use Rattle.connection.specs.Step.{State}
-use Rattle.meaning.specs.Steps.{Between}
+use Rattle.meaning.proofs.Steps.{Between}
 use Rattle.requests_read.specs.Parts.{SoFar, list_so_far}
 
 abbrev pub state_so_far : SoFar → RequestState

@@ -9,7 +9,7 @@
 -- The writing may stop after any part. Definitions only; `RequestTheorem` proves the statement.
 use Rattle.std.specs.Prelude.{ℕ, ◌≤◌, ◌<◌, ◌≡◌, Bool, true, List, [], ◌∷◌, ◌++◌, length, take}
 use Rattle.wire.specs.Test.{if◌then◌else◌, ◌<?◌}
-use Rattle.pair_list.specs.ReadBackList.{contents}
+use Rattle.pair_list.proofs.ReadBackList.{contents}
 use Rattle.connection.specs.declared.request.Life.{Life}
 use Rattle.connection.specs.Sizes.{QUERY, STORE}
 use Rattle.connection.specs.Event.{Event}

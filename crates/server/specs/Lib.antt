@@ -6,12 +6,3 @@ pub mod Step
 pub mod Decision
 pub mod Calls
 pub mod Answer
-pub mod Cases
-pub mod CallCases
-pub mod Laws
-pub mod Stepping
-pub mod Cutting
-pub mod WrittenBytes
-pub mod Writing
-pub mod Meaning
-pub mod LetThrough

@@ -1,5 +1,7 @@
 // What every call of the web server's end asks first: the rows of its table of refusals that are about the state, and
 // the slot of the id that it names.
+#![tactic(auto)]
+
 ghost use Rattle.std.specs.Prelude.{◌≡◌};
 ghost use Rattle.server.specs.Step.{step_refusal};
 ghost use Rattle.server_admit.specs.Admission.{check_number, admitted_by, call_admission};

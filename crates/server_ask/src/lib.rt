@@ -1,4 +1,6 @@
 // The web server's end asks the station for values.
+#![tactic(auto)]
+
 ghost use Rattle.std.specs.Prelude.{◌≡◌};
 ghost use Rattle.server.specs.Calls.{ask_refusal, ask_values};
 ghost use Rattle.server.specs.Answer.{written_by};

@@ -1,4 +1,6 @@
 // Whether a state of the web server's end is in shape (row 9 of its table of refusals).
+#![tactic(auto)]
+
 ghost use Rattle.std.specs.Prelude.{◌≡◌, eqb, ◌+◌};
 ghost use Rattle.server.specs.declared.state.Target.{Target};
 ghost use Rattle.server_check.specs.Fits.{target_of, shape_of};

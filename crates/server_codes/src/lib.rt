@@ -1,4 +1,6 @@
 // What the refusals and closes of the web server's end are in the rules' numbers.
+#![tactic(auto)]
+
 ghost use Rattle.std.specs.Prelude.{◌≡◌};
 ghost use Rattle.server.specs.Codes.{close_number, refusal_number};
 

@@ -1,4 +1,6 @@
 // Content bytes of a record, each given to what they are for. Of the table only the ids are lent.
+#![tactic(auto)]
+
 ghost use Rattle.std.specs.Prelude.{◌≡◌, List, ℕ, ◌+◌, ◌≤◌, length};
 ghost use Rattle.wire.specs.Buffer.{copied};
 ghost use Rattle.connection.specs.declared.state.Table.{Table};

@@ -1,4 +1,6 @@
 // The number of open requests.
+#![tactic(auto)]
+
 ghost use Rattle.std.specs.Prelude.{◌≡◌};
 ghost use Rattle.server.specs.Calls.{open_count};
 ghost use Rattle.server.specs.Answer.{counted_by};

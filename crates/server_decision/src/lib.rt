@@ -1,5 +1,7 @@
 // What headers and content decide alike: that a record goes on, that nothing is left of it, that a list of values is
 // whole, and that the connection closes.
+#![tactic(auto)]
+
 ghost use Rattle.std.specs.Prelude.{◌≡◌, List, ℕ, ◌≤◌, length};
 ghost use Rattle.connection.specs.declared.state.Table.{Table};
 ghost use Rattle.server.specs.declared.state.Frame.{Frame};

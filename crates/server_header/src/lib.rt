@@ -1,5 +1,7 @@
 // The eighth byte of a header: it is whole, and judged by rows 51 to 56 in their order. Of the table it is given only
 // the ids and three words.
+#![tactic(auto)]
+
 ghost use Rattle.std.specs.Prelude.{◌≡◌, List, ℕ, ◌<◌};
 ghost use Rattle.connection.specs.declared.state.Table.{Table};
 ghost use Rattle.connection.specs.Sizes.{SLOTS};

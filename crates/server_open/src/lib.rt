@@ -1,4 +1,6 @@
 // The web server's end opens a request.
+#![tactic(auto)]
+
 ghost use Rattle.std.specs.Prelude.{◌≡◌, not, ℕ, ltb};
 ghost use Rattle.slot_word.specs.Word.{lowest_free};
 ghost use Rattle.record.specs.Names.{BEGIN_REQUEST};

@@ -1,4 +1,6 @@
 // What one open request writes: a pair of its PARAMS, content of its STDIN or DATA, the end of a stream, an abort.
+#![tactic(auto)]
+
 ghost use Rattle.std.specs.Prelude.{◌≡◌};
 ghost use Rattle.connection.specs.declared.request.Life.{Life};
 ghost use Rattle.server.specs.declared.answer.ServerWrote.{ServerWrote};

@@ -1,4 +1,6 @@
 // Start.
+#![tactic(auto)]
+
 ghost use Rattle.std.specs.Prelude.{◌≡◌};
 ghost use Rattle.server.specs.Step.{state_of, started};
 

@@ -1,5 +1,7 @@
 // One step of the web server's end: it is refused, or what the bytes of its phase come to is decided in small values,
 // and the table is changed in one place.
+#![tactic(auto)]
+
 ghost use Rattle.std.specs.Prelude.{◌≡◌, Bool, true, length};
 ghost use Rattle.connection.specs.declared.state.Table.{Table};
 ghost use Rattle.record_reader.specs.declared.Phase.{Phase};

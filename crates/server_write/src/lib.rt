@@ -1,5 +1,7 @@
 // The calls of the web server's end for a request that is open: the request that a call names writes its part, and is
 // put back.
+#![tactic(auto)]
+
 ghost use Rattle.std.specs.Prelude.{◌≡◌};
 ghost use Rattle.server.specs.declared.answer.ServerWrote.{ServerWrote};
 ghost use Rattle.server.specs.Calls.{APair, Content, EndOf, Abort, with_request, write_part};

@@ -1,4 +1,1 @@
 pub mod Quick
-pub mod QuickLaws
-pub mod QuickRow
-pub mod TakenLaws

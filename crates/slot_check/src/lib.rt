@@ -1,6 +1,8 @@
 // Whether the slots are in shape: row 9's part on the table. It is asked before every step, so it looks at as few slots
 // as it can. Its loops have no way out and no branch, and each key is compared with the eight after it, going round, in
 // one line: a compiler makes few instructions of that, for eight slots at a time.
+#![tactic(auto)]
+
 ghost use Rattle.std.specs.Prelude.{◌≡◌, ℕ, ◌≤◌, ◌<◌, true, false, List};
 ghost use Rattle.slot_word.specs.Word.{taken};
 ghost use Rattle.connection.specs.Sizes.{SLOTS};

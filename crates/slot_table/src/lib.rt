@@ -1,4 +1,6 @@
 // The table of requests: a slot's request read, put back, taken and given back; the slot of an id.
+#![tactic(auto)]
+
 ghost use Rattle.std.specs.Prelude.{◌≡◌, ◌-◌, ◌<◌};
 ghost use Rattle.connection.specs.Sizes.{SLOTS};
 ghost use Rattle.connection.specs.Slots.{no_state, no_request, no_requests, standing_of, request_at, put_request};

@@ -1,3 +1,1 @@
 pub mod Word
-pub mod WordLaws
-pub mod WordOps

@@ -1,4 +1,6 @@
 // Which of the 16 slots are taken: one word, bit i for slot i.
+#![tactic(auto)]
+
 ghost use Rattle.std.specs.Prelude.{◌≡◌};
 ghost use Rattle.slot_word.specs.Word.{taken, lowest_free, taken_count, with_slot, without_slot, marked};
 

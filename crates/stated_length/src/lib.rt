@@ -1,4 +1,6 @@
 // The length that a request's list states for a stream: the value of a name, in decimal digits.
+#![tactic(auto)]
+
 ghost use Rattle.std.specs.Prelude.{◌≡◌};
 ghost use Rattle.decimal.specs.Decimal.{read_as};
 ghost use Rattle.stated_length.specs.Stated.{stated_by, up_to_largest, stated_in};

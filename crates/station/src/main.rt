@@ -6,6 +6,8 @@
 // When a piece of the input is read through, the station goes round: what it says comes to wait in the queue, and the
 // pump writes it out, a record for each request in turn, so that a long answer holds no short one up. Replies that
 // events owe are written as they come.
+#![tactic(auto)]
+
 mod answer;
 mod turn;
 

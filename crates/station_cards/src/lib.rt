@@ -1,4 +1,6 @@
 // The calibration cards of a request, from the texts of its parameters.
+#![tactic(auto)]
+
 ghost use Rattle.std.specs.Prelude.{◌≡◌};
 ghost use Rattle.decimal.specs.Decimal.{read_as};
 ghost use Rattle.station_cards.specs.Cards.{plus, weight, whole_of, fraction_of, unsigned_of};

@@ -1,4 +1,2 @@
 pub mod Kept
-pub mod KeptLaws
 pub mod Part
-pub mod PartLaws

@@ -1,4 +1,6 @@
 // What a station keeps of its requests, in numbers, and parts of slices.
+#![tactic(auto)]
+
 mod kept;
 mod part;
 

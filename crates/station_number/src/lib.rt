@@ -1,4 +1,6 @@
 // A line in the making, and the numbers that are put into it: whole ones, degrees, and corrected counts.
+#![tactic(auto)]
+
 mod fixed;
 mod line;
 

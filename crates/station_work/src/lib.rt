@@ -1,5 +1,7 @@
 // The work of a station that needs no connection: the bodies that it holds, what an event does to what it keeps, and
 // the text of an answer, part by part.
+#![tactic(auto)]
+
 mod event;
 mod lines;
 mod pool;

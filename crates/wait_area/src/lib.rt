@@ -1,4 +1,6 @@
 // The bytes of one slot in the queue, and their marks: what is put behind them, and what is taken out.
+#![tactic(auto)]
+
 ghost use Rattle.std.specs.Prelude.{◌≡◌, take, drop, replicate};
 ghost use Rattle.wire.specs.Buffer.{put_at, copied};
 ghost use Rattle.wait_area.specs.Behind.{end_behind};

@@ -1,4 +1,1 @@
 pub mod Joins
-pub mod MarkLaws
-pub mod RunLaws
-pub mod SameLaws

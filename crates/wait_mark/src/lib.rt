@@ -1,4 +1,6 @@
 // Ends of streams that wait in one place, and the mark of a waiting byte: its stream, and the ends right behind it.
+#![tactic(auto)]
+
 ghost use Rattle.std.specs.Prelude.{◌≡◌, ◌≤◌, ◌<◌, length};
 ghost use Rattle.slot_check.specs.Quick.{any_of};
 ghost use Rattle.queue_slot.specs.Atoms.{RUN};

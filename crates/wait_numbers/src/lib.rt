@@ -1,4 +1,6 @@
 // The numbers of what waits, lent beside the state: read and put slot by slot, and whether they are in shape.
+#![tactic(auto)]
+
 ghost use Rattle.std.specs.Prelude.{◌≡◌, List, ℕ, ◌+◌, ◌*◌, ◌<◌, ◌≤◌, get_or, set};
 ghost use Rattle.connection.specs.Sizes.{SLOTS};
 ghost use Rattle.queue.specs.Numbers.{NEXT, nobody_waits, kept_waits, count_at, ends_by, front_at, last_at, status_at};

@@ -1,3 +1,1 @@
 pub mod After
-pub mod RoomLaws
-pub mod SlotLaws

@@ -1,4 +1,6 @@
 // What waits in one slot of the queue: data, ends and END come to wait there, and what the pump writes is taken out.
+#![tactic(auto)]
+
 ghost use Rattle.std.specs.Prelude.{◌≡◌, true, List, [], ℕ, ◌*◌, ◌≤◌, ◌<◌, length, take, drop, replicate};
 ghost use Rattle.wire.specs.Buffer.{put_at, copied, byte_at};
 ghost use Rattle.connection.specs.Sizes.{SLOTS};

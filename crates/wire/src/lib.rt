@@ -1,4 +1,6 @@
 // Bytes: numbers of two and four bytes, bytes put into a lent buffer, bytes compared.
+#![tactic(auto)]
+
 ghost use Rattle.std.specs.Prelude.{◌≡◌, ◌+◌, ◌≤◌, ◌<◌, min, length};
 ghost use Rattle.wire.specs.Number.{number2, number4};
 ghost use Rattle.wire.specs.Buffer.{put_at, copied, zeros};

@@ -3,7 +3,7 @@ use mathlib.Core.Path.{◌≡◌, sym, ◌∙◌}
 use mathlib.Core.Bool.{true, false}
 use Rattle.connection.specs.Shape.{in_shape}
 use Rattle.connection.specs.Calls.{call_refusal}
-use Rattle.conn_check.specs.Laws.{shape_of_lem}
+use Rattle.conn_check.proofs.Laws.{shape_of_lem}
 use Rattle.call_admit.specs.Admission.{call_admission}
 use borrow.Author.Rules.{rules}
 use Rattle.call_admit.proofs.admit.Statement.{statement}

@@ -3,7 +3,7 @@ use mathlib.Core.Path.{◌≡◌, sym, ◌∙◌}
 use mathlib.Core.Bool.{true, false}
 use Rattle.connection.specs.Shape.{in_shape}
 use Rattle.connection.specs.Calls.{count_refusal, active_count}
-use Rattle.conn_check.specs.Laws.{shape_of_lem}
+use Rattle.conn_check.proofs.Laws.{shape_of_lem}
 use borrow.Author.Rules.{rules}
 use Rattle.call_count.proofs.active_count.Statement.{statement}
 use Rattle.call_count.proofs.active_count.Tie as tie

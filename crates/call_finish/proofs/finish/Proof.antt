@@ -5,12 +5,12 @@ use native.Mathlib.Omega.{arith}
 use lib.ListN.{length}
 use Rattle.wire.specs.Buffer.{zeros}
 use Rattle.connection.specs.Slots.{put_area}
-use Rattle.connection.specs.Laws.PartLaws.{part_lent, part_back}
+use Rattle.connection.proofs.Laws.PartLaws.{part_lent, part_back}
 use Rattle.call_admit.specs.Admission.{admitted_by}
-use Rattle.call_list.specs.Laws.{Through, admitted_at, refused_at}
+use Rattle.call_list.proofs.Laws.{Through, admitted_at, refused_at}
 use Rattle.call_finish.specs.declared.Finished.{Finished}
 use Rattle.call_finish.specs.Answer.{finished_by}
-use Rattle.call_finish.specs.Laws.{owed_length_lem, finish_refused, finish_short, finish_open, finish_closed}
+use Rattle.call_finish.proofs.Laws.{owed_length_lem, finish_refused, finish_short, finish_open, finish_closed}
 use borrow.Author.Rules.{rules}
 use Rattle.call_finish.proofs.finish.Statement.{statement}
 use Rattle.call_finish.proofs.finish.Tie as tie

@@ -1,4 +1,4 @@
-use Rattle.call_finish.specs.Laws.{end_put, end_unput}
+use Rattle.call_finish.proofs.Laws.{end_put, end_unput}
 use borrow.Author.Rules.{rules}
 use Rattle.call_finish.proofs.write_end.Statement.{statement}
 use Rattle.call_finish.proofs.write_end.Tie as tie

@@ -1,6 +1,6 @@
 use native.Mathlib.Omega.{arith}
 use lib.ListN.{length}
-use Rattle.call_finish.specs.Laws.{first_room, second_room, owed_written}
+use Rattle.call_finish.proofs.Laws.{first_room, second_room, owed_written}
 use borrow.Author.Rules.{rules}
 use Rattle.call_finish.proofs.write_owed.Statement.{statement}
 use Rattle.call_finish.proofs.write_owed.Tie as tie

@@ -3,8 +3,8 @@ use mathlib.Core.Path.{sym, ap, ◌∙◌}
 use Rattle.connection.specs.Slots.{request_at}
 use Rattle.call_admit.specs.Admission.{admitted_by}
 use Rattle.call_list.specs.Listing.{listing}
-use Rattle.call_list.specs.Laws.{Through, admitted_at, refused_at}
-use Rattle.codes.specs.Laws.{refusal_some}
+use Rattle.call_list.proofs.Laws.{Through, admitted_at, refused_at}
+use Rattle.codes.proofs.Laws.{refusal_some}
 use borrow.Author.Rules.{rules}
 use Rattle.call_list.proofs.list_at.Statement.{statement}
 use Rattle.call_list.proofs.list_at.Tie as tie

@@ -2,7 +2,7 @@ use mathlib.Core.Path.{sym, ap, ◌∙◌}
 use Rattle.connection.specs.declared.answer.Written.{Written}
 use Rattle.call_admit.specs.Admission.{admitted_by}
 use Rattle.call_output.specs.Answer.{written_by}
-use Rattle.call_output.specs.Laws.{end_refused, end_through}
+use Rattle.call_output.proofs.Laws.{end_refused, end_through}
 use borrow.Author.Rules.{rules}
 use Rattle.call_output.proofs.end_output.Statement.{statement}
 use Rattle.call_output.proofs.end_output.Tie as tie

@@ -1,5 +1,5 @@
 use mathlib.Core.Path.{sym, ◌∙◌}
-use Rattle.call_reply.specs.Laws.{record_filled, record_unfilled}
+use Rattle.call_reply.proofs.Laws.{record_filled, record_unfilled}
 use borrow.Author.Rules.{rules}
 use Rattle.call_reply.proofs.one_record.Statement.{statement}
 use Rattle.call_reply.proofs.one_record.Tie as tie

@@ -10,7 +10,7 @@ use Rattle.connection.specs.declared.event.Event.{Event}
 use Rattle.connection.specs.Codes.{event_of}
 use Rattle.connection.specs.Calls.{values_of, owed, replied}
 use Rattle.call_reply.specs.Answer.{filled_by}
-use Rattle.call_reply.specs.Laws.{Values, values_put, unowed}
+use Rattle.call_reply.proofs.Laws.{Values, values_put, unowed}
 use borrow.Author.Rules.{rules}
 use Rattle.call_reply.proofs.owed_reply.Statement.{statement}
 use Rattle.call_reply.proofs.owed_reply.Tie as tie

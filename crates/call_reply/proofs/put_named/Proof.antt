@@ -2,9 +2,9 @@ use mathlib.Core.Path.{sym, ap, ◌∙◌}
 use native.Mathlib.Omega.{arith}
 use native.Mathlib.Nat.{add-zero}
 use Prim.Native.Nat.{ℕ, ◌+◌}
-use Rattle.wire.specs.BufferLaws.{put_none}
+use Rattle.wire.proofs.BufferLaws.{put_none}
 use Rattle.pairs.specs.Pair.{pair_bytes}
-use Rattle.call_reply.specs.Laws.{PairPut, pair_put}
+use Rattle.call_reply.proofs.Laws.{PairPut, pair_put}
 use borrow.Author.Rules.{rules}
 use Rattle.call_reply.proofs.put_named.Statement.{statement}
 use Rattle.call_reply.proofs.put_named.Tie as tie

@@ -3,7 +3,7 @@ use mathlib.Core.List.{[], ◌∷◌}
 use Rattle.connection.specs.Step.{MAX_CONNS, MAX_REQS, MPXS_CONNS}
 use Rattle.connection.specs.Calls.{values_of}
 use Rattle.call_reply.specs.Answer.{named_pair}
-use Rattle.call_reply.specs.Laws.{lengths, three_put}
+use Rattle.call_reply.proofs.Laws.{lengths, three_put}
 use borrow.Author.Rules.{rules}
 use Rattle.call_reply.proofs.put_values.Statement.{statement}
 use Rattle.call_reply.proofs.put_values.Tie as tie

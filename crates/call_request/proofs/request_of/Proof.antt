@@ -1,6 +1,6 @@
 use mathlib.Core.Path.{sym, ap, ◌∙◌}
 use Rattle.call_admit.specs.Admission.{admitted_by}
-use Rattle.call_request.specs.Laws.{request_refused, request_through}
+use Rattle.call_request.proofs.Laws.{request_refused, request_through}
 use borrow.Author.Rules.{rules}
 use Rattle.call_request.proofs.request_of.Statement.{statement}
 use Rattle.call_request.proofs.request_of.Tie as tie

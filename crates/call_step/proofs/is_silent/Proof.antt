@@ -1,5 +1,5 @@
 use mathlib.Core.Path.{◌∙◌}
-use Rattle.codes.specs.Laws.{refusal_some}
+use Rattle.codes.proofs.Laws.{refusal_some}
 use borrow.Author.Rules.{rules}
 use Rattle.call_step.proofs.is_silent.Statement.{statement}
 use Rattle.call_step.proofs.is_silent.Tie as tie

@@ -1,7 +1,7 @@
 use mathlib.Core.Path.{◌∙◌}
 use mathlib.Core.Bool.{false}
-use Rattle.wait_numbers.specs.FitLaws.{nobody_fits}
-use Rattle.call_step.specs.Beside.{beside_fits}
+use Rattle.wait_numbers.proofs.FitLaws.{nobody_fits}
+use Rattle.call_step.proofs.BesideLaws.{beside_fits}
 use borrow.Author.Rules.{rules}
 use Rattle.call_step.proofs.step.Statement.{statement}
 use Rattle.call_step.proofs.step.Tie as tie

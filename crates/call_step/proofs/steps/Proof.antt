@@ -9,19 +9,19 @@ use Rattle.connection.specs.Sizes.{SLOTS}
 use Rattle.connection.specs.Shape.{in_shape, ◌and◌}
 use Rattle.connection.specs.Event.{Event}
 use Rattle.connection.specs.Codes.{event_of}
-use Rattle.connection.specs.Laws.ShapeLaws.{shaped}
+use Rattle.connection.proofs.Laws.ShapeLaws.{shaped}
 use Rattle.connection.specs.Step.{Stepped, state_of}
-use Rattle.conn_check.specs.Laws.{shape_of_lem}
+use Rattle.conn_check.proofs.Laws.{shape_of_lem}
 use Rattle.queue.specs.Numbers.{kept_waits}
 use Rattle.queue.specs.Calls.{waits_fit}
-use Rattle.wait_numbers.specs.SlotLaws.{kept_as_was}
+use Rattle.wait_numbers.proofs.SlotLaws.{kept_as_was}
 use Rattle.conn_quick.specs.Quick.{is_shown}
 use Rattle.conn_quick.specs.Passes.{counted_at}
 use Rattle.conn_step.specs.Answer.{told_number, told_event}
 use Rattle.call_step.specs.Check.{checked_step, Reads}
-use Rattle.call_step.specs.Beside.{beside_fits, beside_read, beside_refused, beside_idle, Beside, beside_same, beside_took, beside_end}
+use Rattle.call_step.proofs.BesideLaws.{beside_fits, beside_read, beside_refused, beside_idle, Beside, beside_same, beside_took, beside_end}
 use Rattle.call_step.specs.Next.{steps_by, reached}
-use Rattle.call_step.specs.RoundLaws.{reached_start, Due, ahead, Took, Kept, Round, round, conn_of, quick_took, step_took, shown_took, slot_low, shown_last}
+use Rattle.call_step.proofs.RoundLaws.{reached_start, Due, ahead, Took, Kept, Round, round, conn_of, quick_took, step_took, shown_took, slot_low, shown_last}
 use borrow.Author.Rules.{rules}
 use Rattle.call_step.proofs.steps.Statement.{statement}
 use Rattle.call_step.proofs.steps.Tie as tie

@@ -5,7 +5,7 @@ use mathlib.Core.Path.{refl, sym, ap, subst, ◌∙◌}
 use lib.ListN.{take, drop}
 use Rattle.pair_list.specs.List.{first_named}
 use Rattle.call_list.specs.Listing.{listed_by}
-use Rattle.call_list.specs.Laws.{Within, listing_within, value_listed, first_in_none}
+use Rattle.call_list.proofs.Laws.{Within, listing_within, value_listed, first_in_none}
 use Rattle.call_list.specs.Part.{value_place, part_found}
 use borrow.Author.Rules.{rules}
 use Rattle.call_value.proofs.value.Statement.{statement}

@@ -2,7 +2,7 @@ use Prim.Native.Nat.{◌+◌, ◌-◌}
 use native.Mathlib.Omega.{arith}
 use native.Mathlib.Nat.{zero-add}
 use mathlib.Core.Path.{◌≡◌, refl, sym, ◌∙◌}
-use Rattle.pair_list.specs.ListLaws.{LiesIn, first_within}
+use Rattle.pair_list.proofs.ListLaws.{LiesIn, first_within}
 use borrow.Author.Rules.{rules}
 use Rattle.call_value.proofs.value_in.Statement.{statement}
 use Rattle.call_value.proofs.value_in.Tie as tie

@@ -1,8 +1,8 @@
 use native.Mathlib.Omega.{arith}
 use mathlib.Core.Path.{sym, ap, subst, ◌∙◌}
 use Rattle.call_list.specs.Listing.{listed_by}
-use Rattle.call_list.specs.Laws.{Within, listing_within, source_listed}
-use Rattle.codes.specs.Laws.{refusal_some}
+use Rattle.call_list.proofs.Laws.{Within, listing_within, source_listed}
+use Rattle.codes.proofs.Laws.{refusal_some}
 use borrow.Author.Rules.{rules}
 use Rattle.call_value.proofs.value_source.Statement.{statement}
 use Rattle.call_value.proofs.value_source.Tie as tie

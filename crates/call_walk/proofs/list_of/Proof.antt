@@ -2,7 +2,7 @@ use native.Mathlib.Omega.{arith}
 use native.Mathlib.Nat.{zero-add}
 use mathlib.Core.Path.{refl, sym, ap, subst, ◌∙◌}
 use Rattle.call_list.specs.Listing.{listed_by}
-use Rattle.call_list.specs.Laws.{Within, listing_within, walk_listed}
+use Rattle.call_list.proofs.Laws.{Within, listing_within, walk_listed}
 use borrow.Author.Rules.{rules}
 use Rattle.call_walk.proofs.list_of.Statement.{statement}
 use Rattle.call_walk.proofs.list_of.Tie as tie

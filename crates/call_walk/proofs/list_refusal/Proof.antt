@@ -1,4 +1,4 @@
-use Rattle.call_list.specs.Laws.{walk_listed}
+use Rattle.call_list.proofs.Laws.{walk_listed}
 use borrow.Author.Rules.{rules}
 use Rattle.call_walk.proofs.list_refusal.Statement.{statement}
 use Rattle.call_walk.proofs.list_refusal.Tie as tie

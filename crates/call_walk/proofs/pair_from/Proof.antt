@@ -1,7 +1,7 @@
 use mathlib.Core.Path.{◌≡◌}
 use Rattle.connection.specs.Calls.{walk}
-use Rattle.codes.specs.Laws.{refusal_some}
-use Rattle.call_list.specs.Laws.{walk_listed}
+use Rattle.codes.proofs.Laws.{refusal_some}
+use Rattle.call_list.proofs.Laws.{walk_listed}
 use Rattle.call_walk.specs.Place.{read_from}
 use borrow.Author.Rules.{rules}
 use Rattle.call_walk.proofs.pair_from.Statement.{statement}

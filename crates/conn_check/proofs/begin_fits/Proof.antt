@@ -1,5 +1,5 @@
 use borrow.Author.Tests.{eq-eqb, ne_eqb}
-use Rattle.conn_check.specs.Laws.{eight, not_eight, over_eight}
+use Rattle.conn_check.proofs.Laws.{eight, not_eight, over_eight}
 use borrow.Author.Rules.{rules}
 use Rattle.conn_check.proofs.begin_fits.Statement.{statement}
 use Rattle.conn_check.proofs.begin_fits.Tie as tie

@@ -3,7 +3,7 @@ use native.Mathlib.Omega.{arith}
 use mathlib.Core.Path.{sym, ◌∙◌}
 use Prim.Native.Nat.{◌<◌}
 use Rattle.connection.specs.Sizes.{SLOTS}
-use Rattle.conn_check.specs.Laws.{due_slot}
+use Rattle.conn_check.proofs.Laws.{due_slot}
 use borrow.Author.Rules.{rules}
 use Rattle.conn_check.proofs.params_fit.Statement.{statement}
 use Rattle.conn_check.proofs.params_fit.Tie as tie

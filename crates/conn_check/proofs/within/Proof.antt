@@ -2,7 +2,7 @@ use native.Mathlib.Omega.{arith}
 use mathlib.Core.Path.{sym}
 use Prim.Native.Nat.{◌+◌}
 use borrow.Author.Tests.{lt-leb}
-use Rattle.wire.specs.BufferLaws.{room_left}
+use Rattle.wire.proofs.BufferLaws.{room_left}
 use Rattle.conn_check.proofs.within.Statement.{statement}
 use Rattle.conn_check.proofs.within.Tie as tie
 

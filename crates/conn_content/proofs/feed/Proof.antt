@@ -3,9 +3,9 @@ use Prim.Native.Nat.{◌<◌}
 use native.Mathlib.Omega.{arith}
 use Rattle.connection.specs.declared.state.Target.{Target}
 use Rattle.connection.specs.Sizes.{SLOTS}
-use Rattle.connection.specs.Laws.PartLaws.{part_lent, part_back}
+use Rattle.connection.proofs.Laws.PartLaws.{part_lent, part_back}
 use Rattle.connection.specs.Step.{on_target}
-use Rattle.conn_content.specs.Laws.{aimed_at}
+use Rattle.conn_content.proofs.Laws.{aimed_at}
 use Rattle.connection.specs.Decision.{open_state, applied}
 use borrow.Author.Rules.{rules}
 use Rattle.conn_content.proofs.feed.Statement.{statement}

@@ -3,7 +3,7 @@ use Prim.Native.Nat.{◌+◌}
 use lib.ListN.{length}
 use borrow.Author.Tests.{eq-eqb, ne_eqb}
 use Rattle.connection.specs.Step.{of_query}
-use Rattle.conn_content.specs.Laws.{take_least}
+use Rattle.conn_content.proofs.Laws.{take_least}
 use borrow.Author.Rules.{rules}
 use Rattle.conn_content.proofs.of_query.Statement.{statement}
 use Rattle.conn_content.proofs.of_query.Tie as tie

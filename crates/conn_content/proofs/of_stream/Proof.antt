@@ -1,4 +1,4 @@
-use Rattle.conn_content.specs.Laws.{stream_shown}
+use Rattle.conn_content.proofs.Laws.{stream_shown}
 use borrow.Author.Rules.{rules}
 use Rattle.conn_content.proofs.of_stream.Statement.{statement}
 use Rattle.conn_content.proofs.of_stream.Tie as tie

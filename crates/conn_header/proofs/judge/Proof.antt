@@ -4,8 +4,8 @@ use native.Mathlib.Omega.{arith}
 use borrow.Author.Tests.{eq-eqb, ne_eqb}
 use Rattle.connection.specs.Sizes.{SLOTS}
 use Rattle.connection.specs.Slots.{request_at}
-use Rattle.connection.specs.Laws.SlotsLaws.{find_at}
-use Rattle.connection.specs.Laws.PartLaws.{part_lent, part_back}
+use Rattle.connection.proofs.Laws.SlotsLaws.{find_at}
+use Rattle.connection.proofs.Laws.PartLaws.{part_lent, part_back}
 use Rattle.connection.specs.Step.{judged}
 use Rattle.connection.specs.Decision.{applied}
 use borrow.Author.Rules.{rules}

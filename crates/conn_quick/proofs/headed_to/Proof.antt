@@ -3,9 +3,9 @@ use Prim.Native.Nat.{◌<◌}
 use native.Mathlib.Omega.{arith}
 use borrow.Author.Tests.{eq-eqb, ne_eqb}
 use Rattle.connection.specs.Sizes.{SLOTS}
-use Rattle.connection.specs.Laws.SlotsLaws.{find_at}
+use Rattle.connection.proofs.Laws.SlotsLaws.{find_at}
 use Rattle.conn_quick.specs.Quick.{headed_to}
-use Rattle.conn_quick.specs.Laws.{headed_at}
+use Rattle.conn_quick.proofs.Laws.{headed_at}
 use borrow.Author.Rules.{rules}
 use Rattle.conn_quick.proofs.headed_to.Statement.{statement}
 use Rattle.conn_quick.proofs.headed_to.Tie as tie

@@ -4,8 +4,8 @@ use mathlib.Core.Bool.{true}
 use lib.ListN.{length}
 use borrow.Author.Tests.{not-false}
 use Rattle.conn_quick.specs.Quick.{is_headed}
-use Rattle.connection.specs.Laws.PieceLaws.{HeaderFits}
-use Rattle.conn_quick.specs.Laws.{headed, header_passed}
+use Rattle.connection.specs.Fits.{HeaderFits}
+use Rattle.conn_quick.proofs.Laws.{headed, header_passed}
 use borrow.Author.Rules.{rules}
 use Rattle.conn_quick.proofs.pass_header.Statement.{statement}
 use Rattle.conn_quick.proofs.pass_header.Tie as tie

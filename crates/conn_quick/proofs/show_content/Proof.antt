@@ -1,4 +1,4 @@
-use Rattle.conn_quick.specs.Laws.{content_shown}
+use Rattle.conn_quick.proofs.Laws.{content_shown}
 use borrow.Author.Rules.{rules}
 use Rattle.conn_quick.proofs.show_content.Statement.{statement}
 use Rattle.conn_quick.proofs.show_content.Tie as tie

@@ -5,7 +5,7 @@ use native.Mathlib.Omega.{arith}
 use mir.Val.{Fits}
 use mir.Syntax.{w8, w16}
 use Rattle.record.specs.declared.header.Header.{Header}
-use Rattle.connection.specs.Laws.PieceLaws.{HeaderFits}
+use Rattle.connection.specs.Fits.{HeaderFits}
 use Rattle.record_reader.specs.declared.Phase.{Phase}
 use Rattle.connection.specs.Step.{on_phase}
 use Rattle.connection.specs.Decision.{open_state}

@@ -9,16 +9,16 @@ use Rattle.record_reader.specs.declared.Phase.{Phase}
 use Rattle.record_reader.specs.Position.{advanced}
 use Rattle.connection.specs.Sizes.{SLOTS}
 use Rattle.connection.specs.Shape.{in_shape}
-use Rattle.wire.specs.Bytes.{AllBytes}
-use Rattle.connection.specs.Laws.PieceLaws.{HeaderFits}
-use Rattle.connection.specs.Laws.StateShape.{Arrays, good, good_shape}
-use Rattle.connection.specs.Laws.StepShape.{ReadFits, good_advances}
+use Rattle.wire.proofs.Bytes.{AllBytes}
+use Rattle.connection.specs.Fits.{HeaderFits}
+use Rattle.connection.proofs.Laws.StateShape.{Arrays, good, good_shape}
+use Rattle.connection.proofs.Laws.StepShape.{ReadFits, good_advances}
 use Rattle.record_reader.specs.declared.Advanced.{Advanced}
 use Rattle.connection.specs.Step.{Stepped, open_with, on_phase, leaves, advances}
 use Rattle.connection.specs.Decision.{open_state}
-use Rattle.connection.specs.Laws.ShapeLaws.{shaped}
-use Rattle.conn_step.specs.Laws.{used_fits}
-use Rattle.slot_table.specs.Laws.{mapped-length}
+use Rattle.connection.proofs.Laws.ShapeLaws.{shaped}
+use Rattle.conn_step.proofs.Laws.{used_fits}
+use Rattle.slot_table.proofs.Laws.{mapped-length}
 use borrow.Author.Rules.{rules}
 use Rattle.conn_step.proofs.go_on.Statement.{statement}
 use Rattle.conn_step.proofs.go_on.Tie as tie

@@ -9,7 +9,7 @@ use Rattle.connection.specs.declared.decision.Change.{Change}
 use Rattle.connection.specs.Shape.{in_shape}
 use Rattle.connection.specs.Decision.{conn_after, store_after}
 use Rattle.connection.specs.Step.{Stepped, state_of, open_with, closed_conn, advances}
-use Rattle.conn_step.specs.Laws.{opened_is}
+use Rattle.conn_step.proofs.Laws.{opened_is}
 use Rattle.conn_step.specs.Outcome.{stepped_with, outcome_of}
 use borrow.Author.Rules.{rules}
 use Rattle.conn_step.proofs.take_step.Statement.{statement}

@@ -1,6 +1,6 @@
 use mathlib.Core.Path.{refl}
 use native.Mathlib.Omega.{arith}
-use Rattle.decimal.specs.Laws.{digit_byte}
+use Rattle.decimal.proofs.Laws.{digit_byte}
 use Rattle.decimal.proofs.digit_value.Statement.{statement}
 use Rattle.decimal.proofs.digit_value.Tie as tie
 

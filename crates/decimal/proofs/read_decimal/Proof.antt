@@ -5,7 +5,7 @@ use native.Mathlib.Omega.{arith}
 use lib.ListN.{length, drop}
 use borrow.Author.Tests.{eq-eqb, ne_eqb, lt-ltb, le-ltb, not-true, not-false}
 use Rattle.decimal.specs.Decimal.{digits_after, decimal_of}
-use Rattle.decimal.specs.Laws.{digit_more, digit_none, digits_end, ten_to, ten_none, ten_next, ten_small}
+use Rattle.decimal.proofs.Laws.{digit_more, digit_none, digits_end, ten_to, ten_none, ten_next, ten_small}
 use borrow.Author.Rules.{rules}
 use Rattle.decimal.proofs.read_decimal.Statement.{statement}
 use Rattle.decimal.proofs.read_decimal.Tie as tie

@@ -1,5 +1,5 @@
 use mathlib.Core.Path.{◌∙◌}
-use Rattle.codes.specs.Laws.{refusal_some}
+use Rattle.codes.proofs.Laws.{refusal_some}
 use borrow.Author.Rules.{rules}
 use Rattle.digest.proofs.told_weight.Statement.{statement}
 use Rattle.digest.proofs.told_weight.Tie as tie

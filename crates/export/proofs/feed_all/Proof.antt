@@ -6,7 +6,7 @@ use lib.ListN.{length}
 use Rattle.conn_step.specs.Answer.{stepped_by}
 use Rattle.connection.specs.Step.{state_of}
 use Rattle.export.specs.Fed.{fed_all}
-use Rattle.export.specs.Laws.{rest_of, from_start, at_end, LoopTurn, turn}
+use Rattle.export.proofs.Laws.{rest_of, from_start, at_end, LoopTurn, turn}
 use Rattle.export.proofs.feed_all.Statement.{statement}
 use Rattle.export.proofs.feed_all.Tie as tie
 

@@ -3,7 +3,7 @@ use Prim.Native.Nat.{◌+◌, ◌-◌, ◌≤◌, ◌<◌}
 use native.Mathlib.Omega.{arith}
 use lib.ListN.{length, take, drop, length-take}
 use Rattle.connection.specs.Step.{Stepped, state_of}
-use Rattle.call_step.specs.NextLaws.{next_uses_no_more}
+use Rattle.call_step.proofs.NextLaws.{next_uses_no_more}
 use borrow.Author.Rules.{rules}
 use Rattle.export_next.proofs.feed_all.Statement.{statement}
 use Rattle.export_next.proofs.feed_all.Tie as tie

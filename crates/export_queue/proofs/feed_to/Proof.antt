@@ -5,7 +5,7 @@ use lib.ListN.{length, take, drop, length-take}
 use mathlib.Core.List.{[]}
 use Rattle.connection.specs.Step.{Stepped}
 use Rattle.queue.specs.Calls.{lent}
-use Rattle.queue_read.specs.ReadLaws.{step_inside}
+use Rattle.queue_read.proofs.ReadLaws.{step_inside}
 use borrow.Author.Rules.{rules}
 use Rattle.export_queue.proofs.feed_to.Statement.{statement}
 use Rattle.export_queue.proofs.feed_to.Tie as tie

@@ -3,7 +3,7 @@ use Prim.Native.Nat.{◌+◌, ◌-◌, ◌≤◌, ◌<◌}
 use native.Mathlib.Omega.{arith}
 use lib.ListN.{length, take, drop, length-take}
 use Rattle.reading_reader.specs.Reader.{Call}
-use Rattle.reading_reader.specs.CallLaws.{uses_no_more}
+use Rattle.reading_reader.proofs.CallLaws.{uses_no_more}
 use borrow.Author.Rules.{rules}
 use Rattle.export_readings.proofs.fastcgi_readings_digest.Statement.{statement}
 use Rattle.export_readings.proofs.fastcgi_readings_digest.Tie as tie

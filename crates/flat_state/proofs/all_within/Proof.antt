@@ -5,7 +5,7 @@ use native.Mathlib.Omega.{arith}
 use lib.ListN.{length, drop}
 use Rattle.connection.specs.Sizes.{SLOTS}
 use Rattle.flat_state.specs.Flat.{every, within}
-use Rattle.flat_state.specs.LoopLaws.{every_next, every_end}
+use Rattle.flat_state.proofs.LoopLaws.{every_next, every_end}
 use borrow.Author.Rules.{rules}
 use Rattle.flat_state.proofs.all_within.Statement.{statement}
 use Rattle.flat_state.proofs.all_within.Tie as tie

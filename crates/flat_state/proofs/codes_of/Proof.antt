@@ -1,12 +1,12 @@
 use mathlib.Core.Path.{◌≡◌, refl, sym, ◌∙◌}
 use lib.ListN.{length, length-map, get_or-map}
 use Rattle.connection.specs.Slots.{no_standing}
-use Rattle.slot_table.specs.Laws.{mapped-length}
+use Rattle.slot_table.proofs.Laws.{mapped-length}
 use borrow.Author.Rules.{rules}
 use Prim.Native.Nat.{◌-◌}
 use Rattle.connection.specs.Sizes.{SLOTS}
 use Rattle.flat_state.specs.Flat.{roles_of, turns_of, lives_of}
-use Rattle.flat_state.specs.LoopLaws.{Made, made_none, made_next, made_all}
+use Rattle.flat_state.proofs.LoopLaws.{Made, made_none, made_next, made_all}
 use Rattle.flat_state.proofs.codes_of.Statement.{statement}
 use Rattle.flat_state.proofs.codes_of.Tie as tie
 

@@ -1,5 +1,5 @@
 use borrow.Author.Rules.{rules}
-use Rattle.float_bits.specs.NanLaws.{nan_pattern, no_nan}
+use Rattle.float_bits.proofs.NanLaws.{nan_pattern, no_nan}
 use Rattle.float_bits.proofs.bits_of_float.Statement.{statement}
 use Rattle.float_bits.proofs.bits_of_float.Tie as tie
 

@@ -1,5 +1,5 @@
 use borrow.Author.Rules.{rules}
-use Rattle.float_bits.specs.NanLaws.{from_nan_pattern, no_nan_pattern}
+use Rattle.float_bits.proofs.NanLaws.{from_nan_pattern, no_nan_pattern}
 use Rattle.float_bits.proofs.float_of_bits.Statement.{statement}
 use Rattle.float_bits.proofs.float_of_bits.Tie as tie
 

@@ -7,11 +7,11 @@ use mir.ValLaws.{to_z-of_z}
 use mir.Syntax.{w32}
 use borrow.Author.Tests.{not-true, not-false, lt-ltb, le-ltb}
 use Rattle.reading.specs.Temperature.{sent_of, sent_fits}
-use Rattle.reading.specs.Signs.{below, above}
+use Rattle.reading.proofs.Signs.{below, above}
 use Rattle.ice_correction.specs.declared.Curve.{Curve}
 use Rattle.ice_correction.specs.declared.Calibration.{Calibration}
 use Rattle.ice_correction.specs.Correction.{Count, by_curve, curve_at}
-use Rattle.ice_correction.specs.Rows.{kinds, floats, row_41, row_42, row_43, row_44, row_count}
+use Rattle.ice_correction.proofs.Rows.{kinds, floats, row_41, row_42, row_43, row_44, row_count}
 use borrow.Author.Rules.{rules}
 use Rattle.ice_correction.proofs.correct.Statement.{statement}
 use Rattle.ice_correction.proofs.correct.Tie as tie

@@ -4,7 +4,7 @@ use lib.Ieee.{Float, binary64, div, of_int, of_bits}
 use mir.ValLaws.{to_z-of_z}
 use mir.Syntax.{w32}
 use Rattle.ice_correction.specs.Correction.{degrees_of}
-use Rattle.ice_correction.specs.Rows.{ten}
+use Rattle.ice_correction.proofs.Rows.{ten}
 use borrow.Author.Rules.{rules}
 use Rattle.ice_correction.proofs.degrees.Statement.{statement}
 use Rattle.ice_correction.proofs.degrees.Tie as tie

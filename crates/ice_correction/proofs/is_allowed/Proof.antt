@@ -1,4 +1,4 @@
-use Rattle.ice_correction.specs.Rows.{between_thousands}
+use Rattle.ice_correction.proofs.Rows.{between_thousands}
 use Rattle.ice_correction.proofs.is_allowed.Statement.{statement}
 use Rattle.ice_correction.proofs.is_allowed.Tie as tie
 

@@ -5,8 +5,8 @@ use mathlib.Core.Logic.{⊎_elim}
 use borrow.Author.Rules.{rules}
 use lib.ListN.{length}
 use Rattle.pair_list.specs.List.{Pairs, pairs_from, ending_of}
-use Rattle.pairs.specs.PairLaws.{pair_in_lem}
-use Rattle.pair_list.specs.ListLaws.{pairs_next, pairs_end, pairs_none}
+use Rattle.pairs.proofs.PairLaws.{pair_in_lem}
+use Rattle.pair_list.proofs.ListLaws.{pairs_next, pairs_end, pairs_none}
 use Rattle.pair_list.proofs.list_ending.Statement.{statement}
 use Rattle.pair_list.proofs.list_ending.Tie as tie
 

@@ -8,8 +8,8 @@ use lib.ListN.{length}
 use Rattle.pairs.specs.declared.pair.Read.{Read}
 use Rattle.pairs.specs.Pair.{pair_at}
 use Rattle.pair_list.specs.List.{Pairs, pairs_from, number_in, pair_number}
-use Rattle.pairs.specs.PairLaws.{PairIn, pair_in_lem}
-use Rattle.pair_list.specs.ListLaws.{pairs_end, pairs_none, number_next}
+use Rattle.pairs.proofs.PairLaws.{PairIn, pair_in_lem}
+use Rattle.pair_list.proofs.ListLaws.{pairs_end, pairs_none, number_next}
 use Rattle.pair_list.proofs.pair_number.Statement.{statement}
 use Rattle.pair_list.proofs.pair_number.Tie as tie
 

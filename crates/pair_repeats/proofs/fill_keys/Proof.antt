@@ -6,10 +6,10 @@ use borrow.Author.Rules.{rules}
 use lib.ListN.{length, length-set}
 use Rattle.pairs.specs.declared.pair.Read.{Read}
 use Rattle.pairs.specs.Pair.{pair_at}
-use Rattle.pairs.specs.PairLaws.{PairIn, pair_in_lem}
+use Rattle.pairs.proofs.PairLaws.{PairIn, pair_in_lem}
 use Rattle.pair_list.specs.List.{Pairs}
-use Rattle.pair_list.specs.ListLaws.{pairs_end, pairs_none}
-use Rattle.pair_repeats.specs.KeysLaws.{Filling, fill_next, fill_done}
+use Rattle.pair_list.proofs.ListLaws.{pairs_end, pairs_none}
+use Rattle.pair_repeats.proofs.KeysLaws.{Filling, fill_next, fill_done}
 use Rattle.pair_repeats.proofs.fill_keys.Statement.{statement}
 use Rattle.pair_repeats.proofs.fill_keys.Tie as tie
 

@@ -5,7 +5,7 @@ use borrow.Author.Rules.{rules}
 use borrow.Author.Tests.{eq-eqb, ne_eqb, lt-ltb, le-ltb}
 use lib.ListN.{length, take, drop}
 use Rattle.pair_repeats.specs.Keys.{holds, may_hold}
-use Rattle.pair_repeats.specs.KeysLaws.{held_step, held_end}
+use Rattle.pair_repeats.proofs.KeysLaws.{held_step, held_end}
 use Rattle.pair_repeats.proofs.may_hold.Statement.{statement}
 use Rattle.pair_repeats.proofs.may_hold.Tie as tie
 

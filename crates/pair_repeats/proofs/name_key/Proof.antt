@@ -4,7 +4,7 @@ use native.Mathlib.Omega.{arith}
 use borrow.Author.Rules.{rules}
 use lib.ListN.{length, drop}
 use Rattle.pair_repeats.specs.Keys.{key_from, key_of}
-use Rattle.pair_repeats.specs.KeysLaws.{key_step, key_end}
+use Rattle.pair_repeats.proofs.KeysLaws.{key_step, key_end}
 use Rattle.pair_repeats.proofs.name_key.Statement.{statement}
 use Rattle.pair_repeats.proofs.name_key.Tie as tie
 

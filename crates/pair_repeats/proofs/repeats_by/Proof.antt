@@ -7,13 +7,13 @@ use borrow.Author.Rules.{rules}
 use lib.ListN.{length}
 use Rattle.pairs.specs.declared.pair.Read.{Read}
 use Rattle.pairs.specs.Pair.{pair_at}
-use Rattle.pairs.specs.PairLaws.{PairIn, pair_in_lem}
+use Rattle.pairs.proofs.PairLaws.{PairIn, pair_in_lem}
 use Rattle.pair_list.specs.List.{Pairs, pairs_from}
-use Rattle.pair_list.specs.ListLaws.{pairs_end, pairs_none}
+use Rattle.pair_list.proofs.ListLaws.{pairs_end, pairs_none}
 use Rattle.pair_repeats.specs.Repeats.{repeats_in, repeats}
 use Rattle.pair_repeats.specs.Keys.{Filled}
-use Rattle.pair_repeats.specs.KeysLaws.{filled_next}
-use Rattle.pair_repeats.specs.RepeatsLaws.{repeats_next, repeats_end}
+use Rattle.pair_repeats.proofs.KeysLaws.{filled_next}
+use Rattle.pair_repeats.proofs.RepeatsLaws.{repeats_next, repeats_end}
 use Rattle.pair_repeats.proofs.repeats_by.Statement.{statement}
 use Rattle.pair_repeats.proofs.repeats_by.Tie as tie
 

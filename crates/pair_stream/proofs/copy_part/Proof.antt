@@ -1,7 +1,7 @@
 use native.Mathlib.Omega.{arith}
 use Prim.Native.Nat.{◌-◌, ◌≤◌}
 use lib.ListN.{drop}
-use Rattle.pair_stream.specs.PartLaws.{take_short, parts_copied}
+use Rattle.pair_stream.proofs.PartLaws.{take_short, parts_copied}
 use borrow.Author.Rules.{rules}
 use Rattle.pair_stream.proofs.copy_part.Statement.{statement}
 use Rattle.pair_stream.proofs.copy_part.Tie as tie

@@ -1,6 +1,6 @@
 use mathlib.Core.Path.{ap, ◌∙◌}
 use Rattle.wire.specs.Buffer.{copied}
-use Rattle.pair_stream.specs.PartLaws.{none_copied, some_taken}
+use Rattle.pair_stream.proofs.PartLaws.{none_copied, some_taken}
 use borrow.Author.Rules.{rules}
 use Rattle.pair_stream.proofs.copy_some.Statement.{statement}
 use Rattle.pair_stream.proofs.copy_some.Tie as tie

@@ -3,8 +3,8 @@ use mathlib.Core.List.{◌++◌}
 use Prim.Native.Nat.{◌+◌, ◌-◌, ◌<◌}
 use native.Mathlib.Omega.{arith}
 use Rattle.record_writer.specs.Written.{padding_of}
-use Rattle.record_writer.specs.WrittenLaws.{padding_small}
-use Rattle.pair_stream.specs.StreamLaws.{padding_is, piece_placed}
+use Rattle.record_writer.proofs.WrittenLaws.{padding_small}
+use Rattle.pair_stream.proofs.StreamLaws.{padding_is, piece_placed}
 use borrow.Author.Rules.{rules}
 use Rattle.pair_stream.proofs.put_piece.Statement.{statement}
 use Rattle.pair_stream.proofs.put_piece.Tie as tie

@@ -5,10 +5,10 @@ use native.Mathlib.Omega.{arith}
 use borrow.Author.Rules.{rules}
 use lib.ListN.{length, drop, drop_of_length-le}
 use Rattle.wire.specs.Buffer.{put_at}
-use Rattle.wire.specs.BufferLaws.{put_none}
+use Rattle.wire.proofs.BufferLaws.{put_none}
 use Rattle.record_writer.specs.Written.{stream_bytes}
-use Rattle.record_writer.specs.StreamLaws.{stream_fits_lem, stream_length_lem, stream_none, LoopTurn, stream_placed_lem}
-use Rattle.pair_stream.specs.StreamLaws.{three_length, piece_room, piece_turn}
+use Rattle.record_writer.proofs.StreamLaws.{stream_fits_lem, stream_length_lem, stream_none, LoopTurn, stream_placed_lem}
+use Rattle.pair_stream.proofs.StreamLaws.{three_length, piece_room, piece_turn}
 use Rattle.pair_stream.proofs.put_records.Statement.{statement}
 use Rattle.pair_stream.proofs.put_records.Tie as tie
 

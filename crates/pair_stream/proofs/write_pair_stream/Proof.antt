@@ -8,7 +8,7 @@ use borrow.Author.Tests.{lt-ltb, le-ltb, not-true, not-false}
 use Rattle.record_writer.specs.Written.{stream_fits, stream_placed}
 use Rattle.pairs.specs.Pair.{pair_bytes}
 use Rattle.pair_stream.specs.Stream.{pair_streamed}
-use Rattle.pair_stream.specs.StreamLaws.{Head, head, pair_placed}
+use Rattle.pair_stream.proofs.StreamLaws.{Head, head, pair_placed}
 use borrow.Author.Rules.{rules}
 use Rattle.pair_stream.proofs.write_pair_stream.Statement.{statement}
 use Rattle.pair_stream.proofs.write_pair_stream.Tie as tie

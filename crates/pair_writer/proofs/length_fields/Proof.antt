@@ -1,7 +1,7 @@
 use mathlib.Core.List.{◌++◌}
 use Rattle.wire.specs.Buffer.{zeros}
 use Rattle.pairs.specs.Length.{length_bytes}
-use Rattle.pair_writer.specs.WriteLaws.{front_put}
+use Rattle.pair_writer.proofs.WriteLaws.{front_put}
 use borrow.Author.Rules.{rules}
 use Rattle.pair_writer.proofs.length_fields.Statement.{statement}
 use Rattle.pair_writer.proofs.length_fields.Tie as tie

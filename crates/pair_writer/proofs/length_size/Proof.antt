@@ -1,6 +1,6 @@
 use mathlib.Core.Path.{sym, ap}
 use lib.ListN.{length}
-use Rattle.pair_writer.specs.WriteLaws.{length_short, length_long}
+use Rattle.pair_writer.proofs.WriteLaws.{length_short, length_long}
 use Rattle.pair_writer.proofs.length_size.Statement.{statement}
 use Rattle.pair_writer.proofs.length_size.Tie as tie
 

@@ -2,7 +2,7 @@ use mathlib.Core.Path.{sym, ap, ◌∙◌}
 use Prim.Native.Nat.{ℕ, ◌+◌}
 use mathlib.Core.List.{List}
 use lib.ListN.{length}
-use Rattle.pair_writer.specs.WriteLaws.{length_short, length_long, length_copied}
+use Rattle.pair_writer.proofs.WriteLaws.{length_short, length_long, length_copied}
 use borrow.Author.Rules.{rules}
 use Rattle.pair_writer.proofs.put_length.Statement.{statement}
 use Rattle.pair_writer.proofs.put_length.Tie as tie

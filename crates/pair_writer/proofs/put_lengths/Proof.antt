@@ -1,5 +1,5 @@
 use native.Mathlib.Omega.{arith}
-use Rattle.pair_writer.specs.WriteLaws.{length_takes, lengths_put}
+use Rattle.pair_writer.proofs.WriteLaws.{length_takes, lengths_put}
 use borrow.Author.Rules.{rules}
 use Rattle.pair_writer.proofs.put_lengths.Statement.{statement}
 use Rattle.pair_writer.proofs.put_lengths.Tie as tie

@@ -5,7 +5,7 @@ use native.Mathlib.Omega.{arith}
 use lib.ListN.{length}
 use borrow.Author.Tests.{lt-ltb, le-ltb}
 use Rattle.pair_writer.specs.Write.{pair_written}
-use Rattle.pair_writer.specs.WriteLaws.{length_takes, pair_size, pair_put, pair_written_lem}
+use Rattle.pair_writer.proofs.WriteLaws.{length_takes, pair_size, pair_put, pair_written_lem}
 use borrow.Author.Rules.{rules}
 use Rattle.pair_writer.proofs.write_pair.Statement.{statement}
 use Rattle.pair_writer.proofs.write_pair.Tie as tie

@@ -5,8 +5,8 @@ use lib.ListN.{length, take, drop, length-drop}
 use lib.Seq.{take_all}
 use borrow.Author.Rules.{rules}
 use Rattle.plain.specs.Promise.{Reading, Reads, ROOM}
-use Rattle.plain.specs.TableLaws.{sound_more}
-use Rattle.plain.specs.RecordLaws.{reading_start, reading_end, reading_answer, reading_next}
+use Rattle.plain.proofs.TableLaws.{sound_more}
+use Rattle.plain.proofs.RecordLaws.{reading_start, reading_end, reading_answer, reading_next}
 use Rattle.plain.proofs.event_in.Statement.{statement}
 use Rattle.plain.proofs.event_in.Tie as tie
 

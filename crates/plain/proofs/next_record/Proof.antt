@@ -1,4 +1,4 @@
-use Rattle.plain.specs.RecordLaws.{next_there, next_cut}
+use Rattle.plain.proofs.RecordLaws.{next_there, next_cut}
 use Rattle.plain.proofs.next_record.Statement.{statement}
 use Rattle.plain.proofs.next_record.Tie as tie
 

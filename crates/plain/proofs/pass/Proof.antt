@@ -1,4 +1,4 @@
-use Rattle.plain.specs.RecordLaws.{pass_nothing, pass_event, pass_bytes, asked_event, asked_byte, asked_close}
+use Rattle.plain.proofs.RecordLaws.{pass_nothing, pass_event, pass_bytes, asked_event, asked_byte, asked_close}
 use borrow.Author.Rules.{rules}
 use Rattle.plain.proofs.pass.Statement.{statement}
 use Rattle.plain.proofs.pass.Tie as tie

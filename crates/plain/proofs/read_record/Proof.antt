@@ -3,7 +3,7 @@ use mathlib.Core.Path.{◌≡◌}
 use native.Mathlib.Omega.{arith}
 use lib.ListN.{length, take, drop, length-take}
 use Rattle.plain.specs.Plain.{two}
-use Rattle.plain.specs.RecordLaws.{content_part, reads_short, reads_record}
+use Rattle.plain.proofs.RecordLaws.{content_part, reads_short, reads_record}
 use borrow.Author.Rules.{rules}
 use Rattle.plain.proofs.read_record.Statement.{statement}
 use Rattle.plain.proofs.read_record.Tie as tie

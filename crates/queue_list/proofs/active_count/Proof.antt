@@ -1,5 +1,5 @@
 use mathlib.Core.Path.{◌∙◌, sym}
-use Rattle.queue_list.specs.ListLaws.{count_lost, count_alone}
+use Rattle.queue_list.proofs.ListLaws.{count_lost, count_alone}
 use borrow.Author.Rules.{rules}
 use Rattle.queue_list.proofs.active_count.Statement.{statement}
 use Rattle.queue_list.proofs.active_count.Tie as tie

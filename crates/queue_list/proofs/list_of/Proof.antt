@@ -1,7 +1,7 @@
 use mathlib.Core.Path.{◌∙◌, sym, ap, refl, subst}
 use Rattle.connection.specs.RequestCalls.{Walk}
 use Rattle.queue_list.specs.Places.{queue_list_place}
-use Rattle.queue_list.specs.ListLaws.{walk_barred, walk_free}
+use Rattle.queue_list.proofs.ListLaws.{walk_barred, walk_free}
 use borrow.Author.Rules.{rules}
 use Rattle.queue_list.proofs.list_of.Statement.{statement}
 use Rattle.queue_list.proofs.list_of.Tie as tie

@@ -1,6 +1,6 @@
 use mathlib.Core.Path.{◌∙◌, sym, ap}
 use Rattle.connection.specs.RequestCalls.{Walk}
-use Rattle.queue_list.specs.ListLaws.{walk_barred, walk_free}
+use Rattle.queue_list.proofs.ListLaws.{walk_barred, walk_free}
 use borrow.Author.Rules.{rules}
 use Rattle.queue_list.proofs.list_refusal.Statement.{statement}
 use Rattle.queue_list.proofs.list_refusal.Tie as tie

@@ -1,5 +1,5 @@
 use mathlib.Core.Path.{◌∙◌, sym}
-use Rattle.queue_list.specs.ListLaws.{pair_barred, pair_free}
+use Rattle.queue_list.proofs.ListLaws.{pair_barred, pair_free}
 use borrow.Author.Rules.{rules}
 use Rattle.queue_list.proofs.pair_at.Statement.{statement}
 use Rattle.queue_list.proofs.pair_at.Tie as tie

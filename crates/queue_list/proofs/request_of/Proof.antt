@@ -1,5 +1,5 @@
 use mathlib.Core.Path.{◌∙◌, sym}
-use Rattle.queue_list.specs.ListLaws.{request_lost, request_alone}
+use Rattle.queue_list.proofs.ListLaws.{request_lost, request_alone}
 use borrow.Author.Rules.{rules}
 use Rattle.queue_list.proofs.request_of.Statement.{statement}
 use Rattle.queue_list.proofs.request_of.Tie as tie

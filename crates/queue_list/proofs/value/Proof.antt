@@ -1,7 +1,7 @@
 use native.Mathlib.Omega.{arith}
 use Rattle.queue_list.specs.Places.{queue_value_place}
 use mathlib.Core.Path.{◌∙◌, sym, refl}
-use Rattle.queue_list.specs.ListLaws.{value_barred, value_free}
+use Rattle.queue_list.proofs.ListLaws.{value_barred, value_free}
 use borrow.Author.Rules.{rules}
 use Rattle.queue_list.proofs.value.Statement.{statement}
 use Rattle.queue_list.proofs.value.Tie as tie

@@ -1,5 +1,5 @@
 use mathlib.Core.Path.{◌∙◌, sym}
-use Rattle.queue_list.specs.ListLaws.{source_barred, source_free}
+use Rattle.queue_list.proofs.ListLaws.{source_barred, source_free}
 use borrow.Author.Rules.{rules}
 use Rattle.queue_list.proofs.value_source.Statement.{statement}
 use Rattle.queue_list.proofs.value_source.Tie as tie

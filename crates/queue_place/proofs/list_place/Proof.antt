@@ -1,8 +1,8 @@
-use Rattle.queue_place.specs.LiesLaws.{list_barred, list_refused, list_lies_lem}
+use Rattle.queue_place.proofs.LiesLaws.{list_barred, list_refused, list_lies_lem}
 use native.Mathlib.Omega.{arith}
 use mathlib.Core.Path.{sym, ap, subst, ◌∙◌}
 use Rattle.call_list.specs.Listing.{listed_by}
-use Rattle.call_list.specs.Laws.{Within, listing_within}
+use Rattle.call_list.proofs.Laws.{Within, listing_within}
 use borrow.Author.Rules.{rules}
 use Rattle.queue_place.proofs.list_place.Statement.{statement}
 use Rattle.queue_place.proofs.list_place.Tie as tie

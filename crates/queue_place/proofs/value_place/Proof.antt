@@ -1,11 +1,11 @@
-use Rattle.queue_place.specs.LiesLaws.{value_barred, value_refused, value_lies_lem, value_absent}
+use Rattle.queue_place.proofs.LiesLaws.{value_barred, value_refused, value_lies_lem, value_absent}
 use Prim.Native.Nat.{◌-◌}
 use native.Mathlib.Omega.{arith}
 use mathlib.Core.Path.{sym, ap, subst, ◌∙◌}
 use lib.ListN.{drop, length-take}
-use Rattle.pair_list.specs.ListLaws.{first_within}
+use Rattle.pair_list.proofs.ListLaws.{first_within}
 use Rattle.call_list.specs.Listing.{listed_by}
-use Rattle.call_list.specs.Laws.{Within, listing_within}
+use Rattle.call_list.proofs.Laws.{Within, listing_within}
 use borrow.Author.Rules.{rules}
 use Rattle.queue_place.proofs.value_place.Statement.{statement}
 use Rattle.queue_place.proofs.value_place.Tie as tie

@@ -1,4 +1,4 @@
-use Rattle.queue_pump.specs.CheckLaws.{rows_of, pump_refused_lem, pump_passed, passed, able_passed}
+use Rattle.queue_pump.proofs.CheckLaws.{rows_of, pump_refused_lem, pump_passed, passed, able_passed}
 use Rattle.queue_pump.specs.Serving.{pump_rows}
 use Rattle.queue.specs.Calls.{lent, pump_refusal}
 use Rattle.request_output.specs.Answer.{check_number}

@@ -1,4 +1,4 @@
-use Rattle.queue_pump.specs.ServingLaws.{RunFits, run_short, data_served}
+use Rattle.queue_pump.proofs.ServingLaws.{RunFits, run_short, data_served}
 use native.Mathlib.Omega.{arith}
 use borrow.Author.Rules.{rules}
 use Rattle.queue_pump.proofs.serve_data.Statement.{statement}

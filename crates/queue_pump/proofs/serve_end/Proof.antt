@@ -1,4 +1,4 @@
-use Rattle.queue_pump.specs.ServingLaws.{end_served}
+use Rattle.queue_pump.proofs.ServingLaws.{end_served}
 use Rattle.queue.specs.Calls.{beside}
 use borrow.Author.Rules.{rules}
 use Rattle.queue_pump.proofs.serve_end.Statement.{statement}

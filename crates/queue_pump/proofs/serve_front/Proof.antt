@@ -1,6 +1,6 @@
 use Rattle.queue.specs.Calls.{QueueMemory}
 use Rattle.connection.specs.Run.{Memory}
-use Rattle.queue_pump.specs.ServingLaws.{front_served, longest_served, none_served, nothing_served}
+use Rattle.queue_pump.proofs.ServingLaws.{front_served, longest_served, none_served, nothing_served}
 use Rattle.queue_pump.specs.Serving.{serve_end, serve_longest}
 use Rattle.queue_slot.specs.Wait.{ServesNothing}
 use Rattle.connection.specs.declared.answer.Output.{Output}

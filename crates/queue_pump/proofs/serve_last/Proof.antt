@@ -1,6 +1,6 @@
-use Rattle.queue_pump.specs.ServingLaws.{last_kept, slot_released, slot_closed}
+use Rattle.queue_pump.proofs.ServingLaws.{last_kept, slot_released, slot_closed}
 use Rattle.queue.specs.Calls.{lent}
-use Rattle.connection.specs.Laws.PartLaws.{part_lent, part_back}
+use Rattle.connection.proofs.Laws.PartLaws.{part_lent, part_back}
 use Rattle.connection.specs.Slots.{put_area}
 use Rattle.wire.specs.Buffer.{zeros}
 use lib.ListN.{length}

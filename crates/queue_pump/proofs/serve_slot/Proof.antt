@@ -1,9 +1,10 @@
-use Rattle.queue_pump.specs.ServingLaws.{last_alone, slot_wrote, filled}
+use Rattle.queue_pump.proofs.ServingLaws.{last_alone, slot_wrote, filled}
 use Rattle.queue_slot.specs.Wait.{ServesLast, served}
 use Rattle.queue.specs.Calls.{lent, wait_at}
 use Rattle.queue.specs.Numbers.{NEXT}
 use Rattle.connection.specs.Sizes.{SLOTS}
-use Rattle.machine_queue.specs.Pump.{slot_after, after_below}
+use Rattle.machine_queue.specs.Pump.{slot_after}
+use Rattle.machine_queue.proofs.Pumping.{after_below}
 use lib.ListN.{set}
 use native.Mathlib.Omega.{arith}
 use Prim.Native.Nat.{ℕ}

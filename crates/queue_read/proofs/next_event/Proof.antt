@@ -1,5 +1,5 @@
 use mathlib.Core.Path.{◌∙◌}
-use Rattle.queue_read.specs.ReadLaws.{beside_next}
+use Rattle.queue_read.proofs.ReadLaws.{beside_next}
 use borrow.Author.Rules.{rules}
 use Rattle.queue_read.proofs.next_event.Statement.{statement}
 use Rattle.queue_read.proofs.next_event.Tie as tie

@@ -1,5 +1,5 @@
 use mathlib.Core.Path.{◌∙◌}
-use Rattle.queue_read.specs.ReadLaws.{beside_step}
+use Rattle.queue_read.proofs.ReadLaws.{beside_step}
 use borrow.Author.Rules.{rules}
 use Rattle.queue_read.proofs.step.Statement.{statement}
 use Rattle.queue_read.proofs.step.Tie as tie

@@ -1,5 +1,5 @@
 use mathlib.Core.Path.{◌∙◌}
-use Rattle.queue_straight.specs.StraightLaws.{end_refused, end_passed}
+use Rattle.queue_straight.proofs.StraightLaws.{end_refused, end_passed}
 use borrow.Author.Rules.{rules}
 use Rattle.queue_straight.proofs.end_output.Statement.{statement}
 use Rattle.queue_straight.proofs.end_output.Tie as tie

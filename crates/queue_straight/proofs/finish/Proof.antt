@@ -6,8 +6,8 @@ use Rattle.connection.specs.declared.request.Request.{Request}
 use Rattle.connection.specs.Slots.{request_at}
 use Rattle.call_admit.specs.Admission.{admitted_by}
 use Rattle.call_finish.specs.Answer.{owed_length}
-use Rattle.wait_numbers.specs.SlotLaws.{kept_as_was}
-use Rattle.queue_straight.specs.FinishLaws.{finish_refused, finish_leaving, finish_short, finish_waiting, finish_passed}
+use Rattle.wait_numbers.proofs.SlotLaws.{kept_as_was}
+use Rattle.queue_straight.proofs.FinishLaws.{finish_refused, finish_leaving, finish_short, finish_waiting, finish_passed}
 use borrow.Author.Rules.{rules}
 use Rattle.queue_straight.proofs.finish.Statement.{statement}
 use Rattle.queue_straight.proofs.finish.Tie as tie

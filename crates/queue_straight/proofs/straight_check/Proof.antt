@@ -7,7 +7,7 @@ use Rattle.wire.specs.Test.{if◌then◌else◌}
 use Rattle.connection.specs.declared.request.Request.{Request}
 use Rattle.connection.specs.RequestCalls.{output_refusal}
 use Rattle.call_admit.specs.Admission.{admitted_by}
-use Rattle.queue_straight.specs.StraightLaws.{check_refused, check_leaving, check_own, check_last}
+use Rattle.queue_straight.proofs.StraightLaws.{check_refused, check_leaving, check_own, check_last}
 use borrow.Author.Rules.{rules}
 use Rattle.queue_straight.proofs.straight_check.Statement.{statement}
 use Rattle.queue_straight.proofs.straight_check.Tie as tie

@@ -1,5 +1,5 @@
 use mathlib.Core.Path.{◌∙◌}
-use Rattle.queue_straight.specs.StraightLaws.{say_refused, say_passed}
+use Rattle.queue_straight.proofs.StraightLaws.{say_refused, say_passed}
 use borrow.Author.Rules.{rules}
 use Rattle.queue_straight.proofs.write_output.Statement.{statement}
 use Rattle.queue_straight.proofs.write_output.Tie as tie

@@ -1,5 +1,5 @@
 use lib.ListN.{length}
-use Rattle.queue_write.specs.Laws.{no_room_lem, room_left}
+use Rattle.queue_write.proofs.Laws.{no_room_lem, room_left}
 use Rattle.queue_write.proofs.has_room.Statement.{statement}
 use Rattle.queue_write.proofs.has_room.Tie as tie
 

@@ -6,8 +6,8 @@ use Rattle.request_output.specs.Answer.{check_number}
 use Rattle.queue.specs.declared.answer.Queueing.{Queueing}
 use Rattle.queue.specs.Calls.{lent}
 use Rattle.queue.specs.Answer.{queued_by}
-use Rattle.queue_admit.specs.AdmissionLaws.{Through, through_at}
-use Rattle.queue_write.specs.Laws.{end_barred, end_ended, end_waits_lem}
+use Rattle.queue_admit.proofs.AdmissionLaws.{Through, through_at}
+use Rattle.queue_write.proofs.Laws.{end_barred, end_ended, end_waits_lem}
 use borrow.Author.Rules.{rules}
 use Rattle.queue_write.proofs.queue_end.Statement.{statement}
 use Rattle.queue_write.proofs.queue_end.Tie as tie

@@ -5,8 +5,8 @@ use Rattle.call_admit.specs.Admission.{admitted_by}
 use Rattle.queue.specs.declared.answer.Queueing.{Queueing}
 use Rattle.queue.specs.Calls.{lent}
 use Rattle.queue.specs.Answer.{queued_by}
-use Rattle.queue_admit.specs.AdmissionLaws.{Through, through_at}
-use Rattle.queue_write.specs.Laws.{finish_barred, finish_leaving, finish_waits}
+use Rattle.queue_admit.proofs.AdmissionLaws.{Through, through_at}
+use Rattle.queue_write.proofs.Laws.{finish_barred, finish_leaving, finish_waits}
 use borrow.Author.Rules.{rules}
 use Rattle.queue_write.proofs.queue_finish.Statement.{statement}
 use Rattle.queue_write.proofs.queue_finish.Tie as tie

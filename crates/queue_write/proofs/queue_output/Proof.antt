@@ -11,8 +11,8 @@ use Rattle.queue.specs.declared.answer.Queueing.{Queueing}
 use Rattle.queue.specs.Numbers.{count_at, last_at}
 use Rattle.queue.specs.Calls.{lent}
 use Rattle.queue.specs.Answer.{queued_by}
-use Rattle.queue_admit.specs.AdmissionLaws.{Through, through_at}
-use Rattle.queue_write.specs.Laws.{say_unsized, say_barred, say_ended, say_no_room, say_waits, room_for}
+use Rattle.queue_admit.proofs.AdmissionLaws.{Through, through_at}
+use Rattle.queue_write.proofs.Laws.{say_unsized, say_barred, say_ended, say_no_room, say_waits, room_for}
 use borrow.Author.Rules.{rules}
 use Rattle.queue_write.proofs.queue_output.Statement.{statement}
 use Rattle.queue_write.proofs.queue_output.Tie as tie

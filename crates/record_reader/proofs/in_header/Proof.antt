@@ -1,7 +1,7 @@
 use mathlib.Core.Path.{◌∙◌}
 use borrow.Author.Tests.{le-leb, lt-leb, lt-ltb, le-ltb}
 use Rattle.record_reader.specs.Position.{in_header}
-use Rattle.record_reader.specs.PositionLaws.{held_copied}
+use Rattle.record_reader.proofs.PositionLaws.{held_copied}
 use borrow.Author.Rules.{rules}
 use Rattle.record_reader.proofs.in_header.Statement.{statement}
 use Rattle.record_reader.proofs.in_header.Tie as tie

@@ -1,7 +1,7 @@
 use Prim.Native.Nat.{◌+◌}
 use native.Mathlib.Omega.{arith}
 use borrow.Author.Tests.{le-leb, lt-leb}
-use Rattle.wire.specs.BufferLaws.{room_left}
+use Rattle.wire.proofs.BufferLaws.{room_left}
 use Rattle.record_writer.specs.Written.{record_fits, record_length}
 use borrow.Author.Rules.{rules}
 use Rattle.record_writer.proofs.record_fits.Statement.{statement}

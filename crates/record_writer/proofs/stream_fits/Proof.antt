@@ -3,7 +3,7 @@ use Prim.Native.Nat.{◌*◌, ◌/◌, ◌-◌, ◌<◌, ◌≤◌}
 use native.Mathlib.Omega.{arith}
 use native.Mathlib.Nat.{mod-lt}
 use Rattle.record_writer.specs.Written.{stream_fits}
-use Rattle.record_writer.specs.StreamLaws.{record_long, fits_behind, fits_count, count_room, fits_whole, fits_last}
+use Rattle.record_writer.proofs.StreamLaws.{record_long, fits_behind, fits_count, count_room, fits_whole, fits_last}
 use borrow.Author.Rules.{rules}
 use Rattle.record_writer.proofs.stream_fits.Statement.{statement}
 use Rattle.record_writer.proofs.stream_fits.Tie as tie

@@ -2,7 +2,7 @@ use borrow.Author.Tests.{not-true, not-false}
 use mathlib.Core.Path.{sym, ◌∙◌}
 use native.Mathlib.Omega.{arith}
 use lib.ListN.{length}
-use Rattle.record_writer.specs.WrittenLaws.{Fits, record_fits_lem, padding_small, record_placed_lem, record_unplaced}
+use Rattle.record_writer.proofs.WrittenLaws.{Fits, record_fits_lem, padding_small, record_placed_lem, record_unplaced}
 use borrow.Author.Rules.{rules}
 use Rattle.record_writer.proofs.write_record.Statement.{statement}
 use Rattle.record_writer.proofs.write_record.Tie as tie

@@ -6,9 +6,9 @@ use borrow.Author.Rules.{rules}
 use mathlib.Core.List.{[]}
 use lib.ListN.{length, drop, drop_of_length-le}
 use Rattle.wire.specs.Buffer.{put_at}
-use Rattle.wire.specs.BufferLaws.{put_none}
+use Rattle.wire.proofs.BufferLaws.{put_none}
 use Rattle.record_writer.specs.Written.{stream_bytes}
-use Rattle.record_writer.specs.StreamLaws.{stream_fits_lem, stream_length_lem, stream_none, LoopTurn, stream_turn, stream_placed_lem, stream_unplaced}
+use Rattle.record_writer.proofs.StreamLaws.{stream_fits_lem, stream_length_lem, stream_none, LoopTurn, stream_turn, stream_placed_lem, stream_unplaced}
 use Rattle.record_writer.proofs.write_stream.Statement.{statement}
 use Rattle.record_writer.proofs.write_stream.Tie as tie
 

@@ -1,7 +1,7 @@
 use mathlib.Core.Path.{◌≡◌, ◌∙◌, sym, ap}
 use Rattle.request_fault.specs.Answer.{held}
 use Rattle.request_input.specs.Answer.{end_cause}
-use Rattle.request_input.specs.Laws.{ends_ready, ends_in_fault}
+use Rattle.request_input.proofs.Laws.{ends_ready, ends_in_fault}
 use borrow.Author.Rules.{rules}
 use Rattle.request_input.proofs.end_params.Statement.{statement}
 use Rattle.request_input.proofs.end_params.Tie as tie

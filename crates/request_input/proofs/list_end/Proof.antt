@@ -2,7 +2,7 @@ use mathlib.Core.Path.{◌≡◌, sym, ◌∙◌}
 use native.Mathlib.Omega.{arith}
 use borrow.Author.Rules.{rules}
 use Rattle.pair_list.specs.List.{ending_of}
-use Rattle.pair_list.specs.ListLaws.{ended_formed, broken_formed, ending_place}
+use Rattle.pair_list.proofs.ListLaws.{ended_formed, broken_formed, ending_place}
 use Rattle.pair_list.specs.declared.Ending.{Ending}
 use Rattle.connection.specs.Request.{params_fault}
 use Rattle.request_input.proofs.list_end.Statement.{statement}

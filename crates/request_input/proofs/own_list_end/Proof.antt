@@ -1,6 +1,6 @@
 use mathlib.Core.Path.{◌∙◌, ap}
 use Rattle.connection.specs.Request.{params_fault}
-use Rattle.request_input.specs.Laws.{list_part}
+use Rattle.request_input.proofs.Laws.{list_part}
 use borrow.Author.Rules.{rules}
 use Rattle.request_input.proofs.own_list_end.Statement.{statement}
 use Rattle.request_input.proofs.own_list_end.Tie as tie

@@ -3,7 +3,7 @@ use mathlib.Core.List.{List}
 use Prim.Native.Nat.{ℕ}
 use Rattle.stated_length.specs.Stated.{stated_in}
 use Rattle.connection.specs.Request.{measured}
-use Rattle.request_input.specs.Laws.{list_part}
+use Rattle.request_input.proofs.Laws.{list_part}
 use borrow.Author.Rules.{rules}
 use Rattle.request_input.proofs.own_measure.Statement.{statement}
 use Rattle.request_input.proofs.own_measure.Tie as tie

@@ -2,7 +2,7 @@ use mathlib.Core.Path.{◌≡◌, sym, ap, ◌∙◌}
 use Rattle.connection.specs.Codes.{output_type}
 use Rattle.connection.specs.RequestCalls.{output_refusal, end_bytes, ended_on, end_in}
 use Rattle.request_output.specs.Answer.{check_number}
-use Rattle.request_output.specs.Laws.{end_room, writes_refused, end_passed}
+use Rattle.request_output.proofs.Laws.{end_room, writes_refused, end_passed}
 use borrow.Author.Rules.{rules}
 use Rattle.request_output.proofs.end_in.Statement.{statement}
 use Rattle.request_output.proofs.end_in.Tie as tie

@@ -2,7 +2,7 @@ use mathlib.Core.Path.{◌≡◌, refl, sym, ap, ◌∙◌}
 use Rattle.connection.specs.Codes.{output_type}
 use Rattle.connection.specs.RequestCalls.{output_refusal, say_bytes, said_on, say_in}
 use Rattle.request_output.specs.Answer.{check_number}
-use Rattle.request_output.specs.Laws.{stream_room, writes_refused, say_passed}
+use Rattle.request_output.proofs.Laws.{stream_room, writes_refused, say_passed}
 use borrow.Author.Rules.{rules}
 use Rattle.request_output.proofs.say_in.Statement.{statement}
 use Rattle.request_output.proofs.say_in.Tie as tie

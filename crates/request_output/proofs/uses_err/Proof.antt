@@ -1,6 +1,6 @@
 use mathlib.Core.Path.{sym, ◌∙◌, ap}
 use Rattle.connection.specs.RequestCalls.{uses_err}
-use Rattle.request_output.specs.Laws.{uses_none, uses_some}
+use Rattle.request_output.proofs.Laws.{uses_none, uses_some}
 use borrow.Author.Rules.{rules}
 use Rattle.request_output.proofs.uses_err.Statement.{statement}
 use Rattle.request_output.proofs.uses_err.Tie as tie

@@ -5,7 +5,7 @@ use Rattle.connection.specs.Slots.{find, is_found}
 use Rattle.connection.specs.Refusal.{◌when◌}
 use Rattle.server.specs.Calls.{call_refusal, slot_of}
 use Rattle.server_admit.specs.Admission.{check_number, call_admission}
-use Rattle.server_admit.specs.AdmissionLaws.{Passed, passed, refused_first, by_refusal}
+use Rattle.server_admit.proofs.AdmissionLaws.{Passed, passed, refused_first, by_refusal}
 use borrow.Author.Rules.{rules}
 use Rattle.server_admit.proofs.admit.Statement.{statement}
 use Rattle.server_admit.proofs.admit.Tie as tie

@@ -3,7 +3,7 @@ use mathlib.Core.Path.{◌≡◌, sym, ◌∙◌}
 use mathlib.Core.Bool.{true, false}
 use Rattle.server.specs.Shape.{in_shape}
 use Rattle.server.specs.Step.{step_refusal}
-use Rattle.server_check.specs.Laws.{shape_of_lem}
+use Rattle.server_check.proofs.Laws.{shape_of_lem}
 use borrow.Author.Rules.{rules}
 use Rattle.server_admit.proofs.check_state.Statement.{statement}
 use Rattle.server_admit.proofs.check_state.Tie as tie

@@ -1,7 +1,7 @@
 use mathlib.Core.Path.{sym, ap, ◌∙◌}
 use Rattle.server_admit.specs.Admission.{check_number}
-use Rattle.server_admit.specs.AdmissionLaws.{passed}
-use Rattle.server_ask.specs.Laws.{rows_refused, rows_own}
+use Rattle.server_admit.proofs.AdmissionLaws.{passed}
+use Rattle.server_ask.proofs.Laws.{rows_refused, rows_own}
 use borrow.Author.Rules.{rules}
 use Rattle.server_ask.proofs.ask_check.Statement.{statement}
 use Rattle.server_ask.proofs.ask_check.Tie as tie

@@ -5,7 +5,7 @@ use Rattle.record_writer.specs.Written.{record_bytes}
 use Rattle.server.specs.Calls.{ask_refusal, ask_values}
 use Rattle.server.specs.Answer.{call_refused}
 use Rattle.server_admit.specs.Admission.{check_number}
-use Rattle.server_ask.specs.Laws.{ask_wrote}
+use Rattle.server_ask.proofs.Laws.{ask_wrote}
 use borrow.Author.Rules.{rules}
 use Rattle.server_ask.proofs.ask_values.Statement.{statement}
 use Rattle.server_ask.proofs.ask_values.Tie as tie

@@ -6,9 +6,9 @@ use lib.ListN.{length}
 use lib.Dec.{ltb}
 use Rattle.record.specs.Names.{GET_VALUES}
 use Rattle.record_writer.specs.Written.{record_bytes}
-use Rattle.server_admit.specs.Room.{record_room}
+use Rattle.server_admit.proofs.Room.{record_room}
 use Rattle.server_ask.specs.Rows.{own_rows}
-use Rattle.server_ask.specs.Laws.{not_long}
+use Rattle.server_ask.proofs.Laws.{not_long}
 use borrow.Author.Rules.{rules}
 use Rattle.server_ask.proofs.own_check.Statement.{statement}
 use Rattle.server_ask.proofs.own_check.Tie as tie

@@ -2,7 +2,7 @@ use borrow.Author.Tests.{not-true, not-false}
 use Rattle.server.specs.Shape.{in_shape}
 use mathlib.Core.Path.{◌∙◌}
 use Rattle.conn_check.specs.Fits.{table_of}
-use Rattle.server_check.specs.Laws.{target_of_lem}
+use Rattle.server_check.proofs.Laws.{target_of_lem}
 use borrow.Author.Rules.{rules}
 use Rattle.server_check.proofs.in_shape.Statement.{statement}
 use Rattle.server_check.proofs.in_shape.Tie as tie

@@ -1,4 +1,4 @@
-use Rattle.server_check.specs.Laws.{eight_left, eight_over}
+use Rattle.server_check.proofs.Laws.{eight_left, eight_over}
 use Rattle.server_check.proofs.make_eight.Statement.{statement}
 use Rattle.server_check.proofs.make_eight.Tie as tie
 

@@ -4,14 +4,14 @@ use mathlib.Core.List.{List}
 use Prim.Native.Nat.{ℕ}
 use Rattle.connection.specs.declared.state.Table.{Table}
 use Rattle.connection.specs.Sizes.{SLOTS}
-use Rattle.connection.specs.Laws.SlotsLaws.{HoldsFrom}
+use Rattle.connection.proofs.Laws.SlotsLaws.{HoldsFrom}
 use Rattle.server.specs.declared.state.Frame.{Frame}
 use Rattle.server.specs.Step.{judged}
 use Rattle.server.specs.Decision.{inner_in}
 use Rattle.server_header.specs.declared.HeaderCheck.{HeaderCheck}
 use Rattle.server_header.specs.declared.Owner.{Owner}
 use Rattle.server_header.specs.Rows.{Seen, checked_header, by_owner, by_check, judged_for}
-use Rattle.server_header.specs.RowLaws.{judged_seen, owner_slot, slot_id}
+use Rattle.server_header.proofs.RowLaws.{judged_seen, owner_slot, slot_id}
 use borrow.Author.Rules.{rules}
 use Rattle.server_header.proofs.judge.Statement.{statement}
 use Rattle.server_header.proofs.judge.Tie as tie

@@ -10,7 +10,7 @@ use Rattle.server.specs.Step.{on_output}
 use Rattle.server.specs.Decision.{inner_in}
 use Rattle.server_header.specs.declared.OutputRow.{OutputRow}
 use Rattle.server_header.specs.Rows.{output_row, by_row}
-use Rattle.server_header.specs.RowLaws.{output_rows_lem}
+use Rattle.server_header.proofs.RowLaws.{output_rows_lem}
 use borrow.Author.Rules.{rules}
 use Rattle.server_header.proofs.on_output.Statement.{statement}
 use Rattle.server_header.proofs.on_output.Tie as tie

@@ -1,7 +1,7 @@
 use mathlib.Core.Path.{sym, ap, ◌∙◌}
 use Rattle.server_admit.specs.Admission.{check_number}
-use Rattle.server_admit.specs.AdmissionLaws.{passed}
-use Rattle.server_open.specs.Laws.{rows_refused, rows_own}
+use Rattle.server_admit.proofs.AdmissionLaws.{passed}
+use Rattle.server_open.proofs.Laws.{rows_refused, rows_own}
 use borrow.Author.Rules.{rules}
 use Rattle.server_open.proofs.open_check.Statement.{statement}
 use Rattle.server_open.proofs.open_check.Tie as tie

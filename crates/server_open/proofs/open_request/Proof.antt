@@ -5,7 +5,7 @@ use Rattle.connection.specs.Slots.{free_slot_of}
 use Rattle.server.specs.Calls.{begin_bytes, role_of, with_taken, open_refusal, open_request}
 use Rattle.server.specs.Answer.{call_refused}
 use Rattle.server_admit.specs.Admission.{check_number}
-use Rattle.server_open.specs.Laws.{begin_fits, open_wrote}
+use Rattle.server_open.proofs.Laws.{begin_fits, open_wrote}
 use borrow.Author.Rules.{rules}
 use Rattle.server_open.proofs.open_request.Statement.{statement}
 use Rattle.server_open.proofs.open_request.Tie as tie

@@ -4,10 +4,10 @@ use borrow.Author.Tests.{not-true, not-false}
 use Rattle.connection.specs.Codes.{stream_type}
 use Rattle.server.specs.Codes.{stream_input}
 use Rattle.server.specs.Calls.{Content}
-use Rattle.server_admit.specs.Room.{stream_short, stream_enough, stream_filled}
+use Rattle.server_admit.proofs.Room.{stream_short, stream_enough, stream_filled}
 use Rattle.server_part.specs.declared.Said.{Said}
 use Rattle.server_part.specs.Answer.{out_of_turn, said_by}
-use Rattle.server_part.specs.Laws.{part_late, part_short, part_wrote}
+use Rattle.server_part.proofs.Laws.{part_late, part_short, part_wrote}
 use borrow.Author.Rules.{rules}
 use Rattle.server_part.proofs.content_in.Statement.{statement}
 use Rattle.server_part.proofs.content_in.Tie as tie

@@ -5,10 +5,10 @@ use lib.ListN.{length}
 use borrow.Author.Tests.{not-true, not-false}
 use Rattle.server.specs.Codes.{input_type}
 use Rattle.server.specs.Calls.{EndOf}
-use Rattle.server_admit.specs.Room.{record_short, record_enough, record_filled}
+use Rattle.server_admit.proofs.Room.{record_short, record_enough, record_filled}
 use Rattle.server_part.specs.declared.Said.{Said}
 use Rattle.server_part.specs.Answer.{said_by}
-use Rattle.server_part.specs.Laws.{part_late, part_short, part_wrote}
+use Rattle.server_part.proofs.Laws.{part_late, part_short, part_wrote}
 use borrow.Author.Rules.{rules}
 use Rattle.server_part.proofs.end_in.Statement.{statement}
 use Rattle.server_part.proofs.end_in.Tie as tie

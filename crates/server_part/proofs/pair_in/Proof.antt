@@ -2,7 +2,7 @@ use mathlib.Core.Path.{sym, ap, ◌∙◌}
 use Rattle.server.specs.Calls.{APair}
 use Rattle.server_part.specs.declared.Said.{Said}
 use Rattle.server_part.specs.Answer.{said_by}
-use Rattle.server_part.specs.Laws.{part_late, pair_said}
+use Rattle.server_part.proofs.Laws.{part_late, pair_said}
 use borrow.Author.Rules.{rules}
 use Rattle.server_part.proofs.pair_in.Statement.{statement}
 use Rattle.server_part.proofs.pair_in.Tie as tie

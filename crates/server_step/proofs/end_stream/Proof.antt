@@ -1,7 +1,7 @@
 use mathlib.Core.Path.{sym, ap, ◌∙◌}
 use Prim.Native.Nat.{ℕ}
 use Rattle.server.specs.Decision.{stream_ended}
-use Rattle.server_step.specs.Laws.{with_marks, out_ended_same, err_ended_same}
+use Rattle.server_step.proofs.Laws.{with_marks, out_ended_same, err_ended_same}
 use borrow.Author.Rules.{rules}
 use Rattle.server_step.proofs.end_stream.Statement.{statement}
 use Rattle.server_step.proofs.end_stream.Tie as tie

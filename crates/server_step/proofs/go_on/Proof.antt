@@ -7,7 +7,7 @@ use Rattle.record_reader.specs.declared.Advanced.{Advanced}
 use Rattle.server.specs.Step.{leaves, on_phase}
 use Rattle.server.specs.Decision.{inner_in}
 use Rattle.server_step.specs.Outcome.{phased, decided_leaves, phase_leaves}
-use Rattle.server_step.specs.Laws.{used_within, content_within, fed_less}
+use Rattle.server_step.proofs.Laws.{used_within, content_within, fed_less}
 use borrow.Author.Rules.{rules}
 use Rattle.server_step.proofs.go_on.Statement.{statement}
 use Rattle.server_step.proofs.go_on.Tie as tie

@@ -6,14 +6,14 @@ use Rattle.server.specs.declared.state.Frame.{Frame}
 use Rattle.server.specs.declared.decision.Change.{Change}
 use Rattle.server.specs.Shape.{in_shape}
 use Rattle.server.specs.Step.{Stepped, state_of, stepped}
-use Rattle.server_check.specs.Laws.{shape_of_lem}
+use Rattle.server_check.proofs.Laws.{shape_of_lem}
 use Rattle.connection.specs.Slots.{no_requests}
 use Rattle.server_header.specs.declared.Words.{Words}
 use Rattle.server_header.specs.Rows.{Seen}
 use Rattle.server_step.specs.declared.StepCheck.{StepCheck}
 use Rattle.server_step.specs.Outcome.{server_of, server_after, stepped_with, outcome_of}
 use Rattle.server_step.specs.Check.{checked_step, by_check, by_check_lem, Reads, check_read}
-use Rattle.server_step.specs.Laws.{shape_fed}
+use Rattle.server_step.proofs.Laws.{shape_fed}
 use borrow.Author.Rules.{rules}
 use Rattle.server_step.proofs.step_server.Statement.{statement}
 use Rattle.server_step.proofs.step_server.Tie as tie

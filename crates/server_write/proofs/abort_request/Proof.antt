@@ -3,7 +3,7 @@ use Rattle.server.specs.declared.answer.ServerWritten.{ServerWritten}
 use Rattle.server.specs.Calls.{Abort}
 use Rattle.server.specs.Answer.{written_by}
 use Rattle.server_admit.specs.Admission.{admitted_by}
-use Rattle.server_write.specs.Laws.{call_refused, call_through}
+use Rattle.server_write.proofs.Laws.{call_refused, call_through}
 use borrow.Author.Rules.{rules}
 use Rattle.server_write.proofs.abort_request.Statement.{statement}
 use Rattle.server_write.proofs.abort_request.Tie as tie

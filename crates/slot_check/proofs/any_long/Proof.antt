@@ -2,7 +2,7 @@ use Prim.Native.Nat.{◌-◌}
 use borrow.Author.Rules.{rules}
 use Rattle.connection.specs.Sizes.{SLOTS}
 use Rattle.slot_check.specs.Quick.{Gathers, is_long}
-use Rattle.slot_check.specs.QuickLaws.{any_start, any_next, any_done}
+use Rattle.slot_check.proofs.QuickLaws.{any_start, any_next, any_done}
 use Rattle.slot_check.proofs.any_long.Statement.{statement}
 use Rattle.slot_check.proofs.any_long.Tie as tie
 

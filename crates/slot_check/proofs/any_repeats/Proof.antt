@@ -1,7 +1,7 @@
 use Prim.Native.Nat.{◌-◌}
 use borrow.Author.Rules.{rules}
 use Rattle.slot_check.specs.Quick.{Gathers, repeats}
-use Rattle.slot_check.specs.QuickLaws.{any_start, any_next, any_done}
+use Rattle.slot_check.proofs.QuickLaws.{any_start, any_next, any_done}
 use Rattle.slot_check.proofs.any_repeats.Statement.{statement}
 use Rattle.slot_check.proofs.any_repeats.Tie as tie
 

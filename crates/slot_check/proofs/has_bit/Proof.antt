@@ -1,4 +1,4 @@
-use Rattle.slot_check.specs.TakenLaws.{bit_in}
+use Rattle.slot_check.proofs.TakenLaws.{bit_in}
 use borrow.Author.Rules.{rules}
 use Rattle.slot_check.proofs.has_bit.Statement.{statement}
 use Rattle.slot_check.proofs.has_bit.Tie as tie

@@ -1,4 +1,4 @@
-use Rattle.slot_check.specs.QuickRow.{none_row, one_row, quick_row}
+use Rattle.slot_check.proofs.QuickRow.{none_row, one_row, quick_row}
 use borrow.Author.Rules.{rules}
 use Rattle.slot_check.proofs.ids_fit.Statement.{statement}
 use Rattle.slot_check.proofs.ids_fit.Tie as tie

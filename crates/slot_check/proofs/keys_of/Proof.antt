@@ -3,7 +3,7 @@ use Prim.Native.Nat.{◌-◌, ◌≤◌}
 use native.Mathlib.Omega.{arith}
 use borrow.Author.Rules.{rules}
 use Rattle.slot_check.specs.Quick.{Gathers, KeysOf, is_nameless}
-use Rattle.slot_check.specs.QuickLaws.{any_start, any_next, any_done, keys_none, keys_next}
+use Rattle.slot_check.proofs.QuickLaws.{any_start, any_next, any_done, keys_none, keys_next}
 use Rattle.slot_check.proofs.keys_of.Statement.{statement}
 use Rattle.slot_check.proofs.keys_of.Tie as tie
 

@@ -1,5 +1,5 @@
 use native.Mathlib.Omega.{arith}
-use Rattle.slot_check.specs.TakenLaws.{lowest_taken}
+use Rattle.slot_check.proofs.TakenLaws.{lowest_taken}
 use Rattle.slot_check.proofs.lowest_taken.Statement.{statement}
 use Rattle.slot_check.proofs.lowest_taken.Tie as tie
 

@@ -1,4 +1,4 @@
-use Rattle.slot_check.specs.TakenLaws.{reach_below}
+use Rattle.slot_check.proofs.TakenLaws.{reach_below}
 use borrow.Author.Rules.{rules}
 use Rattle.slot_check.proofs.reach.Statement.{statement}
 use Rattle.slot_check.proofs.reach.Tie as tie

@@ -1,5 +1,5 @@
 use mathlib.Core.Path.{sym, ◌∙◌}
-use Rattle.slot_check.specs.QuickRow.{long_row}
+use Rattle.slot_check.proofs.QuickRow.{long_row}
 use borrow.Author.Rules.{rules}
 use Rattle.slot_check.proofs.slots_fit.Statement.{statement}
 use Rattle.slot_check.proofs.slots_fit.Tie as tie

@@ -3,7 +3,7 @@ use Prim.Native.Nat.{◌-◌}
 use native.Mathlib.Omega.{arith}
 use Rattle.connection.specs.Sizes.{SLOTS}
 use Rattle.connection.specs.Slots.{find_from}
-use Rattle.slot_table.specs.Laws.{find_turn, find_end}
+use Rattle.slot_table.proofs.Laws.{find_turn, find_end}
 use Rattle.slot_table.proofs.find_from.Statement.{statement}
 use Rattle.slot_table.proofs.find_from.Tie as tie
 

@@ -2,8 +2,8 @@ use mathlib.Core.Path.{◌≡◌}
 use lib.ListN.{length}
 use Rattle.connection.specs.Sizes.{SLOTS}
 use Rattle.connection.specs.Slots.{put_request}
-use Rattle.connection.specs.Laws.SlotsLaws.{Sized}
-use Rattle.slot_table.specs.Laws.{put_out, mapped-length}
+use Rattle.connection.proofs.Laws.SlotsLaws.{Sized}
+use Rattle.slot_table.proofs.Laws.{put_out, mapped-length}
 use borrow.Author.Rules.{rules}
 use Rattle.slot_table.proofs.put_request.Statement.{statement}
 use Rattle.slot_table.proofs.put_request.Tie as tie

@@ -4,8 +4,8 @@ use mir.Val.{Fits}
 use mir.Syntax.{w16}
 use Rattle.connection.specs.Sizes.{SLOTS}
 use Rattle.connection.specs.Slots.{request_at}
-use Rattle.connection.specs.Laws.SlotsLaws.{Sized}
-use Rattle.slot_table.specs.Laws.{Narrow, request_out, mapped-length}
+use Rattle.connection.proofs.Laws.SlotsLaws.{Sized}
+use Rattle.slot_table.proofs.Laws.{Narrow, request_out, mapped-length}
 use borrow.Author.Rules.{rules}
 use Rattle.slot_table.proofs.request_at.Statement.{statement}
 use Rattle.slot_table.proofs.request_at.Tie as tie

@@ -3,7 +3,7 @@ use native.Mathlib.Nat.{one-mul, mod-eq_of_lt}
 use lib.Pow.{pow-lt}
 use borrow.Author.Tests.{lt-ltb, le-ltb}
 use Rattle.slot_word.specs.Word.{without_slot}
-use Rattle.slot_word.specs.WordLaws.{and_bit}
+use Rattle.slot_word.proofs.WordLaws.{and_bit}
 use borrow.Author.Rules.{rules}
 use Rattle.slot_word.proofs.free_slot.Statement.{statement}
 use Rattle.slot_word.proofs.free_slot.Tie as tie

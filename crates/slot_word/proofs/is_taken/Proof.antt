@@ -2,7 +2,7 @@ use mathlib.Core.Path.{ap, sym, ◌∙◌}
 use Prim.Native.Nat.{ℕ, ◌/◌, ◌^◌}
 use lib.Dec.{eqb}
 use lib.Bits.{and_mask}
-use Rattle.slot_word.specs.WordLaws.{taken_is, taken_out}
+use Rattle.slot_word.proofs.WordLaws.{taken_is, taken_out}
 use borrow.Author.Rules.{rules}
 use Rattle.slot_word.proofs.is_taken.Statement.{statement}
 use Rattle.slot_word.proofs.is_taken.Tie as tie

@@ -1,4 +1,4 @@
-use Rattle.slot_word.specs.WordLaws.{trailing_clear}
+use Rattle.slot_word.proofs.WordLaws.{trailing_clear}
 use Rattle.slot_word.proofs.lowest_free.Statement.{statement}
 use Rattle.slot_word.proofs.lowest_free.Tie as tie
 

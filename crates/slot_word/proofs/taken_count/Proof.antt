@@ -1,4 +1,4 @@
-use Rattle.slot_word.specs.WordLaws.{ones_taken}
+use Rattle.slot_word.proofs.WordLaws.{ones_taken}
 use Rattle.slot_word.proofs.taken_count.Statement.{statement}
 use Rattle.slot_word.proofs.taken_count.Tie as tie
 

@@ -3,7 +3,7 @@ use mathlib.Core.Path.{◌≡◌, sym, ap, ◌∙◌}
 use mathlib.Core.Option.{Option}
 use Prim.Native.Nat.{ℕ, ◌+◌, ◌-◌}
 use lib.ListN.{take, drop}
-use Rattle.pair_list.specs.ListLaws.{LiesIn, first_within}
+use Rattle.pair_list.proofs.ListLaws.{LiesIn, first_within}
 use Rattle.decimal.specs.Decimal.{decimal_of}
 use Rattle.stated_length.specs.Stated.{up_to_largest, of_found, stated_in}
 use borrow.Author.Rules.{rules}

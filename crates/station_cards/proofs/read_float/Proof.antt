@@ -5,7 +5,7 @@ use mir.Val.{SFits}
 use mir.ValLaws.{to_z-of_z}
 use mir.Syntax.{w32}
 use Rattle.station_cards.specs.Cards.{card_float, thousandths_in}
-use Rattle.station_cards.specs.CardsLaws.{thousand}
+use Rattle.station_cards.proofs.CardsLaws.{thousand}
 use borrow.Author.Rules.{rules}
 use Rattle.station_cards.proofs.read_float.Statement.{statement}
 use Rattle.station_cards.proofs.read_float.Tie as tie

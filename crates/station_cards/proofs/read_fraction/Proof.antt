@@ -6,7 +6,7 @@ use lib.ListN.{length}
 use borrow.Author.Tests.{lt-ltb, le-ltb}
 use Rattle.decimal.specs.Decimal.{read_as, decimal_of}
 use Rattle.station_cards.specs.Cards.{fraction_of, weight}
-use Rattle.station_cards.specs.CardsLaws.{fraction_under}
+use Rattle.station_cards.proofs.CardsLaws.{fraction_under}
 use borrow.Author.Rules.{rules}
 use Rattle.station_cards.proofs.read_fraction.Statement.{statement}
 use Rattle.station_cards.proofs.read_fraction.Tie as tie

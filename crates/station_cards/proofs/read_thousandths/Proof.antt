@@ -5,7 +5,7 @@ use mir.ValLaws.{to_z-of_z}
 use mir.Syntax.{w32}
 use borrow.Author.Tests.{eq-eqb}
 use Rattle.station_cards.specs.Cards.{card_number, thousandths_in}
-use Rattle.station_cards.specs.CardsLaws.{with_minus, without_minus}
+use Rattle.station_cards.proofs.CardsLaws.{with_minus, without_minus}
 use borrow.Author.Rules.{rules}
 use Rattle.station_cards.proofs.read_thousandths.Statement.{statement}
 use Rattle.station_cards.proofs.read_thousandths.Tie as tie

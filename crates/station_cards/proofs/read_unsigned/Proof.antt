@@ -1,7 +1,7 @@
 use mathlib.Core.Path.{◌≡◌, sym, ap₂, ◌∙◌}
 use native.Mathlib.Omega.{arith}
 use Rattle.station_cards.specs.Cards.{plus}
-use Rattle.station_cards.specs.CardsLaws.{under_more, no_point, point_at}
+use Rattle.station_cards.proofs.CardsLaws.{under_more, no_point, point_at}
 use borrow.Author.Rules.{rules}
 use Rattle.station_cards.proofs.read_unsigned.Statement.{statement}
 use Rattle.station_cards.proofs.read_unsigned.Tie as tie

@@ -5,7 +5,7 @@ use Prim.Native.Nat.{◌*◌, ◌<◌}
 use borrow.Author.Tests.{lt-ltb, le-ltb}
 use Rattle.decimal.specs.Decimal.{read_as, decimal_of}
 use Rattle.station_cards.specs.Cards.{whole_of, times}
-use Rattle.station_cards.specs.CardsLaws.{whole_under}
+use Rattle.station_cards.proofs.CardsLaws.{whole_under}
 use borrow.Author.Rules.{rules}
 use Rattle.station_cards.proofs.read_whole.Statement.{statement}
 use Rattle.station_cards.proofs.read_whole.Tie as tie

@@ -3,7 +3,7 @@ use Prim.Native.Nat.{◌+◌, ◌-◌, ◌≤◌}
 use native.Mathlib.Omega.{arith}
 use lib.ListN.{length, replicate, length-set}
 use lib.Seq.{paste, paste-zero}
-use Rattle.wait_area.specs.AreaLaws.{fill_turn, fill_room, fill_none}
+use Rattle.wait_area.proofs.AreaLaws.{fill_turn, fill_room, fill_none}
 use Rattle.wait_area.proofs.fill.Statement.{statement}
 use Rattle.wait_area.proofs.fill.Tie as tie
 

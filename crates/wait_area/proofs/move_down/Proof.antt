@@ -4,7 +4,7 @@ use native.Mathlib.Omega.{arith}
 use lib.ListN.{length, length-set}
 use lib.Seq.{paste, paste-zero}
 use borrow.Author.Rules.{rules}
-use Rattle.wait_area.specs.AreaLaws.{lowered, lower_turn, lower_end, lower_none}
+use Rattle.wait_area.proofs.AreaLaws.{lowered, lower_turn, lower_end, lower_none}
 use Rattle.wait_area.proofs.move_down.Statement.{statement}
 use Rattle.wait_area.proofs.move_down.Tie as tie
 

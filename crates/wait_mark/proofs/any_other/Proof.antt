@@ -2,7 +2,7 @@ use Prim.Native.Nat.{◌-◌}
 use native.Mathlib.Omega.{arith}
 use borrow.Author.Rules.{rules}
 use Rattle.slot_check.specs.Quick.{Gathers}
-use Rattle.slot_check.specs.QuickLaws.{any_start, any_next, any_done}
+use Rattle.slot_check.proofs.QuickLaws.{any_start, any_next, any_done}
 use Rattle.wait_mark.specs.Joins.{is_other}
 use Rattle.wait_mark.proofs.any_other.Statement.{statement}
 use Rattle.wait_mark.proofs.any_other.Tie as tie

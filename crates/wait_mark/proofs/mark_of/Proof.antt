@@ -1,5 +1,5 @@
 use native.Mathlib.Omega.{arith}
-use Rattle.wait_mark.specs.MarkLaws.{mark_small, mark_sum}
+use Rattle.wait_mark.proofs.MarkLaws.{mark_small, mark_sum}
 use borrow.Author.Rules.{rules}
 use Rattle.wait_mark.proofs.mark_of.Statement.{statement}
 use Rattle.wait_mark.proofs.mark_of.Tie as tie

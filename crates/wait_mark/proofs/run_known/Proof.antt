@@ -2,7 +2,7 @@ use mathlib.Core.Path.{sym, ◌∙◌}
 use Prim.Native.Nat.{◌-◌}
 use native.Mathlib.Omega.{arith}
 use borrow.Author.Rules.{rules}
-use Rattle.wait_mark.specs.SameLaws.{run_same, none_other}
+use Rattle.wait_mark.proofs.SameLaws.{run_same, none_other}
 use Rattle.wait_mark.proofs.run_known.Statement.{statement}
 use Rattle.wait_mark.proofs.run_known.Tie as tie
 

@@ -7,7 +7,7 @@ use borrow.Author.Rules.{rules}
 use Rattle.queue_slot.specs.Atoms.{RUN}
 use Rattle.queue_slot.specs.Wait.{run_length}
 use Rattle.wait_mark.specs.Joins.{run_from}
-use Rattle.wait_mark.specs.RunLaws.{run_few, run_joins, run_stops, run_ends}
+use Rattle.wait_mark.proofs.RunLaws.{run_few, run_joins, run_stops, run_ends}
 use Rattle.wait_mark.proofs.run_length.Statement.{statement}
 use Rattle.wait_mark.proofs.run_length.Tie as tie
 

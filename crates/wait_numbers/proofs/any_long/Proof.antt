@@ -1,7 +1,7 @@
 use borrow.Author.Rules.{rules}
 use Prim.Native.Nat.{◌-◌}
 use Rattle.slot_check.specs.Quick.{Gathers}
-use Rattle.slot_check.specs.QuickLaws.{any_start, any_next, any_done}
+use Rattle.slot_check.proofs.QuickLaws.{any_start, any_next, any_done}
 use Rattle.wait_numbers.specs.Slot.{is_long}
 use Rattle.wait_numbers.proofs.any_long.Statement.{statement}
 use Rattle.wait_numbers.proofs.any_long.Tie as tie

@@ -1,7 +1,7 @@
 use Prim.Native.Nat.{◌-◌}
 use Rattle.connection.specs.Sizes.{SLOTS}
 use Rattle.slot_check.specs.Quick.{Gathers}
-use Rattle.slot_check.specs.QuickLaws.{any_start, any_next, any_done}
+use Rattle.slot_check.proofs.QuickLaws.{any_start, any_next, any_done}
 use Rattle.wait_numbers.specs.Slot.{is_over}
 use borrow.Author.Rules.{rules}
 use Rattle.wait_numbers.proofs.any_over.Statement.{statement}

@@ -1,6 +1,6 @@
 use mathlib.Core.Path.{sym, ◌∙◌}
 use native.Mathlib.Omega.{arith}
-use Rattle.wait_numbers.specs.SlotLaws.{count_some, count_none}
+use Rattle.wait_numbers.proofs.SlotLaws.{count_some, count_none}
 use borrow.Author.Rules.{rules}
 use Rattle.wait_numbers.proofs.count_at.Statement.{statement}
 use Rattle.wait_numbers.proofs.count_at.Tie as tie

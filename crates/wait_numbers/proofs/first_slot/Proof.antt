@@ -1,4 +1,4 @@
-use Rattle.wait_numbers.specs.SlotLaws.{first_low, first_out}
+use Rattle.wait_numbers.proofs.SlotLaws.{first_low, first_out}
 use borrow.Author.Rules.{rules}
 use Rattle.wait_numbers.proofs.first_slot.Statement.{statement}
 use Rattle.wait_numbers.proofs.first_slot.Tie as tie

@@ -1,4 +1,4 @@
-use Rattle.wait_numbers.specs.FitLaws.{waits_told}
+use Rattle.wait_numbers.proofs.FitLaws.{waits_told}
 use borrow.Author.Rules.{rules}
 use Rattle.wait_numbers.proofs.is_waiting.Statement.{statement}
 use Rattle.wait_numbers.proofs.is_waiting.Tie as tie

@@ -3,8 +3,8 @@ use Prim.Native.Nat.{◌<◌}
 use borrow.Author.Rules.{rules}
 use Rattle.connection.specs.Sizes.{SLOTS}
 use Rattle.wait_numbers.specs.Slot.{waits_in}
-use Rattle.wait_numbers.specs.SlotLaws.{Going, going_start, going_next, going_found, going_done}
-use Rattle.wait_numbers.specs.FitLaws.{waits_told}
+use Rattle.wait_numbers.proofs.SlotLaws.{Going, going_start, going_next, going_found, going_done}
+use Rattle.wait_numbers.proofs.FitLaws.{waits_told}
 use Rattle.wait_numbers.proofs.next_waiting.Statement.{statement}
 use Rattle.wait_numbers.proofs.next_waiting.Tie as tie
 

@@ -1,5 +1,5 @@
 use mathlib.Core.Path.{sym, ◌∙◌}
-use Rattle.wait_numbers.specs.FitLaws.{Housed, housed, stray_row, empty_row, short_row, over_row}
+use Rattle.wait_numbers.proofs.FitLaws.{Housed, housed, stray_row, empty_row, short_row, over_row}
 use borrow.Author.Rules.{rules}
 use Rattle.wait_numbers.proofs.waits_fit.Statement.{statement}
 use Rattle.wait_numbers.proofs.waits_fit.Tie as tie

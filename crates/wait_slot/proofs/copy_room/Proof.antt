@@ -1,7 +1,7 @@
 use mathlib.Core.List.{List}
 use Prim.Native.Nat.{ℕ}
 use Rattle.wire.specs.Buffer.{copied}
-use Rattle.wait_slot.specs.RoomLaws.{part_made}
+use Rattle.wait_slot.proofs.RoomLaws.{part_made}
 use borrow.Author.Rules.{rules}
 use Rattle.wait_slot.proofs.copy_room.Statement.{statement}
 use Rattle.wait_slot.proofs.copy_room.Tie as tie

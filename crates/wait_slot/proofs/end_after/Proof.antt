@@ -1,7 +1,7 @@
 use mathlib.Core.Path.{sym}
 use borrow.Author.Tests.{eq-eqb, ne_eqb}
 use Rattle.queue_slot.specs.Wait.{wait_end}
-use Rattle.wait_slot.specs.RoomLaws.{room_same}
+use Rattle.wait_slot.proofs.RoomLaws.{room_same}
 use borrow.Author.Rules.{rules}
 use Rattle.wait_slot.proofs.end_after.Statement.{statement}
 use Rattle.wait_slot.proofs.end_after.Tie as tie

@@ -2,7 +2,7 @@ use mathlib.Core.List.{List}
 use Prim.Native.Nat.{ℕ}
 use lib.ListN.{take, drop}
 use Rattle.wire.specs.Buffer.{put_at}
-use Rattle.wait_slot.specs.RoomLaws.{part_made}
+use Rattle.wait_slot.proofs.RoomLaws.{part_made}
 use borrow.Author.Rules.{rules}
 use Rattle.wait_slot.proofs.lower_room.Statement.{statement}
 use Rattle.wait_slot.proofs.lower_room.Tie as tie

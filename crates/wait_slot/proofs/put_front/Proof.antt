@@ -1,7 +1,7 @@
 use mathlib.Core.Path.{sym}
 use Rattle.queue_slot.specs.Wait.{Wait, with_front}
-use Rattle.wait_slot.specs.RoomLaws.{room_same}
-use Rattle.wait_slot.specs.SlotLaws.{put_made}
+use Rattle.wait_slot.proofs.RoomLaws.{room_same}
+use Rattle.wait_slot.proofs.SlotLaws.{put_made}
 use borrow.Author.Rules.{rules}
 use Rattle.wait_slot.proofs.put_front.Statement.{statement}
 use Rattle.wait_slot.proofs.put_front.Tie as tie

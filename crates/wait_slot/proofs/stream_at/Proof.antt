@@ -4,7 +4,7 @@ use native.Mathlib.Omega.{arith}
 use native.Mathlib.Nat.{add-zero}
 use Rattle.wire.specs.Buffer.{byte_at}
 use Rattle.queue_slot.specs.Wait.{ROOM, mark_stream}
-use Rattle.wait_slot.specs.RoomLaws.{room_byte}
+use Rattle.wait_slot.proofs.RoomLaws.{room_byte}
 use borrow.Author.Rules.{rules}
 use Rattle.wait_slot.proofs.stream_at.Statement.{statement}
 use Rattle.wait_slot.proofs.stream_at.Tie as tie

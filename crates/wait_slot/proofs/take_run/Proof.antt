@@ -7,8 +7,8 @@ use Rattle.queue_slot.specs.declared.Numbers.{Numbers}
 use Rattle.queue_slot.specs.Wait.{ROOM, Wait, mark_ends, without_first}
 use Rattle.queue.specs.Calls.{room_at}
 use Rattle.wait_numbers.specs.Slot.{put_numbers}
-use Rattle.wait_slot.specs.RoomLaws.{room_byte}
-use Rattle.wait_slot.specs.SlotLaws.{put_made}
+use Rattle.wait_slot.proofs.RoomLaws.{room_byte}
+use Rattle.wait_slot.proofs.SlotLaws.{put_made}
 use borrow.Author.Rules.{rules}
 use Rattle.wait_slot.proofs.take_run.Statement.{statement}
 use Rattle.wait_slot.proofs.take_run.Tie as tie

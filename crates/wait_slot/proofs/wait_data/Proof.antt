@@ -3,14 +3,14 @@ use Prim.Native.Nat.{ℕ, ◌+◌, ◌≤◌}
 use native.Mathlib.Omega.{arith}
 use mathlib.Core.List.{List}
 use lib.ListN.{length, replicate, length-replicate}
-use Rattle.wire.specs.BufferLaws.{copied_room}
+use Rattle.wire.proofs.BufferLaws.{copied_room}
 use Rattle.wire.specs.Buffer.{copied}
 use Rattle.queue_slot.specs.declared.Ends.{Ends}
 use Rattle.queue_slot.specs.declared.Numbers.{Numbers}
 use Rattle.queue_slot.specs.Wait.{ROOM, Wait, wait_data, mark_of}
 use Rattle.queue.specs.Calls.{QUEUE, room_at, put_room}
-use Rattle.wait_slot.specs.RoomLaws.{room_length}
-use Rattle.wait_slot.specs.SlotLaws.{put_made, room_for}
+use Rattle.wait_slot.proofs.RoomLaws.{room_length}
+use Rattle.wait_slot.proofs.SlotLaws.{put_made, room_for}
 use borrow.Author.Rules.{rules}
 use Rattle.wait_slot.proofs.wait_data.Statement.{statement}
 use Rattle.wait_slot.proofs.wait_data.Tie as tie

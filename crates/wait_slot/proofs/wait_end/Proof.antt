@@ -4,8 +4,8 @@ use Rattle.queue_slot.specs.Wait.{Wait, wait_end}
 use Rattle.queue.specs.Calls.{room_at, put_room}
 use Rattle.wait_numbers.specs.Slot.{put_numbers}
 use Rattle.wait_slot.specs.After.{wait_of}
-use Rattle.wait_slot.specs.RoomLaws.{room_same}
-use Rattle.wait_slot.specs.SlotLaws.{put_made, end_bytes_lem, after_count}
+use Rattle.wait_slot.proofs.RoomLaws.{room_same}
+use Rattle.wait_slot.proofs.SlotLaws.{put_made, end_bytes_lem, after_count}
 use borrow.Author.Rules.{rules}
 use Rattle.wait_slot.proofs.wait_end.Statement.{statement}
 use Rattle.wait_slot.proofs.wait_end.Tie as tie

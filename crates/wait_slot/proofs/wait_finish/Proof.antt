@@ -3,7 +3,7 @@ use native.Mathlib.Omega.{arith}
 use lib.ListN.{length}
 use Rattle.connection.specs.declared.answer.Output.{Output}
 use Rattle.queue.specs.Calls.{QUEUE}
-use Rattle.wait_slot.specs.SlotLaws.{owed_count, finish_made}
+use Rattle.wait_slot.proofs.SlotLaws.{owed_count, finish_made}
 use borrow.Author.Rules.{rules}
 use Rattle.wait_slot.proofs.wait_finish.Statement.{statement}
 use Rattle.wait_slot.proofs.wait_finish.Tie as tie

@@ -4,7 +4,7 @@ use mathlib.Core.List.{◌++◌}
 use native.Mathlib.Omega.{arith}
 use lib.ListN.{length, drop, replicate, length-set}
 use borrow.Author.Fill.{fill_none, fill_more}
-use Rattle.wire.specs.BufferLaws.{zeroed}
+use Rattle.wire.proofs.BufferLaws.{zeroed}
 use Rattle.wire.proofs.clear.Statement.{statement}
 use Rattle.wire.proofs.clear.Tie as tie
 

@@ -3,7 +3,7 @@ use Prim.Native.Nat.{◌≤◌, ◌-◌}
 use native.Mathlib.Omega.{arith}
 use lib.ListN.{length}
 use Rattle.wire.specs.Compare.{compared}
-use Rattle.wire.specs.CompareLaws.{compared_long, compared_from, compared_start, compared_next, compared_differs, compared_end}
+use Rattle.wire.proofs.CompareLaws.{compared_long, compared_from, compared_start, compared_next, compared_differs, compared_end}
 use Rattle.wire.proofs.compare.Statement.{statement}
 use Rattle.wire.proofs.compare.Tie as tie
 

@@ -3,7 +3,7 @@ use Prim.Native.Nat.{◌-◌, ◌≤◌}
 use native.Mathlib.Omega.{arith}
 use lib.ListN.{length, length-set}
 use lib.Seq.{paste, paste-zero}
-use Rattle.wire.specs.BufferLaws.{copy_turn, copy_end}
+use Rattle.wire.proofs.BufferLaws.{copy_turn, copy_end}
 use Rattle.wire.proofs.copy_at.Statement.{statement}
 use Rattle.wire.proofs.copy_at.Tie as tie
 use Rattle.wire.proofs.copy_at.Reads as reads

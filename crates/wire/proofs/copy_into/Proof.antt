@@ -1,6 +1,6 @@
 use mathlib.Core.Path.{sym, ◌∙◌}
 use native.Mathlib.Omega.{arith}
-use Rattle.wire.specs.BufferLaws.{copied_room, copied_none}
+use Rattle.wire.proofs.BufferLaws.{copied_room, copied_none}
 use borrow.Author.Rules.{rules}
 use Rattle.wire.proofs.copy_into.Statement.{statement}
 use Rattle.wire.proofs.copy_into.Tie as tie

@@ -5,8 +5,8 @@ use lib.ListN.{length, length-append}
 use Rattle.event_text.specs.Line.{decimal}
 use native.Mathlib.Omega.{arith}
 use borrow.Author.Rules.{rules}
-use Rattle.event_text.specs.LineLaws.{decimal_one, decimal_more, decimal_size}
-use Rattle.event_text.specs.DraftLaws.{adds_both}
+use Rattle.event_text.proofs.LineLaws.{decimal_one, decimal_more, decimal_size}
+use Rattle.event_text.proofs.DraftLaws.{adds_both}
 use borrow.Fn.Kinds.{In}
 use borrow.Fn.PlainCycle.{Measures, is, falls, and}
 use Rattle.event_text.proofs.draft.add_decimal.Reads as add-decimal

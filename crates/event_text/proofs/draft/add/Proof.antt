@@ -1,7 +1,7 @@
 use native.Mathlib.Omega.{arith}
 use mathlib.Core.Path.{◌≡◌}
 use lib.ListN.{length}
-use Rattle.event_text.specs.DraftLaws.{added}
+use Rattle.event_text.proofs.DraftLaws.{added}
 use Rattle.event_text.specs.Line.{LONGEST}
 use borrow.Author.Rules.{rules}
 use Rattle.event_text.proofs.draft.add.Statement.{statement}

@@ -1,5 +1,5 @@
 use native.Mathlib.Omega.{arith}
-use Rattle.event_text.specs.DraftLaws.{adds_both}
+use Rattle.event_text.proofs.DraftLaws.{adds_both}
 use borrow.Author.Rules.{rules}
 use Rattle.event_text.proofs.draft.add_cause.Statement.{statement}
 use Rattle.event_text.proofs.draft.add_cause.Tie as tie

@@ -1,6 +1,6 @@
 use native.Mathlib.Omega.{arith}
-use Rattle.event_text.specs.LineLaws.{decimal_short}
-use Rattle.event_text.specs.DraftLaws.{adds_both}
+use Rattle.event_text.proofs.LineLaws.{decimal_short}
+use Rattle.event_text.proofs.DraftLaws.{adds_both}
 use borrow.Author.Rules.{rules}
 use Rattle.event_text.proofs.draft.add_number.Statement.{statement}
 use Rattle.event_text.proofs.draft.add_number.Tie as tie

@@ -1,4 +1,4 @@
-use Rattle.event_text.specs.DraftLaws.{line_of_3}
+use Rattle.event_text.proofs.DraftLaws.{line_of_3}
 use Rattle.event_text.specs.Line.{byte_line}
 use native.Mathlib.Omega.{arith}
 use borrow.Author.Rules.{rules}

@@ -7,7 +7,7 @@ use Rattle.codes.specs.Place.{cause_of}
 use Rattle.event_text.specs.Words.{closed_word}
 use Rattle.event_text.specs.Line.{LONGEST, cause_text, line}
 use Rattle.event_text.specs.Draft.{Says}
-use Rattle.event_text.specs.DraftLaws.{line_of_1}
+use Rattle.event_text.proofs.DraftLaws.{line_of_1}
 use borrow.Author.Rules.{rules}
 use Rattle.event_text.proofs.text.closed_line.Statement.{statement}
 use Rattle.event_text.proofs.text.closed_line.Tie as tie

@@ -7,7 +7,7 @@ use Rattle.codes.specs.Place.{cause_of}
 use Rattle.event_text.specs.Words.{fault_word}
 use Rattle.event_text.specs.Line.{LONGEST, decimal, cause_text, line}
 use Rattle.event_text.specs.Draft.{Says}
-use Rattle.event_text.specs.DraftLaws.{line_of_2}
+use Rattle.event_text.proofs.DraftLaws.{line_of_2}
 use borrow.Author.Rules.{rules}
 use Rattle.event_text.proofs.text.fault_line.Statement.{statement}
 use Rattle.event_text.proofs.text.fault_line.Tie as tie

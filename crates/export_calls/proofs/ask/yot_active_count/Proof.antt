@@ -2,7 +2,7 @@ use mathlib.Core.Path.{sym, ap, ◌∙◌}
 use mathlib.Core.List.{[]}
 use Rattle.flat_answer.specs.ReadAnswers.{flat_count}
 use Rattle.export_calls.specs.Ask.{exported_count}
-use Rattle.export_calls.specs.Known.{unknown_by, known_by}
+use Rattle.export_calls.proofs.Known.{unknown_by, known_by}
 use borrow.Author.Rules.{rules}
 use Rattle.export_calls.proofs.ask.yot_active_count.Statement.{statement}
 use Rattle.export_calls.proofs.ask.yot_active_count.Tie as tie

@@ -2,7 +2,7 @@ use mathlib.Core.Path.{sym, ap, ◌∙◌}
 use mathlib.Core.List.{[]}
 use Rattle.flat_answer.specs.ReadAnswers.{flat_place}
 use Rattle.export_calls.specs.Ask.{exported_list}
-use Rattle.export_calls.specs.Known.{unknown_by, known_by}
+use Rattle.export_calls.proofs.Known.{unknown_by, known_by}
 use borrow.Author.Rules.{rules}
 use Rattle.export_calls.proofs.ask.yot_list.Statement.{statement}
 use Rattle.export_calls.proofs.ask.yot_list.Tie as tie

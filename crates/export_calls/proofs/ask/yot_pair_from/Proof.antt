@@ -1,7 +1,7 @@
 use mathlib.Core.Path.{sym, ap, ◌∙◌}
 use Rattle.flat_answer.specs.ReadAnswers.{flat_read_from}
 use Rattle.export_calls.specs.Ask.{exported_pair_from}
-use Rattle.export_calls.specs.Known.{unknown_by, known_by}
+use Rattle.export_calls.proofs.Known.{unknown_by, known_by}
 use borrow.Author.Rules.{rules}
 use Rattle.export_calls.proofs.ask.yot_pair_from.Statement.{statement}
 use Rattle.export_calls.proofs.ask.yot_pair_from.Tie as tie

@@ -2,7 +2,7 @@ use mathlib.Core.Path.{sym, ap, ◌∙◌}
 use mathlib.Core.List.{[]}
 use Rattle.flat_answer.specs.ReadAnswers.{flat_request}
 use Rattle.export_calls.specs.Ask.{exported_request}
-use Rattle.export_calls.specs.Known.{unknown_by, known_by}
+use Rattle.export_calls.proofs.Known.{unknown_by, known_by}
 use borrow.Author.Rules.{rules}
 use Rattle.export_calls.proofs.ask.yot_request.Statement.{statement}
 use Rattle.export_calls.proofs.ask.yot_request.Tie as tie

@@ -1,7 +1,7 @@
 use mathlib.Core.Path.{sym, ap, ◌∙◌}
 use Rattle.flat_reading.specs.Answers.{flatEnded}
 use Rattle.export_calls.specs.Body.{exported_end_body}
-use Rattle.export_calls.specs.Known.{unknown_by, known_by}
+use Rattle.export_calls.proofs.Known.{unknown_by, known_by}
 use borrow.Author.Rules.{rules}
 use Rattle.export_calls.proofs.body.yot_end_body.Statement.{statement}
 use Rattle.export_calls.proofs.body.yot_end_body.Tie as tie

@@ -1,7 +1,7 @@
 use mathlib.Core.Path.{◌∙◌}
 use mir.ValLaws.{to_z-of_z}
 use mir.Syntax.{w32}
-use Rattle.export_calls.specs.WriteLaws.{leaves_reading}
+use Rattle.export_calls.proofs.WriteLaws.{leaves_reading}
 use borrow.Author.Rules.{rules}
 use Rattle.export_calls.proofs.body.yot_write_reading.Statement.{statement}
 use Rattle.export_calls.proofs.body.yot_write_reading.Tie as tie

@@ -1,4 +1,4 @@
-use Rattle.export_calls.specs.FeedLaws.{starts}
+use Rattle.export_calls.proofs.FeedLaws.{starts}
 use borrow.Author.Rules.{rules}
 use Rattle.export_calls.proofs.feed.yot_start.Statement.{statement}
 use Rattle.export_calls.proofs.feed.yot_start.Tie as tie

@@ -1,7 +1,7 @@
 use mathlib.Core.List.{[]}
 use Rattle.queue.specs.Calls.{queue_step}
-use Rattle.export_calls.specs.Known.{unknown_by, known_by}
-use Rattle.export_calls.specs.FeedLaws.{feeds, not_fed}
+use Rattle.export_calls.proofs.Known.{unknown_by, known_by}
+use Rattle.export_calls.proofs.FeedLaws.{feeds, not_fed}
 use borrow.Author.Rules.{rules}
 use Rattle.export_calls.proofs.feed.yot_step.Statement.{statement}
 use Rattle.export_calls.proofs.feed.yot_step.Tie as tie

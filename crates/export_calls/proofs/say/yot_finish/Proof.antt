@@ -1,8 +1,8 @@
 use mathlib.Core.Path.{◌∙◌}
 use mathlib.Core.List.{[]}
 use Rattle.export_calls.specs.Say.{exported_finish}
-use Rattle.export_calls.specs.Known.{unknown_by, known_by}
-use Rattle.export_calls.specs.WriteLaws.{leaves_finish}
+use Rattle.export_calls.proofs.Known.{unknown_by, known_by}
+use Rattle.export_calls.proofs.WriteLaws.{leaves_finish}
 use borrow.Author.Rules.{rules}
 use Rattle.export_calls.proofs.say.yot_finish.Statement.{statement}
 use Rattle.export_calls.proofs.say.yot_finish.Tie as tie

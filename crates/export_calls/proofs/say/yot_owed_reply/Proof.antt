@@ -1,7 +1,7 @@
 use mathlib.Core.Path.{◌∙◌}
 use Rattle.export_calls.specs.Say.{exported_reply}
-use Rattle.export_calls.specs.Known.{unknown_by, known_by}
-use Rattle.export_calls.specs.WriteLaws.{leaves_reply}
+use Rattle.export_calls.proofs.Known.{unknown_by, known_by}
+use Rattle.export_calls.proofs.WriteLaws.{leaves_reply}
 use borrow.Author.Rules.{rules}
 use Rattle.export_calls.proofs.say.yot_owed_reply.Statement.{statement}
 use Rattle.export_calls.proofs.say.yot_owed_reply.Tie as tie

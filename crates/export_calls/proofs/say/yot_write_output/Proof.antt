@@ -1,8 +1,8 @@
 use mathlib.Core.Path.{◌∙◌}
 use mathlib.Core.List.{[]}
 use Rattle.export_calls.specs.Say.{exported_output}
-use Rattle.export_calls.specs.Known.{unknown_by, known_by}
-use Rattle.export_calls.specs.WriteLaws.{leaves_output}
+use Rattle.export_calls.proofs.Known.{unknown_by, known_by}
+use Rattle.export_calls.proofs.WriteLaws.{leaves_output}
 use borrow.Author.Rules.{rules}
 use Rattle.export_calls.proofs.say.yot_write_output.Statement.{statement}
 use Rattle.export_calls.proofs.say.yot_write_output.Tie as tie

@@ -1,4 +1,4 @@
-use Rattle.export_calls.specs.WriteLaws.{leaves_pair}
+use Rattle.export_calls.proofs.WriteLaws.{leaves_pair}
 use borrow.Author.Rules.{rules}
 use Rattle.export_calls.proofs.say.yot_write_pair.Statement.{statement}
 use Rattle.export_calls.proofs.say.yot_write_pair.Tie as tie

@@ -1,8 +1,8 @@
 use mathlib.Core.Path.{◌∙◌}
 use mathlib.Core.List.{[]}
 use Rattle.export_calls.specs.Wait.{exported_pump}
-use Rattle.export_calls.specs.Known.{unknown_by, known_by}
-use Rattle.export_calls.specs.WriteLaws.{leaves_turn}
+use Rattle.export_calls.proofs.Known.{unknown_by, known_by}
+use Rattle.export_calls.proofs.WriteLaws.{leaves_turn}
 use borrow.Author.Rules.{rules}
 use Rattle.export_calls.proofs.wait.yot_pump.Statement.{statement}
 use Rattle.export_calls.proofs.wait.yot_pump.Tie as tie

@@ -12,7 +12,7 @@ use Rattle.lifting.specs.declared.way.Way.{Way}
 use Rattle.lifting.specs.Call.{lifting_of}
 use Rattle.lifting.specs.Answer.{lifted_by}
 use Rattle.lifting.specs.Ways.{offer_of, way_of, goes, lifting_with}
-use Rattle.lifting.specs.CallLaws.{offer_to, offer_within, offer_has_room, offer_uses, goes_lifted}
+use Rattle.lifting.proofs.CallLaws.{offer_to, offer_within, offer_has_room, offer_uses, goes_lifted}
 use borrow.Author.Rules.{rules}
 use Rattle.lifting.proofs.calls.lift.Statement.{statement}
 use Rattle.lifting.proofs.calls.lift.Tie as tie

@@ -3,7 +3,7 @@ use mathlib.Core.Bool.{◌&&◌}
 use Rattle.wire.specs.Test.{◌<?◌}
 use Rattle.record_reader.specs.declared.Position.{Position}
 use Rattle.lifting.specs.Ways.{lifting_with}
-use Rattle.lifting.specs.CallLaws.{stepped_over}
+use Rattle.lifting.proofs.CallLaws.{stepped_over}
 use borrow.Author.Rules.{rules}
 use Rattle.lifting.proofs.calls.read_on.Statement.{statement}
 use Rattle.lifting.proofs.calls.read_on.Tie as tie

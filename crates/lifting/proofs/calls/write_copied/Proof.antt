@@ -2,7 +2,7 @@ use mathlib.Core.Path.{◌∙◌}
 use native.Mathlib.Omega.{arith}
 use lib.ListN.{length}
 use Prim.Native.Nat.{◌+◌, ◌≤◌}
-use Rattle.wire.specs.BufferLaws.{copied_room}
+use Rattle.wire.proofs.BufferLaws.{copied_room}
 use borrow.Author.Rules.{rules}
 use Rattle.lifting.proofs.calls.write_copied.Statement.{statement}
 use Rattle.lifting.proofs.calls.write_copied.Tie as tie

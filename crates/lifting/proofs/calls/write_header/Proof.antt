@@ -4,7 +4,7 @@ use native.Mathlib.Omega.{arith}
 use lib.ListN.{length, take, drop}
 use Rattle.lifting.specs.Call.{with_waiting}
 use Rattle.lifting.specs.Ways.{lifting_with}
-use Rattle.lifting.specs.HeaderLaws.{waiting_part, wrote, header_written_lem}
+use Rattle.lifting.proofs.HeaderLaws.{waiting_part, wrote, header_written_lem}
 use borrow.Author.Rules.{rules}
 use Rattle.lifting.proofs.calls.write_header.Statement.{statement}
 use Rattle.lifting.proofs.calls.write_header.Tie as tie

@@ -1,7 +1,7 @@
 use mathlib.Core.Path.{◌≡◌}
 use lib.ListN.{length}
 use borrow.Author.Tests.{eq-eqb, ne_eqb}
-use Rattle.lifting.specs.HeaderLaws.{whole_test}
+use Rattle.lifting.proofs.HeaderLaws.{whole_test}
 use borrow.Author.Rules.{rules}
 use Rattle.lifting.proofs.marks.makes_whole.Statement.{statement}
 use Rattle.lifting.proofs.marks.makes_whole.Tie as tie

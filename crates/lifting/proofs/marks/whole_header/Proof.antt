@@ -2,7 +2,7 @@ use mathlib.Core.Path.{◌≡◌, ap, ◌∙◌}
 use Prim.Native.Nat.{ℕ}
 use lib.ListN.{length}
 use Rattle.wire.specs.Buffer.{copied}
-use Rattle.lifting.specs.HeaderLaws.{whole_header}
+use Rattle.lifting.proofs.HeaderLaws.{whole_header}
 use borrow.Author.Rules.{rules}
 use Rattle.lifting.proofs.marks.whole_header.Statement.{statement}
 use Rattle.lifting.proofs.marks.whole_header.Tie as tie

@@ -2,7 +2,7 @@ use mathlib.Core.Path.{sym, ◌∙◌}
 use native.Mathlib.Omega.{arith}
 use borrow.Author.Tests.{le-leb, lt-leb, lt-ltb, le-ltb}
 use Rattle.pairs.specs.Pair.{pair_at}
-use Rattle.pairs.specs.PairLaws.{length_next}
+use Rattle.pairs.proofs.PairLaws.{length_next}
 use borrow.Author.Rules.{rules}
 use Rattle.pairs.proofs.pair.read_pair.Statement.{statement}
 use Rattle.pairs.proofs.pair.read_pair.Tie as tie

@@ -1,7 +1,7 @@
 use mathlib.Core.Path.{◌≡◌, sym, ◌∙◌}
 use native.Mathlib.Omega.{arith}
 use Rattle.pair_list.specs.List.{ending_of}
-use Rattle.pair_list.specs.ListLaws.{ended_formed, broken_formed, ending_place}
+use Rattle.pair_list.proofs.ListLaws.{ended_formed, broken_formed, ending_place}
 use Rattle.pair_list.specs.declared.Ending.{Ending}
 use Rattle.plain.specs.Plain.{params_end}
 use borrow.Author.Rules.{rules}

@@ -3,9 +3,9 @@ use mathlib.Core.Path.{◌≡◌, ◌∙◌}
 use native.Mathlib.Omega.{arith}
 use lib.ListN.{length, take}
 use lib.Seq.{length-take-le}
-use Rattle.wire.specs.BufferLaws.{copied_room}
+use Rattle.wire.proofs.BufferLaws.{copied_room}
 use Rattle.plain.specs.Code.{entry_at}
-use Rattle.plain.specs.RuleLaws.{own_live, active_spent, active_live}
+use Rattle.plain.proofs.RuleLaws.{own_live, active_spent, active_live}
 use borrow.Author.Rules.{rules}
 use Rattle.plain.proofs.rules.on_active.Statement.{statement}
 use Rattle.plain.proofs.rules.on_active.Tie as tie

@@ -1,6 +1,6 @@
 use borrow.Author.Tests.{eq-eqb, ne_eqb}
 use Rattle.plain.specs.Plain.{on_inactive}
-use Rattle.plain.specs.RuleLaws.{stays}
+use Rattle.plain.proofs.RuleLaws.{stays}
 use borrow.Author.Rules.{rules}
 use Rattle.plain.proofs.rules.on_inactive.Statement.{statement}
 use Rattle.plain.proofs.rules.on_inactive.Tie as tie

@@ -2,7 +2,7 @@ use mathlib.Core.Path.{◌≡◌, sym, ◌∙◌}
 use native.Mathlib.Omega.{arith}
 use borrow.Author.Tests.{lt-ltb, le-ltb}
 use Rattle.pair_list.specs.List.{ending_of}
-use Rattle.pair_list.specs.ListLaws.{ended_formed, broken_formed, ending_place}
+use Rattle.pair_list.proofs.ListLaws.{ended_formed, broken_formed, ending_place}
 use Rattle.pair_list.specs.declared.Ending.{Ending}
 use Rattle.plain.specs.Plain.{on_query}
 use borrow.Author.Rules.{rules}

@@ -3,7 +3,7 @@ use mathlib.Core.Bool.{true}
 use Prim.Native.Nat.{ℕ}
 use Rattle.plain.specs.Plain.{is_role, two}
 use Rattle.plain.specs.Code.{requests_of}
-use Rattle.plain.specs.RuleLaws.{opening_known, opening_unknown, stays}
+use Rattle.plain.proofs.RuleLaws.{opening_known, opening_unknown, stays}
 use borrow.Author.Rules.{rules}
 use Rattle.plain.proofs.rules.opening.Statement.{statement}
 use Rattle.plain.proofs.rules.opening.Tie as tie

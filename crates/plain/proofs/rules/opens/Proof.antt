@@ -3,7 +3,7 @@ use native.Mathlib.Omega.{arith}
 use lib.ListN.{length}
 use borrow.Author.Tests.{lt-ltb, le-ltb}
 use Rattle.plain.specs.Code.{new_entry}
-use Rattle.plain.specs.TableLaws.{requests_length, opened_last, sound_with, sound_more}
+use Rattle.plain.proofs.TableLaws.{requests_length, opened_last, sound_with, sound_more}
 use borrow.Author.Rules.{rules}
 use Rattle.plain.proofs.rules.opens.Statement.{statement}
 use Rattle.plain.proofs.rules.opens.Tie as tie

@@ -3,8 +3,8 @@ use mathlib.Core.Path.{sym, ◌∙◌}
 use native.Mathlib.Omega.{arith}
 use lib.ListN.{length}
 use Rattle.plain.specs.Code.{requests_of}
-use Rattle.plain.specs.TableLaws.{requests_length}
-use Rattle.plain.specs.RuleLaws.{stays, says_version, says_management, says_active, says_inactive}
+use Rattle.plain.proofs.TableLaws.{requests_length}
+use Rattle.plain.proofs.RuleLaws.{stays, says_version, says_management, says_active, says_inactive}
 use borrow.Author.Rules.{rules}
 use Rattle.plain.proofs.rules.says.Statement.{statement}
 use Rattle.plain.proofs.rules.says.Tie as tie

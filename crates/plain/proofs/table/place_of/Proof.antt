@@ -6,7 +6,7 @@ use lib.ListN.{length, drop}
 use borrow.Author.Rules.{rules}
 use Rattle.plain.specs.Plain.{place_of}
 use Rattle.plain.specs.Code.{requests_of}
-use Rattle.plain.specs.TableLaws.{place_here, place_next, place_end, mapped-length}
+use Rattle.plain.proofs.TableLaws.{place_here, place_next, place_end, mapped-length}
 use Rattle.plain.proofs.table.place_of.Statement.{statement}
 use Rattle.plain.proofs.table.place_of.Tie as tie
 

@@ -1,4 +1,4 @@
-use Rattle.conn_check.specs.Laws.{shape_of_lem}
+use Rattle.conn_check.proofs.Laws.{shape_of_lem}
 use mathlib.Core.Path.{sym, ◌∙◌}
 use borrow.Author.Rules.{rules}
 use Rattle.queue_pump.proofs.check.is_fit.Statement.{statement}

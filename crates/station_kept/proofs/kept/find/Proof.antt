@@ -1,7 +1,7 @@
 use mathlib.Core.Path.{refl, sym, ◌∙◌}
 use native.Mathlib.Omega.{arith}
 use Rattle.station_kept.specs.Kept.{entry_from, entry_of}
-use Rattle.station_kept.specs.KeptLaws.{entry_here, entry_next, entry_none}
+use Rattle.station_kept.proofs.KeptLaws.{entry_here, entry_next, entry_none}
 use mathlib.Core.Path.{◌≡◌}
 use Prim.Native.Nat.{◌-◌}
 use borrow.Author.Rules.{rules}

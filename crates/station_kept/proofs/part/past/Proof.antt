@@ -1,6 +1,6 @@
 use borrow.Author.Tests.{eq-eqb}
 use Rattle.station_kept.specs.Part.{past_of}
-use Rattle.station_kept.specs.PartLaws.{goes_on_lem}
+use Rattle.station_kept.proofs.PartLaws.{goes_on_lem}
 use mathlib.Core.Path.{◌∙◌}
 use native.Mathlib.Omega.{arith}
 use borrow.Author.Rules.{rules}

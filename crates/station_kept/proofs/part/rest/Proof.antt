@@ -1,4 +1,4 @@
-use Rattle.station_kept.specs.PartLaws.{rest_from, none_left}
+use Rattle.station_kept.proofs.PartLaws.{rest_from, none_left}
 use borrow.Author.Rules.{rules}
 use Rattle.station_kept.proofs.part.rest.Statement.{statement}
 use Rattle.station_kept.proofs.part.rest.Tie as tie

@@ -1,5 +1,5 @@
 use lib.ListN.{drop}
-use Rattle.station_kept.specs.PartLaws.{some_long, some_short}
+use Rattle.station_kept.proofs.PartLaws.{some_long, some_short}
 use borrow.Author.Rules.{rules}
 use Rattle.station_kept.proofs.part.some.Statement.{statement}
 use Rattle.station_kept.proofs.part.some.Tie as tie

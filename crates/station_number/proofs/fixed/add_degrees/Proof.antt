@@ -1,8 +1,8 @@
 use native.Mathlib.Omega.{arith}
 use mir.ValLaws.{to_z-of_z}
 use mir.Syntax.{w32}
-use Rattle.station_number.specs.PutsLaws.{puts_both, puts_as}
-use Rattle.station_number.specs.Parts.{degrees_parts}
+use Rattle.station_number.proofs.PutsLaws.{puts_both, puts_as}
+use Rattle.station_number.proofs.Parts.{degrees_parts}
 use borrow.Author.Rules.{rules}
 use Rattle.station_number.proofs.fixed.add_degrees.Statement.{statement}
 use Rattle.station_number.proofs.fixed.add_degrees.Tie as tie

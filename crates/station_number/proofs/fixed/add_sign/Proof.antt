@@ -1,9 +1,9 @@
 use mathlib.Core.Path.{◌≡◌, sym, ap}
 use Prim.Native.Nat.{◌≤◌}
 use native.Mathlib.Omega.{arith}
-use Rattle.reading.specs.Signs.{below, above}
+use Rattle.reading.proofs.Signs.{below, above}
 use Rattle.station_number.specs.Fixed.{sign_text}
-use Rattle.station_number.specs.PutsLaws.{puts_as, puts_none}
+use Rattle.station_number.proofs.PutsLaws.{puts_as, puts_none}
 use borrow.Author.Rules.{rules}
 use Rattle.station_number.proofs.fixed.add_sign.Statement.{statement}
 use Rattle.station_number.proofs.fixed.add_sign.Tie as tie

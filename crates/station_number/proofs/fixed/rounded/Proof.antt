@@ -2,7 +2,7 @@ use mathlib.Core.Path.{◌≡◌, sym, ap, ◌∙◌}
 use Prim.Native.Nat.{ℕ, ◌+◌, ◌*◌, ◌-◌, ◌/◌, ◌%◌, ◌^◌, ◌≤◌}
 use native.Mathlib.Omega.{arith}
 use lib.Pow.{pow_mono}
-use Rattle.station_number.specs.FixedLaws.{nearest_shifted, nearest_none}
+use Rattle.station_number.proofs.FixedLaws.{nearest_shifted, nearest_none}
 use borrow.Author.Rules.{rules}
 use Rattle.station_number.proofs.fixed.rounded.Statement.{statement}
 use Rattle.station_number.proofs.fixed.rounded.Tie as tie

@@ -7,9 +7,9 @@ use mir.Val.{SFits}
 use mir.ValLaws.{to_z-of_z}
 use mir.Syntax.{w32}
 use borrow.Author.Tests.{not-true, not-false}
-use Rattle.reading.specs.Signs.{as_signed, minus_up}
+use Rattle.reading.proofs.Signs.{as_signed, minus_up}
 use Rattle.station_number.specs.Fixed.{signed as signedBy}
-use Rattle.station_number.specs.FixedLaws.{signed_below}
+use Rattle.station_number.proofs.FixedLaws.{signed_below}
 use borrow.Author.Rules.{rules}
 use Rattle.station_number.proofs.fixed.signed.Statement.{statement}
 use Rattle.station_number.proofs.fixed.signed.Tie as tie

@@ -5,7 +5,7 @@ use lib.IntN.{pos}
 use mir.Val.{SFits}
 use mir.ValLaws.{to_z-of_z}
 use mir.Syntax.{w32}
-use Rattle.reading.specs.Signs.{Below, below, above}
+use Rattle.reading.proofs.Signs.{Below, below, above}
 use Rattle.station_number.specs.Fixed.{size_of}
 use borrow.Author.Rules.{rules}
 use Rattle.station_number.proofs.fixed.size_of.Statement.{statement}

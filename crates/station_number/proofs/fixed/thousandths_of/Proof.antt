@@ -7,7 +7,7 @@ use mir.ValLaws.{to_z-of_z}
 use mir.Syntax.{w32}
 use Rattle.station_number.specs.Fixed.{signed as signedBy}
 use Rattle.station_number.specs.Pattern.{pattern_size}
-use Rattle.station_number.specs.PatternLaws.{PatternOf, pattern_of}
+use Rattle.station_number.proofs.PatternLaws.{PatternOf, pattern_of}
 use borrow.Author.Rules.{rules}
 use Rattle.station_number.proofs.fixed.thousandths_of.Statement.{statement}
 use Rattle.station_number.proofs.fixed.thousandths_of.Tie as tie

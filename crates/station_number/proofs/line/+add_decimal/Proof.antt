@@ -5,8 +5,8 @@ use native.Mathlib.Omega.{arith}
 use lib.ListN.{length, length-append}
 use borrow.Author.Rules.{rules}
 use Rattle.event_text.specs.Line.{decimal}
-use Rattle.event_text.specs.LineLaws.{decimal_one, decimal_more, decimal_size}
-use Rattle.station_number.specs.PutsLaws.{puts_both}
+use Rattle.event_text.proofs.LineLaws.{decimal_one, decimal_more, decimal_size}
+use Rattle.station_number.proofs.PutsLaws.{puts_both}
 use borrow.Fn.Kinds.{In}
 use borrow.Fn.PlainCycle.{Measures, is, falls, and}
 use Rattle.station_number.proofs.line.add_decimal.Reads as add-decimal

@@ -1,4 +1,4 @@
-use Rattle.station_number.specs.PutsLaws.{puts_copied}
+use Rattle.station_number.proofs.PutsLaws.{puts_copied}
 use borrow.Author.Rules.{rules}
 use Rattle.station_number.proofs.line.add.Statement.{statement}
 use Rattle.station_number.proofs.line.add.Tie as tie

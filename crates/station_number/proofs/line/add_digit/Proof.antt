@@ -1,5 +1,5 @@
 use Prim.Native.Nat.{◌+◌}
-use Rattle.station_number.specs.PutsLaws.{puts_one}
+use Rattle.station_number.proofs.PutsLaws.{puts_one}
 use borrow.Author.Rules.{rules}
 use Rattle.station_number.proofs.line.add_digit.Statement.{statement}
 use Rattle.station_number.proofs.line.add_digit.Tie as tie

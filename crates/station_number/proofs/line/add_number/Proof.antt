@@ -3,7 +3,7 @@ use native.Mathlib.Omega.{arith}
 use mathlib.Core.Path.{refl}
 use lib.ListN.{length}
 use Rattle.event_text.specs.Line.{decimal}
-use Rattle.station_number.specs.PutsLaws.{puts_as, decimal_20}
+use Rattle.station_number.proofs.PutsLaws.{puts_as, decimal_20}
 use borrow.Author.Rules.{rules}
 use Rattle.station_number.proofs.line.add_number.Statement.{statement}
 use Rattle.station_number.proofs.line.add_number.Tie as tie

@@ -1,0 +1,4 @@
+pub mod Laws
+pub mod Outcome
+pub mod ReadBack
+pub mod Shape

@@ -1,0 +1,4 @@
+pub mod LineLaws
+pub mod DraftLaws
+pub mod Longest
+pub mod Cases

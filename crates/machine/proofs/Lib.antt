@@ -1,0 +1,17 @@
+pub mod TimelineLaws
+pub mod Purge
+pub mod InterleavingLaws
+pub mod RunLaws
+pub mod SimulationRelation
+pub mod SimulationHeader
+pub mod SimulationContent
+pub mod SimulationCalls
+pub mod Simulation
+pub mod Isolation
+pub mod IsolationPrefix
+pub mod Shuffled
+pub mod ShapeSlots
+pub mod ShapeHeader
+pub mod ShapeContent
+pub mod ShapeCalls
+pub mod ShapeKept

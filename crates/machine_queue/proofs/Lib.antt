@@ -1,0 +1,12 @@
+pub mod Appends
+pub mod AlikeRelation
+pub mod AlikeBytes
+pub mod AlikeCalls
+pub mod AlikeRuns
+pub mod AlikeItems
+pub mod AlikeSimulation
+pub mod IsolationWaiting
+pub mod Accounts
+pub mod Pumping
+pub mod Everywhere
+pub mod IdsBelow

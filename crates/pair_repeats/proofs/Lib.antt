@@ -1,0 +1,2 @@
+pub mod KeysLaws
+pub mod RepeatsLaws

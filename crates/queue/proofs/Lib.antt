@@ -1,0 +1,4 @@
+pub mod NumberLaws
+pub mod Areas
+pub mod ReplyLaws
+pub mod PumpTests

@@ -1,0 +1,3 @@
+pub mod AdmissionLaws
+pub mod BarredLaws
+pub mod StreamLaws

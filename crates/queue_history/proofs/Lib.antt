@@ -1,0 +1,3 @@
+pub mod HistoryCalls
+pub mod TurnEnds
+pub mod HistoryRuns

@@ -1,0 +1,14 @@
+pub mod QueuedLaws
+pub mod QueuedCalls
+pub mod QueuedServes
+pub mod QueuedAccounts
+pub mod Isolation
+pub mod TwoRuns
+pub mod Lift
+pub mod LiftRuns
+pub mod EndsRight
+pub mod Calm
+pub mod StillWaits
+pub mod KeptByBytes
+pub mod StraightSays
+pub mod Said

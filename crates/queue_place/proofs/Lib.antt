@@ -1,0 +1,2 @@
+pub mod LiesLaws
+pub mod BytesLaws

@@ -1,0 +1,12 @@
+pub mod AfterFinish
+pub mod NewPremises
+pub mod Premises
+pub mod TwoRuns
+pub mod Rows
+pub mod Changes
+pub mod Refusals
+pub mod Closing
+pub mod Final
+pub mod Closes
+pub mod Hygiene
+pub mod Lists

@@ -1,0 +1,4 @@
+pub mod Operations
+pub mod WholeRuns
+pub mod AnyCutting
+pub mod Isolation

@@ -1,0 +1,3 @@
+pub mod PositionWhole
+pub mod Laws
+pub mod Records

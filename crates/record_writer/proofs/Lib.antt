@@ -1,0 +1,3 @@
+pub mod WrittenLaws
+pub mod StreamLaws
+pub mod ReadBack

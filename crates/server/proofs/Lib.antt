@@ -1,0 +1,9 @@
+pub mod Cases
+pub mod CallCases
+pub mod Laws
+pub mod Stepping
+pub mod Cutting
+pub mod WrittenBytes
+pub mod Writing
+pub mod Meaning
+pub mod LetThrough
