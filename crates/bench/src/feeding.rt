@@ -15,7 +15,7 @@ use script::words::part;
 
 // What the steps told so far: where the line goes on, the last event on it, the bytes used by all steps together, and the
 // number of the refusal that ended them, or 0. A step that is `alone` puts its event after the bytes used.
-#[derive(Drop)]
+#[derive(Clone, Copy)]
 pub struct Tale {
     pub at: usize,
     pub event: ServerEvent,
@@ -25,7 +25,7 @@ pub struct Tale {
 }
 
 // The connection after the steps, and what they told.
-#[derive(Drop)]
+#[derive(Clone, Copy)]
 pub struct Fed {
     pub server: Server,
     pub tale: Tale,

@@ -2,7 +2,7 @@
 use fastcgi_server::{QUERY, Server, start_server};
 
 // The connection, whether there is a station, and the part of the inbox that was received from it and not yet read.
-#[derive(Drop)]
+#[derive(Clone, Copy)]
 pub struct State {
     pub server: Server,
     pub station: bool,

@@ -25,7 +25,7 @@ const CLOSED: u8 = 2;
 const OVER: u8 = 3;
 
 // What was received and not yet read, what the steps told, and why the waiting ends.
-#[derive(Drop)]
+#[derive(Clone, Copy)]
 struct Heard {
     fed: Fed,
     from: usize,
@@ -63,7 +63,7 @@ fn why_now(f: Fed, id: u64) -> u8 {
 }
 
 // A part of the inbox.
-#[derive(Drop)]
+#[derive(Clone, Copy)]
 struct Unread {
     from: usize,
     to: usize,

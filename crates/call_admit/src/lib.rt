@@ -11,7 +11,7 @@ use connection::state::{Conn, Slot};
 use slot_table::find_from;
 
 // The slot of the request that a call names, or why the call is refused.
-#[derive(Drop)]
+#[derive(Clone, Copy)]
 pub enum Admitted {
     At(usize),
     Refused(Refusal),

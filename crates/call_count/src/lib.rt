@@ -11,7 +11,7 @@ use connection::state::Conn;
 use slot_word::taken_count;
 
 // How many requests are active, or why the call is refused.
-#[derive(Drop)]
+#[derive(Clone, Copy)]
 pub enum Count {
     Active(u32),
     Refused(Refusal),

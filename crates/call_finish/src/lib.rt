@@ -21,14 +21,14 @@ use wire::clear;
 
 // What finish comes to: the bytes written, the connection still open; the bytes written, the connection closed; or
 // the refusal.
-#[derive(Drop)]
+#[derive(Clone, Copy)]
 pub enum FinishResult {
     Open(usize),
     Closed(usize),
     Refused(Refusal),
 }
 
-#[derive(Drop)]
+#[derive(Clone, Copy)]
 pub struct Finished {
     pub result: FinishResult,
     pub conn: Conn,

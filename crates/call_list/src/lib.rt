@@ -12,7 +12,7 @@ use connection::state::Conn;
 use request_state::{in_params, is_faulted};
 
 // Where the list of the request that a call names begins and ends in the store, or why the call is refused.
-#[derive(Drop)]
+#[derive(Clone, Copy)]
 pub enum Listed {
     At(usize, usize),
     Refused(Refusal),

@@ -12,7 +12,7 @@ use connection::state::Conn;
 use slot_table::request_at;
 
 // The request that a call names, or why the call is refused.
-#[derive(Drop)]
+#[derive(Clone, Copy)]
 pub enum RequestAnswer {
     Is(Request),
     Refused(Refusal),

@@ -30,7 +30,7 @@ use request_state::show_more;
 use wait_numbers::{keep_waits, waits_fit};
 
 // Whether a step goes on: yes; there is nothing to read; or it is refused.
-#[derive(Drop)]
+#[derive(Clone, Copy)]
 enum StepCheck {
     Read,
     Idle,

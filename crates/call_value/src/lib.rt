@@ -17,7 +17,7 @@ use pair_list::{Found, first_named, pair_number};
 use pairs::pair::Pair;
 
 // Where `value` finds its answer.
-#[derive(Drop)]
+#[derive(Clone, Copy)]
 pub enum Source {
     Store,
     Fallback,
@@ -25,7 +25,7 @@ pub enum Source {
 }
 
 // A pair, its places counted in the request's area.
-#[derive(Drop)]
+#[derive(Clone, Copy)]
 pub enum Numbered {
     Pair(Pair),
     Refused(Refusal),

@@ -17,7 +17,7 @@ use connection::state::Conn;
 use pairs::pair::{Pair, Read, read_pair};
 
 // The list, a place in it, and the number of the refusal, 0 for none. A refused walk holds no bytes.
-#[derive(Drop)]
+#[derive(Clone, Copy)]
 pub struct Walk<'a> {
     pub list: &'a [u8],
     pub place: usize,
@@ -115,7 +115,7 @@ fn read_on(c: Conn, store: &[u8], id: u16, place: usize) -> Read
 
 // What reading on from a place gives: a pair and the place after it, the end, a malformed pair and its place, or why
 // there is no walk.
-#[derive(Drop)]
+#[derive(Clone, Copy)]
 pub enum ReadFrom {
     Pair(Pair, usize),
     End,

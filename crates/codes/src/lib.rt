@@ -74,7 +74,7 @@ pub fn close_number(close: Close) -> u8
 }
 
 // The place that a fault or a close carries, if it does.
-#[derive(Drop)]
+#[derive(Clone, Copy)]
 pub enum Place {
     Nowhere,
     At(u16),

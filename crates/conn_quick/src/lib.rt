@@ -27,7 +27,7 @@ use slot_table::find_from;
 
 // What such a step comes to: the bytes used, what it tells, and the frame afterwards. No bytes are used where it is
 // none.
-#[derive(Drop)]
+#[derive(Clone, Copy)]
 pub struct Passed {
     pub used: usize,
     pub event: Event,
@@ -36,7 +36,7 @@ pub struct Passed {
 
 // The same of a step that shows content, with the slot that it is for, and what it is due to there: the bytes used are
 // counted.
-#[derive(Drop)]
+#[derive(Clone, Copy)]
 pub struct Showing {
     pub used: usize,
     pub event: Event,

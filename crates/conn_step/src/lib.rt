@@ -52,7 +52,7 @@ fn decide(
 }
 
 // All that a step comes to, in small values: the table stands in the one place where it is changed.
-#[derive(Drop)]
+#[derive(Clone, Copy)]
 struct Outcome {
     used: usize,
     result: StepResult,

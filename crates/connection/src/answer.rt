@@ -3,7 +3,7 @@ use crate::event::Event;
 use crate::state::Conn;
 
 // Why a call is refused, in the order of the table of refusals: 1 to 10. The last is for calls with a queue.
-#[derive(Drop)]
+#[derive(Clone, Copy)]
 pub enum Refusal {
     Closed,
     StoreSize,
@@ -18,34 +18,34 @@ pub enum Refusal {
 }
 
 // An output stream.
-#[derive(Drop)]
+#[derive(Clone, Copy)]
 pub enum Output {
     Stdout,
     Stderr,
 }
 
 // An open connection, or why the start is refused.
-#[derive(Drop)]
+#[derive(Clone, Copy)]
 pub enum StartResult {
     Open,
     Refused(Refusal),
 }
 
-#[derive(Drop)]
+#[derive(Clone, Copy)]
 pub struct Started {
     pub result: StartResult,
     pub conn: Conn,
 }
 
 // The event that a step tells, or why the step is refused.
-#[derive(Drop)]
+#[derive(Clone, Copy)]
 pub enum StepResult {
     Event(Event),
     Refused(Refusal),
 }
 
 // The bytes of the piece that a step used, what it tells, and the connection afterwards.
-#[derive(Drop)]
+#[derive(Clone, Copy)]
 pub struct Stepped {
     pub used: usize,
     pub result: StepResult,
@@ -53,13 +53,13 @@ pub struct Stepped {
 }
 
 // The bytes that a call wrote at the start of the lent buffer, or why it wrote none.
-#[derive(Drop)]
+#[derive(Clone, Copy)]
 pub enum Wrote {
     Bytes(usize),
     Refused(Refusal),
 }
 
-#[derive(Drop)]
+#[derive(Clone, Copy)]
 pub struct Written {
     pub wrote: Wrote,
     pub conn: Conn,

@@ -4,7 +4,7 @@ use crate::request::Request;
 use crate::state::Frame;
 
 // What becomes of the table: nothing, a slot's request changed, a free slot taken, or all of it freed.
-#[derive(Drop)]
+#[derive(Clone, Copy)]
 pub enum Change {
     Keep,
     Put(usize, Request),
@@ -12,7 +12,7 @@ pub enum Change {
     Close,
 }
 
-#[derive(Drop)]
+#[derive(Clone, Copy)]
 pub struct Decision {
     pub change: Change,
     pub frame: Frame,

@@ -4,7 +4,7 @@ use crate::sizes::SLOTS;
 use record_reader::Position;
 
 // The requests, slot by slot. Of the words bit i is for slot i: the marks of its request, and whether it is taken.
-#[derive(Drop)]
+#[derive(Clone, Copy)]
 pub struct Table {
     pub ids: [u16; SLOTS],
     pub lengths: [u16; SLOTS],
@@ -19,7 +19,7 @@ pub struct Table {
 }
 
 // What the content of the record being read is for: nothing, a request to be opened, a query, or the slot of a request.
-#[derive(Drop)]
+#[derive(Clone, Copy)]
 pub enum Target {
     Skip,
     Begin(u16),
@@ -31,7 +31,7 @@ pub enum Target {
 
 // The record being read: where the reader stands, what its content is for, and how many bytes of a body are
 // gathered. A BEGIN_REQUEST body is held here; a query lies in the 512 bytes that are lent beside the state.
-#[derive(Drop)]
+#[derive(Clone, Copy)]
 pub struct Frame {
     pub position: Position,
     pub target: Target,
@@ -39,7 +39,7 @@ pub struct Frame {
     pub body: [u8; 8],
 }
 
-#[derive(Drop)]
+#[derive(Clone, Copy)]
 pub struct Conn {
     pub table: Table,
     pub frame: Frame,
@@ -47,7 +47,7 @@ pub struct Conn {
 }
 
 // A slot found, or none.
-#[derive(Drop)]
+#[derive(Clone, Copy)]
 pub enum Slot {
     At(usize),
     Nowhere,

@@ -7,7 +7,7 @@ use script::said::put_refused;
 use wire::number_of_four;
 
 // A card, or bytes that are none.
-#[derive(Drop)]
+#[derive(Clone, Copy)]
 enum CardWord {
     Is(Card),
     Not,

@@ -15,7 +15,7 @@ use script::words::{last_part, part};
 
 // What the calls told so far: where the line goes on, the last event on it, the bytes used by all calls together, and
 // the number of the refusal that ended them, or 0. A call that is `alone` puts its event after the bytes used.
-#[derive(Drop)]
+#[derive(Clone, Copy)]
 struct Tale {
     at: usize,
     event: Event,
@@ -25,7 +25,7 @@ struct Tale {
 }
 
 // The connection after the calls, and what they told.
-#[derive(Drop)]
+#[derive(Clone, Copy)]
 struct Fed {
     conn: Conn,
     tale: Tale,

@@ -10,7 +10,7 @@ use script::said::put_refused;
 use script::words::part;
 
 // Where the line goes on, the bytes used so far, the number of the refusal or 0, and the reader.
-#[derive(Drop)]
+#[derive(Clone, Copy)]
 struct Tale {
     at: usize,
     used: usize,

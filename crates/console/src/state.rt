@@ -5,7 +5,7 @@ use fastcgi_queue::{Conn, Event, QUEUE, STORE};
 
 // The connection, the event of the last step that was not refused, how many bytes of the store and of the queue are
 // lent, and the reader of a body.
-#[derive(Drop)]
+#[derive(Clone, Copy)]
 pub struct State {
     pub conn: Conn,
     pub event: Event,

@@ -17,7 +17,7 @@ use script::said::{put_refusal, put_touched, put_wrote};
 use script::words::part;
 
 // The bytes written, of a finish with the connection left open or closed; or the number of the refusal.
-#[derive(Drop)]
+#[derive(Clone, Copy)]
 pub enum Effect {
     Bytes(usize),
     Open(usize),
@@ -26,7 +26,7 @@ pub enum Effect {
 }
 
 // What a call came to, and the connection after it.
-#[derive(Drop)]
+#[derive(Clone, Copy)]
 pub struct Called {
     pub effect: Effect,
     pub conn: Conn,

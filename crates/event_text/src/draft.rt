@@ -15,7 +15,7 @@ use wire::copy_into;
 pub const LONGEST: usize = 27;
 
 // The first n bytes are written.
-#[derive(Drop)]
+#[derive(Clone, Copy)]
 pub struct Draft {
     pub bytes: [u8; LONGEST],
     pub n: usize,

@@ -81,7 +81,7 @@ fn react(
 }
 
 // The connection after an event, and where the piece goes on.
-#[derive(Drop)]
+#[derive(Clone, Copy)]
 struct Heard {
     conn: Conn,
     from: usize,

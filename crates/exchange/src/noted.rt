@@ -9,7 +9,7 @@ pub const PLAIN: usize = usize::MAX;
 
 // What is still to be said to a request: so many lines, or PLAIN, and after them its complaint. The first `place` bytes
 // of what is being said, the line or the complaint, are said already.
-#[derive(Drop)]
+#[derive(Clone, Copy)]
 pub struct Entry {
     pub id: u16,
     pub lines: usize,

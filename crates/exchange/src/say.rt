@@ -13,7 +13,7 @@ const PART: usize = 256;
 const FAILED: u32 = 938;
 
 // The connection after a part, and whether another one can be tried.
-#[derive(Drop)]
+#[derive(Clone, Copy)]
 struct Said {
     conn: Conn,
     more: bool,

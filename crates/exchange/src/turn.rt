@@ -8,7 +8,7 @@ use libc::STDOUT_FILENO;
 pub const OUT: usize = SLOTS * PUMPED;
 
 // The connection after a turn, and whether another one may have something to write.
-#[derive(Drop)]
+#[derive(Clone, Copy)]
 pub struct Turned {
     pub conn: Conn,
     pub more: bool,

@@ -10,7 +10,7 @@ use digest::{mix, next_end};
 use fastcgi::{Conn, QUERY, start, step};
 
 // A connection, and the digest of what its steps told.
-#[derive(Drop)]
+#[derive(Clone, Copy)]
 struct Fed {
     conn: Conn,
     sum: u64,

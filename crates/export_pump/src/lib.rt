@@ -15,7 +15,7 @@ use std::num::wrapping_add_u64;
 const RECORDS: usize = 126;
 
 // The connection, and what was said and written so far: bytes of content, bytes of records, and a digest of these.
-#[derive(Drop)]
+#[derive(Clone, Copy)]
 struct Rounds {
     conn: Conn,
     content: u64,

@@ -9,7 +9,7 @@ use digest::{mix, next_end};
 use fastcgi_queue::{Conn, QUERY, WAITS, next_event, start};
 
 // How far an input is fed: the connection, the bytes used, where their piece ends, and the digest of what was told.
-#[derive(Drop)]
+#[derive(Clone, Copy)]
 struct Feed {
     conn: Conn,
     used: usize,

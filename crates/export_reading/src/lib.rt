@@ -19,7 +19,7 @@ fn read_some(buffer: &mut [u8]) -> usize
 }
 
 // The bytes of a buffer that are still to be gone through.
-#[derive(Drop)]
+#[derive(Clone, Copy)]
 struct Rest {
     from: usize,
     end: usize,

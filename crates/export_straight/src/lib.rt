@@ -8,7 +8,7 @@ use fastcgi_queue::{Conn, Output, QUERY, WAITS, Wrote, write_output};
 use std::num::wrapping_add_u64;
 
 // The connection, and what was said and written so far: bytes of content, bytes of records, and a digest of these.
-#[derive(Drop)]
+#[derive(Clone, Copy)]
 struct Rounds {
     conn: Conn,
     content: u64,

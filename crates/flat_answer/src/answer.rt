@@ -6,7 +6,7 @@ use flat_state::FlatState;
 
 // What `start` answers.
 #[repr(C)]
-#[derive(Drop)]
+#[derive(Clone, Copy)]
 pub struct FlatStarted {
     pub state: FlatState,
     pub refusal: u8,
@@ -14,7 +14,7 @@ pub struct FlatStarted {
 
 // What `step` and `next_event` answer: the bytes used, the event, the state afterwards.
 #[repr(C)]
-#[derive(Drop)]
+#[derive(Clone, Copy)]
 pub struct FlatStepped {
     pub used: usize,
     pub event: FlatEvent,
@@ -24,7 +24,7 @@ pub struct FlatStepped {
 
 // Where a value or a list lies in the store. `found` is 1 where there is one, 0 where no pair has the name.
 #[repr(C)]
-#[derive(Drop)]
+#[derive(Clone, Copy)]
 pub struct FlatPlace {
     pub offset: usize,
     pub length: usize,
@@ -35,7 +35,7 @@ pub struct FlatPlace {
 // A pair, its places counted in the request's list. `kind` is 1 for a pair, 2 for the end of the list, 3 for a pair
 // that cannot be read. `next` is the place after a pair that was read on to, or where the malformed one starts.
 #[repr(C)]
-#[derive(Drop)]
+#[derive(Clone, Copy)]
 pub struct FlatPair {
     pub name: usize,
     pub name_len: usize,
@@ -48,7 +48,7 @@ pub struct FlatPair {
 
 // What a request is.
 #[repr(C)]
-#[derive(Drop)]
+#[derive(Clone, Copy)]
 pub struct FlatRequest {
     pub stdin_shown: u32,
     pub data_shown: u32,
@@ -66,7 +66,7 @@ pub struct FlatRequest {
 
 // How many requests are active.
 #[repr(C)]
-#[derive(Drop)]
+#[derive(Clone, Copy)]
 pub struct FlatCount {
     pub count: u32,
     pub refusal: u8,
@@ -74,7 +74,7 @@ pub struct FlatCount {
 
 // What the calls answer by which output comes to wait.
 #[repr(C)]
-#[derive(Drop)]
+#[derive(Clone, Copy)]
 pub struct FlatQueued {
     pub state: FlatState,
     pub refusal: u8,
@@ -82,7 +82,7 @@ pub struct FlatQueued {
 
 // A turn of the pump: the records and the bytes that it wrote, and whether the connection is closed.
 #[repr(C)]
-#[derive(Drop)]
+#[derive(Clone, Copy)]
 pub struct FlatPumped {
     pub records: usize,
     pub written: usize,
@@ -93,7 +93,7 @@ pub struct FlatPumped {
 
 // Output that was written straight out.
 #[repr(C)]
-#[derive(Drop)]
+#[derive(Clone, Copy)]
 pub struct FlatWritten {
     pub written: usize,
     pub state: FlatState,
@@ -102,7 +102,7 @@ pub struct FlatWritten {
 
 // The end of a request written straight out, and whether the connection is closed.
 #[repr(C)]
-#[derive(Drop)]
+#[derive(Clone, Copy)]
 pub struct FlatFinished {
     pub written: usize,
     pub state: FlatState,
@@ -112,7 +112,7 @@ pub struct FlatFinished {
 
 // What the writers answer that take no connection.
 #[repr(C)]
-#[derive(Drop)]
+#[derive(Clone, Copy)]
 pub struct FlatWrote {
     pub written: usize,
     pub refusal: u8,

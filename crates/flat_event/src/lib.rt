@@ -23,7 +23,7 @@ use record::names;
 // The event as C holds it, without a gap between the fields. A usize is C's size_t; where that has eight bytes the
 // whole has 16, and none is unused. What an event does not tell is 0.
 #[repr(C)]
-#[derive(Drop)]
+#[derive(Clone, Copy)]
 pub struct FlatEvent {
     // The length of the list that is ready, or how many bytes are shown.
     pub count: usize,

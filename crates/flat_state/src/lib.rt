@@ -16,7 +16,7 @@ use record_reader::Position;
 // The state as C holds it. The fields stand from the widest to the narrowest, so that C leaves no gap between two of
 // them. A usize is C's size_t; where that has eight bytes the whole has 304, and the last two are unused.
 #[repr(C)]
-#[derive(Drop)]
+#[derive(Clone, Copy)]
 pub struct FlatState {
     // Where the reader stands: how much is left of the content and of the padding, and how many header bytes are in.
     pub content: usize,
@@ -53,7 +53,7 @@ pub struct FlatState {
 }
 
 // How the requests stand, slot by slot, as numbers.
-#[derive(Drop)]
+#[derive(Clone, Copy)]
 struct Codes {
     roles: [u8; SLOTS],
     turns: [u8; SLOTS],

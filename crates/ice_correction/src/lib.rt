@@ -9,21 +9,21 @@ ghost use Rattle.ice_correction.specs.Correction.{corrected, fault_number, answe
 use reading::{sent_fits, sent_of};
 
 // What a card corrects by: thawed, an offset; frozen, a slope and an offset.
-#[derive(Drop)]
+#[derive(Clone, Copy)]
 pub enum Curve {
     Thawed(f64),
     Frozen(f64, f64),
 }
 
 // A calibration card.
-#[derive(Drop)]
+#[derive(Clone, Copy)]
 pub struct Card {
     pub serial: u32,
     pub curve: Curve,
 }
 
 // A station's calibration: one card of each kind.
-#[derive(Drop)]
+#[derive(Clone, Copy)]
 pub struct Calibration {
     pub thawed: Card,
     pub frozen: Card,
@@ -31,7 +31,7 @@ pub struct Calibration {
 
 // Why nothing is corrected: a raw count over 65,535; a temperature outside -600 to 400 tenths; a card of the wrong kind;
 // a card with a float that is not finite or lies outside -1,000 to 1,000.
-#[derive(Drop)]
+#[derive(Clone, Copy)]
 pub enum CorrectionFault {
     RawCount,
     Temperature,
@@ -39,7 +39,7 @@ pub enum CorrectionFault {
     CardFloat,
 }
 
-#[derive(Drop)]
+#[derive(Clone, Copy)]
 pub enum Corrected {
     Count(f64),
     Refused(CorrectionFault),

@@ -51,7 +51,7 @@ fn asked_id() -> u32 {
 }
 
 // What a call used and wrote. (No call is refused here: a start that is refused ends the program.)
-#[derive(Drop)]
+#[derive(Clone, Copy)]
 struct Moves {
     used: usize,
     written: usize,
@@ -119,7 +119,7 @@ fn next_place(m: Moves, at: usize, room: usize) -> usize
 }
 
 // A lift, and whether its copy could be written so far.
-#[derive(Drop)]
+#[derive(Clone, Copy)]
 struct Run {
     lift: Lift,
     whole: bool,
@@ -170,7 +170,7 @@ fn lift_piece(
 }
 
 // A run, and whether there may be more to read.
-#[derive(Drop)]
+#[derive(Clone, Copy)]
 struct ReadOn {
     run: Run,
     more: bool,

@@ -66,7 +66,7 @@ pub fn start_lift(store: &mut [u8], gathered: &mut [u8; QUERY], id: u16) -> Lift
 }
 
 // What a call comes to, in small values: the state stands in the one place where it is put together.
-#[derive(Drop)]
+#[derive(Clone, Copy)]
 struct Outcome {
     marks: Marks,
     result: LiftResult,

@@ -10,13 +10,13 @@ use connection::event::Close;
 use connection::state::Conn;
 
 // Why the replay closed, if it did.
-#[derive(Drop)]
+#[derive(Clone, Copy)]
 pub enum Closing {
     Open,
     By(Close),
 }
 
-#[derive(Drop)]
+#[derive(Clone, Copy)]
 pub struct Lift {
     // the receiver that the capture is replayed to
     pub conn: Conn,
@@ -36,7 +36,7 @@ pub struct Lift {
 }
 
 // What a capture is.
-#[derive(Drop)]
+#[derive(Clone, Copy)]
 pub enum Verdict {
     // It ends between two records.
     Clean,
@@ -47,7 +47,7 @@ pub enum Verdict {
 }
 
 // A fresh lift, or why the start is refused.
-#[derive(Drop)]
+#[derive(Clone, Copy)]
 pub struct LiftStarted {
     pub result: StartResult,
     pub lift: Lift,
@@ -55,13 +55,13 @@ pub struct LiftStarted {
 
 // The bytes of the piece that a call used and those that it wrote at the start of the lent buffer, or why it is
 // refused.
-#[derive(Drop)]
+#[derive(Clone, Copy)]
 pub enum LiftResult {
     Moved { used: usize, written: usize },
     Refused(Refusal),
 }
 
-#[derive(Drop)]
+#[derive(Clone, Copy)]
 pub struct Lifted {
     pub lift: Lift,
     pub result: LiftResult,

@@ -17,7 +17,7 @@ use record_reader::Position;
 use wire::{copy_into, least, number_of_two};
 
 // All fields of a lift but the receiver and the id, which bytes do not change by themselves.
-#[derive(Drop)]
+#[derive(Clone, Copy)]
 pub struct Marks {
     pub begun: bool,
     pub copied: bool,

@@ -7,7 +7,7 @@ use connection::answer::{Refusal, StepResult};
 use wire::least;
 
 // The call is refused; it writes a header that waits; it stands, after a close; or it reads on.
-#[derive(Drop)]
+#[derive(Clone, Copy)]
 pub enum Way {
     Refused(Refusal),
     Header,

@@ -8,13 +8,13 @@ use pairs::pair::{Pair, Read, read_pair};
 use wire::same;
 
 // How a list ends: with its bytes used up, or before a pair that cannot be read, which starts at a place.
-#[derive(Drop)]
+#[derive(Clone, Copy)]
 pub enum Ending {
     End,
     Malformed(usize),
 }
 
-#[derive(Drop)]
+#[derive(Clone, Copy)]
 pub enum Found {
     At(Pair),
     Nothing,

@@ -9,7 +9,7 @@ ghost use Rattle.pair_writer.specs.Write.{answered, pair_written};
 use wire::copy_into;
 
 // The bytes written; or the refusals 8, name or value over 65,535 bytes, and 6, the buffer too short.
-#[derive(Drop)]
+#[derive(Clone, Copy)]
 pub enum PairWrote {
     Bytes(usize),
     TooLong,
@@ -17,7 +17,7 @@ pub enum PairWrote {
 }
 
 // Both lengths of a pair as they are written: the first `count` of these bytes.
-#[derive(Drop)]
+#[derive(Clone, Copy)]
 pub struct LengthFields {
     pub bytes: [u8; 8],
     pub count: usize,

@@ -5,7 +5,7 @@ ghost use Rattle.pairs.specs.Length.{four_at, length_at};
 use wire::number_of_four;
 
 // A length and the cursor after it, or none that can be read.
-#[derive(Drop)]
+#[derive(Clone, Copy)]
 pub enum Length {
     Is(usize, usize),
     Malformed,

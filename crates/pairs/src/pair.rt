@@ -5,7 +5,7 @@ ghost use Rattle.pairs.specs.Pair.{pair_at};
 use crate::length::{Length, read_length};
 
 // Where a pair's name and value lie in its list, and how long they are.
-#[derive(Drop)]
+#[derive(Clone, Copy)]
 pub struct Pair {
     pub name: usize,
     pub name_len: usize,
@@ -15,7 +15,7 @@ pub struct Pair {
 
 // What is read at a cursor: a pair and the cursor after it; the end of the list; or a pair that cannot be
 // read, and the place where it starts.
-#[derive(Drop)]
+#[derive(Clone, Copy)]
 pub enum Read {
     Pair(Pair, usize),
     End,

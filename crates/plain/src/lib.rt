@@ -18,7 +18,7 @@ use connection::event::{Close, Event, Stream};
 use wire::{least, number_of_two};
 
 // The last word: open between two records, cut inside one, or closed.
-#[derive(Drop)]
+#[derive(Clone, Copy)]
 pub enum LastWord {
     Open,
     Cut,
@@ -27,7 +27,7 @@ pub enum LastWord {
 
 // What is asked for by number: an event or a byte of data, or past the last of them the last word. A close is a last
 // word and no event.
-#[derive(Drop)]
+#[derive(Clone, Copy)]
 pub enum Answer {
     Event(Event),
     Byte { id: u16, stream: Stream, byte: u8 },
@@ -36,14 +36,14 @@ pub enum Answer {
 
 // After a record: the answer, or the next record, `size` bytes on, with `left` events still to pass before the one
 // that is asked for.
-#[derive(Drop)]
+#[derive(Clone, Copy)]
 enum Next {
     Answer(Answer),
     Record { size: usize, left: usize },
 }
 
 // The requests after a record, and what comes next.
-#[derive(Drop)]
+#[derive(Clone, Copy)]
 struct Heard {
     table: Table,
     next: Next,

@@ -16,7 +16,7 @@ use pair_repeats::list_repeats;
 use stated_length::{Stated, stated_in};
 
 // The entry after a record, by how many bytes of the content its list grows, and what the record tells.
-#[derive(Drop)]
+#[derive(Clone, Copy)]
 pub struct Change {
     pub after: Entry,
     pub kept: usize,

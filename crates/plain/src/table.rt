@@ -24,7 +24,7 @@ pub const ENTRIES: usize = 16;
 pub const AREA: usize = 4096;
 
 // An active request.
-#[derive(Drop)]
+#[derive(Clone, Copy)]
 pub struct Entry {
     pub id: u16,
     pub role: u16,
@@ -38,7 +38,7 @@ pub struct Entry {
     pub shown: usize,
 }
 
-#[derive(Drop)]
+#[derive(Clone, Copy)]
 pub struct Table {
     pub entries: [Entry; ENTRIES],
     // So many of them are taken, the first ones.
@@ -46,7 +46,7 @@ pub struct Table {
 }
 
 // What a record tells: nothing, an event, each byte of its content, or that the connection closes.
-#[derive(Drop)]
+#[derive(Clone, Copy)]
 pub enum Tells {
     Nothing,
     Event(Event),
@@ -55,7 +55,7 @@ pub enum Tells {
 }
 
 // What a record comes to: the table after it, and what it tells.
-#[derive(Drop)]
+#[derive(Clone, Copy)]
 pub struct Said {
     pub table: Table,
     pub tells: Tells,

@@ -3,13 +3,13 @@ use connection::answer::Refusal;
 use connection::state::Conn;
 
 // What was said waits, or why the call is refused.
-#[derive(Drop)]
+#[derive(Clone, Copy)]
 pub enum Queued {
     Waits,
     Refused(Refusal),
 }
 
-#[derive(Drop)]
+#[derive(Clone, Copy)]
 pub struct Queueing {
     pub result: Queued,
     pub conn: Conn,
@@ -17,14 +17,14 @@ pub struct Queueing {
 
 // What a turn of the pump comes to: the records and the bytes that it wrote, the connection still open; the same, the
 // connection closed; or the refusal.
-#[derive(Drop)]
+#[derive(Clone, Copy)]
 pub enum PumpResult {
     Open { records: usize, bytes: usize },
     Closed { records: usize, bytes: usize },
     Refused(Refusal),
 }
 
-#[derive(Drop)]
+#[derive(Clone, Copy)]
 pub struct Pumped {
     pub result: PumpResult,
     pub conn: Conn,

@@ -14,7 +14,7 @@ use queue::sizes::WAITS;
 use queue_admit::is_barred;
 
 // So many bytes from a byte of the store on; nothing, where no pair has the name; or why the call is refused.
-#[derive(Drop)]
+#[derive(Clone, Copy)]
 pub enum Place {
     At(usize, usize),
     Nothing,

@@ -140,7 +140,7 @@ fn serve_front(
 }
 
 // What serving a slot comes to: the connection, and the place after the record.
-#[derive(Drop)]
+#[derive(Clone, Copy)]
 struct One {
     conn: Conn,
     next: usize,
@@ -222,7 +222,7 @@ fn serve_slot(
 
 // A turn on its way: the connection, the records and bytes written, and how many records are still allowed, which is
 // none once nothing waits.
-#[derive(Drop)]
+#[derive(Clone, Copy)]
 struct Turning {
     conn: Conn,
     records: usize,

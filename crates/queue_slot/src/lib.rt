@@ -2,7 +2,7 @@
 #![tactic(auto)]
 
 // Ends of output streams that wait in one place, in their order.
-#[derive(Drop)]
+#[derive(Clone, Copy)]
 pub enum Ends {
     None,
     Out,
@@ -13,7 +13,7 @@ pub enum Ends {
 
 // The numbers of a slot: how many data bytes wait, the ends that wait before all of them, whether END waits, and its
 // application status.
-#[derive(Drop)]
+#[derive(Clone, Copy)]
 pub struct Numbers {
     pub count: usize,
     pub front: Ends,

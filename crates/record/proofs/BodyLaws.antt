@@ -1,12 +1,7 @@
 -- What holds of the bodies of eight bytes.
-use Rattle.std.specs.Prelude.{ℕ, ◌%◌, ◌<◌, ◌≡◌, refl, Bool, true, false, List, ◌∷◌, ◌++◌, length}
+use Rattle.std.specs.Prelude.{ℕ, ◌%◌, ◌<◌, ◌≡◌, refl, Bool, true, false, List, ◌∷◌, length}
 use Rattle.std.proofs.Common.{arith}
-use Rattle.wire.specs.Test.{if◌then◌else◌, ◌=?◌}
-use Rattle.wire.specs.Number.{number2, number4, bytes2, bytes4, number2_bytes, number4_bytes}
-use Rattle.wire.specs.Buffer.{byte_at, zeros}
-use Rattle.record.specs.Names.{KEEP_CONN}
-use Rattle.record.specs.declared.body.BeginBody.{BeginBody}
-use Rattle.record.specs.declared.body.EndBody.{EndBody}
+use Rattle.wire.specs.Number.{number2_bytes, number4_bytes}
 use Rattle.record.specs.Body.{begin_body_of, end_body_of, unknown_type_of, begin_body_bytes, end_body_bytes, unknown_type_bytes}
 
 -- What is written reads back.

@@ -9,7 +9,7 @@ use crate::names;
 use wire::{number_of_four, number_of_two};
 
 // What a BEGIN_REQUEST body says: the role, and whether the connection is kept.
-#[derive(Drop)]
+#[derive(Clone, Copy)]
 pub struct BeginBody {
     pub role: u16,
     pub keep: bool,
@@ -25,7 +25,7 @@ pub fn read_begin_body(bytes: [u8; 8]) -> BeginBody
 }
 
 // What an END_REQUEST body says: the application's status and the protocol's.
-#[derive(Drop)]
+#[derive(Clone, Copy)]
 pub struct EndBody {
     pub app_status: u32,
     pub protocol_status: u8,

@@ -6,7 +6,7 @@ use crate::names;
 use wire::number_of_two;
 
 // What a header says. (`kind` is the record's type; the reserved byte says nothing.)
-#[derive(Drop)]
+#[derive(Clone, Copy)]
 pub struct Header {
     pub version: u8,
     pub kind: u8,

@@ -9,7 +9,7 @@ use wire::{copy_into, least};
 
 // So many bytes are left of a record's content, then so many of its padding; with nothing left of either, the
 // reader stands in the next header, of which the first `held` bytes are in.
-#[derive(Drop)]
+#[derive(Clone, Copy)]
 pub struct Position {
     pub content: usize,
     pub padding: usize,
@@ -18,7 +18,7 @@ pub struct Position {
 }
 
 // What the bytes used were: content, padding, a part of a header, or a part that made it whole.
-#[derive(Drop)]
+#[derive(Clone, Copy)]
 pub enum Phase {
     Content,
     Padding,
@@ -26,7 +26,7 @@ pub enum Phase {
     Whole(Header),
 }
 
-#[derive(Drop)]
+#[derive(Clone, Copy)]
 pub struct Advanced {
     pub used: usize,
     pub phase: Phase,

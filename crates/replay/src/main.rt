@@ -60,7 +60,7 @@ fn show(out: &mut [u8], at: usize, e: Event, used: &[u8]) -> usize {
 }
 
 // A connection, and the place of the next line.
-#[derive(Drop)]
+#[derive(Clone, Copy)]
 struct Replay {
     conn: Conn,
     at: usize,
@@ -114,7 +114,7 @@ fn stop(c: Conn) {
 }
 
 // A replay, and whether there may be more to read.
-#[derive(Drop)]
+#[derive(Clone, Copy)]
 struct ReadOn {
     replay: Replay,
     more: bool,

@@ -13,7 +13,7 @@ use request_state::{with_life, with_shown, with_turn};
 use wire::clear;
 
 // What a header does to its request: the request afterwards, where its content goes, and the event.
-#[derive(Drop)]
+#[derive(Clone, Copy)]
 pub struct Ruling {
     pub request: Request,
     pub due: Due,

@@ -21,7 +21,7 @@ use stated_length::{Stated, stated_in};
 use wire::{copy_into, least};
 
 // What the end of PARAMS comes to.
-#[derive(Drop)]
+#[derive(Clone, Copy)]
 enum ParamsEnd {
     Ready,
     Fault(Fault),

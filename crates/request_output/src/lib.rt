@@ -14,14 +14,14 @@ use record_writer::{record_fits, stream_fits, write_record, write_stream};
 use request_state::{in_params, is_spent};
 
 // Whether a request's own rows let a call through.
-#[derive(Drop)]
+#[derive(Clone, Copy)]
 pub enum Check {
     Passed,
     Refused(Refusal),
 }
 
 // What was written, and the request afterwards.
-#[derive(Drop)]
+#[derive(Clone, Copy)]
 pub struct Said {
     pub wrote: Wrote,
     pub request: Request,

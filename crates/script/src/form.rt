@@ -14,7 +14,7 @@ pub const BYTES: usize = 70000;
 pub const UNKNOWN: u64 = 99;
 
 // Which name the line begins with, and its arguments.
-#[derive(Drop)]
+#[derive(Clone, Copy)]
 pub struct Form {
     pub kind: u64,
     pub values: [u64; 4],

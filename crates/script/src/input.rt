@@ -9,7 +9,7 @@ pub const LINE: usize = 140000;
 
 // What was read of the input and not cut into lines yet lies in a buffer between two places. Of the line that is being
 // cut so many characters are held, LINE + 1 of one that is too long. `more` says that the line is there.
-#[derive(Drop)]
+#[derive(Clone, Copy)]
 pub struct Input {
     pub from: usize,
     pub to: usize,

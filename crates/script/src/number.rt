@@ -1,7 +1,7 @@
 // Numbers in decimal.
 
 // A number, or no number that its place takes.
-#[derive(Drop)]
+#[derive(Clone, Copy)]
 pub enum Number {
     Is(u64),
     Not,

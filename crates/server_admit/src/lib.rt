@@ -13,14 +13,14 @@ use server_check::in_shape;
 use slot_table::find_from;
 
 // Whether rows let a call through, or which of them refuses it.
-#[derive(Drop)]
+#[derive(Clone, Copy)]
 pub enum Checked {
     Passed,
     Refused(ServerRefusal),
 }
 
 // The slot of the request that a call names, or why the call is refused.
-#[derive(Drop)]
+#[derive(Clone, Copy)]
 pub enum Admitted {
     At(usize),
     Refused(ServerRefusal),

@@ -27,7 +27,7 @@ use slot_word::is_taken;
 
 // The words of a table that a header is judged by: the slots that are taken, those whose STDOUT is ended, those whose
 // STDERR is.
-#[derive(Drop)]
+#[derive(Clone, Copy)]
 pub struct Words {
     pub occupied: u16,
     pub out_ended: u16,
@@ -35,7 +35,7 @@ pub struct Words {
 }
 
 // Whom a record is for: the connection, the request of a slot, or nobody that is known here.
-#[derive(Drop)]
+#[derive(Clone, Copy)]
 enum Owner {
     Connection,
     Request(usize),
@@ -43,14 +43,14 @@ enum Owner {
 }
 
 // Whether a header comes through rows 51 to 53.
-#[derive(Drop)]
+#[derive(Clone, Copy)]
 enum HeaderCheck {
     Passed,
     Closed(ServerClose),
 }
 
 // What a record of output is: too late, the end of its stream, or content to show.
-#[derive(Drop)]
+#[derive(Clone, Copy)]
 enum OutputRow {
     TooLate,
     Ends,

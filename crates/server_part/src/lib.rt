@@ -22,7 +22,7 @@ use server::answer::{ServerRefusal, ServerWrote};
 use server::state::Input;
 
 // What was written, and the request afterwards.
-#[derive(Drop)]
+#[derive(Clone, Copy)]
 pub struct Said {
     pub wrote: ServerWrote,
     pub request: Request,

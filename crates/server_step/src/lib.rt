@@ -30,7 +30,7 @@ use slot_table::{free_request, no_requests};
 use slot_word::mark_slot;
 
 // Whether a step is refused, has nothing to read, or reads.
-#[derive(Drop)]
+#[derive(Clone, Copy)]
 enum StepCheck {
     Refused(ServerRefusal),
     Idle,
@@ -38,7 +38,7 @@ enum StepCheck {
 }
 
 // All that a step comes to, in small values: the table stands in the one place where it is changed.
-#[derive(Drop)]
+#[derive(Clone, Copy)]
 struct Outcome {
     used: usize,
     result: ServerResult,

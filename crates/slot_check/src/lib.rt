@@ -38,7 +38,7 @@ fn key_if(taken: bool, id: u16) -> u16
 }
 
 // Keys twice over: after the last comes the first again. And whether a slot is taken whose key is 0.
-#[derive(Drop)]
+#[derive(Clone, Copy)]
 struct Keys {
     keys: [u16; 32],
     nameless: bool,

@@ -9,7 +9,7 @@ use decimal::{Decimal, read_decimal};
 use pair_list::{Found, first_named};
 
 // A stated length, or none.
-#[derive(Drop)]
+#[derive(Clone, Copy)]
 pub enum Stated {
     Length(u32),
     Unstated,

@@ -10,7 +10,7 @@ use station_work::{CHAINS, PART, POOL, Stage, fill, go_on, stage_of, strike, wan
 use wire::same;
 
 // The connection after a part, and whether another one can be tried.
-#[derive(Drop)]
+#[derive(Clone, Copy)]
 struct Said {
     conn: Conn,
     more: bool,

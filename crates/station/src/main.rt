@@ -21,7 +21,7 @@ use station_work::{CHAINS, POOL, free_all, hear};
 use turn::{OUT, Turned, go_round, send};
 
 // The connection after an event, and where the piece goes on.
-#[derive(Drop)]
+#[derive(Clone, Copy)]
 struct Heard {
     conn: Conn,
     from: usize,

@@ -9,7 +9,7 @@ use station_work::{CHAINS, POOL};
 pub const OUT: usize = SLOTS * PUMPED;
 
 // The connection after a turn, and whether another one may have something to write.
-#[derive(Drop)]
+#[derive(Clone, Copy)]
 pub struct Turned {
     pub conn: Conn,
     pub more: bool,

@@ -22,7 +22,7 @@ pub const CHAINS: usize = BLOCKS + 1;
 
 // A body: the first and the last block of its chain, and how many bytes it has. Where `fits` is false, no block was
 // left.
-#[derive(Drop)]
+#[derive(Clone, Copy)]
 pub struct Body {
     pub first: usize,
     pub last: usize,

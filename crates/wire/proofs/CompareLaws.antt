@@ -1,5 +1,5 @@
 -- What holds of names compared.
-use Rattle.std.specs.Prelude.{◌≡◌, refl, ℕ, suc, ◌+◌, ◌<◌, ◌≤◌, Bool, true, false, List, [], ◌∷◌, length, drop}
+use Rattle.std.specs.Prelude.{◌≡◌, refl, ℕ, suc, ◌+◌, ◌<◌, ◌≤◌, true, false, List, [], ◌∷◌, length, drop}
 use Rattle.std.proofs.Common.{ap, ap₂, arith, add-one, zero-add, add-zero, drop_of_length-le, drop-cons, eqb-true, eq-eqb, ne_eqb}
 use Rattle.wire.specs.declared.Compared.{Compared}
 use Rattle.wire.specs.Test.{if◌then◌else◌, ◌=?◌, byTest}

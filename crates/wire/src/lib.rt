@@ -70,7 +70,7 @@ pub fn least(a: usize, b: usize) -> usize
 }
 
 // What a comparison finds: whether the names are equal, and how many places were compared.
-#[derive(Drop)]
+#[derive(Clone, Copy)]
 pub struct Compared {
     pub equal: bool,
     pub places: usize,

@@ -1,0 +1,54 @@
+use mathlib.Core.Path.{◌≡◌, refl, sym, ap, ◌∙◌}
+use Prim.Native.Nat.{◌-◌}
+use native.Mathlib.Omega.{arith}
+use mathlib.Core.Logic.{⊎_elim}
+use borrow.Author.Rules.{rules}
+use lib.ListN.{length}
+use Rattle.pairs.specs.declared.pair.Read.{Read}
+use Rattle.pairs.specs.Pair.{pair_at}
+use Rattle.pair_list.specs.List.{Pairs, pairs_from, first_in, first_from}
+use Rattle.pairs.proofs.PairLaws.{PairIn, pair_in_lem}
+use Rattle.pair_list.proofs.ListLaws.{pairs_end, pairs_none, first_next}
+use Rattle.pair_list.proofs.first_from.Goals as goal
+
+-- the pair that was read
+read : (c : tie.After-read invariant-loop decreases-loop)
+    → pair_at c.before.before.before.before.before.before.before.args.list.now c.before.before.before.before.loop.at ≡ Read.Pair c.read.given.0.0 c.read.given.0.1.0
+read c = sym c.before.before.read-pair.ensures ∙ c.read.given.1
+
+is_in_lem : (c : tie.After-read invariant-loop decreases-loop)
+    → PairIn c.before.before.before.before.before.before.before.args.list.now c.before.before.before.before.loop.at c.read.given.0.0 c.read.given.0.1.0
+is_in_lem c = pair_in_lem _ _ _ _ (read c)
+
+pub returns-in_default : goal.returns-in_default
+unfolding first_from first_in
+returns-in_default c =
+    let a = c.args in
+    let s = a.list.now in
+    let e = pairs_none s c.loop-at.at (omega arith) (λ p next e. ⊎_elim (λ w. omega arith) (λ w. omega arith) (rw (c.read_pair-read.ensures ∙ e) at c.in-Pair.keys2)) in
+    sym (c.loop-at.invariant ∙ ap (λ (ps : Pairs). first_in s a.name.now ps.pairs) e)
+
+pub slice_bounds-same-count : goal.slice_bounds-same-count
+slice_bounds-same-count c = omega (arith, is_in_lem c)
+
+pub returns-then-same : goal.returns-then-same
+unfolding first_from
+returns-then-same c =
+    let a = c.args in
+    let e = c.loop-at.invariant ∙ first_next a.list.now a.name.now c.loop-at.at _ _ (read c) in
+    sym (e ∙ simp (← c.same.ensures, c.if-same.true))
+
+pub loop-at-smaller : goal.loop-at-smaller
+loop-at-smaller c = omega (arith, is_in_lem c)
+
+pub loop-at-preserved : goal.loop-at-preserved
+loop-at-preserved c =
+    let a = c.args in
+    let e = c.loop-at.invariant ∙ first_next a.list.now a.name.now c.loop-at.at _ _ (read c) in
+    e ∙ simp (← c.same.ensures, c.if-same.false)
+
+pub returns : goal.returns
+unfolding first_from first_in
+returns c =
+    let a = c.args in
+    sym (c.loop-at.invariant ∙ ap (λ (ps : Pairs). first_in a.list.now a.name.now ps.pairs) (pairs_end a.list.now c.loop-at.at (omega arith)))

@@ -1,0 +1,50 @@
+use mathlib.Core.Path.{◌≡◌, refl, sym, ap, ◌∙◌}
+use Prim.Native.Nat.{◌≤◌, ◌-◌}
+use native.Mathlib.Omega.{arith}
+use mathlib.Core.Logic.{⊎_elim}
+use borrow.Author.Rules.{rules}
+use borrow.Author.Tests.{eq-eqb, ne_eqb}
+use lib.ListN.{length}
+use Rattle.pairs.specs.declared.pair.Read.{Read}
+use Rattle.pairs.specs.Pair.{pair_at}
+use Rattle.pair_list.specs.List.{Pairs, pairs_from, number_in, pair_number}
+use Rattle.pairs.proofs.PairLaws.{PairIn, pair_in_lem}
+use Rattle.pair_list.proofs.ListLaws.{pairs_end, pairs_none, number_next}
+use Rattle.pair_list.proofs.pair_number.Goals as goal
+
+-- the pair that was read
+read : (c : tie.After-read invariant-loop decreases-loop)
+    → pair_at c.before.before.before.before.before.before.args.list.now c.before.before.before.before.loop.at ≡ Read.Pair c.read.given.0.0 c.read.given.0.1.0
+read c = sym c.before.before.read-pair.ensures ∙ c.read.given.1
+
+is_in_lem : (c : tie.After-read invariant-loop decreases-loop)
+    → PairIn c.before.before.before.before.before.before.args.list.now c.before.before.before.before.loop.at c.read.given.0.0 c.read.given.0.1.0
+is_in_lem c = pair_in_lem _ _ _ _ (read c)
+
+pub loop-at-init : goal.loop-at-init
+loop-at-init c = (omega arith, refl)
+
+pub returns-in_default : goal.returns-in_default
+unfolding pair_number number_in
+returns-in_default c =
+    let s = c.args.list.now in
+    let e = pairs_none s c.loop-at.at (omega arith) (λ p next e. ⊎_elim (λ w. omega arith) (λ w. omega arith) (rw (c.read_pair-read.ensures ∙ e) at c.in-Pair.keys2)) in
+    sym (c.loop-at.invariant.1 ∙ ap (λ (ps : Pairs). number_in ps.pairs c.loop-at.left) e)
+
+pub returns-then-left-eq0 : goal.returns-then-left-eq0
+unfolding pair_number
+returns-then-left-eq0 c =
+    let e = c.loop-at.invariant.1 ∙ number_next c.args.list.now c.loop-at.left c.loop-at.at _ _ (read c) in
+    sym (e ∙ simp (eq-eqb _ _ c.if-left-eq0.true))
+
+pub loop-at-smaller : goal.loop-at-smaller
+loop-at-smaller c = omega (arith, is_in_lem c)
+
+pub loop-at-preserved : goal.loop-at-preserved
+loop-at-preserved c =
+    let e = c.loop-at.invariant.1 ∙ number_next c.args.list.now c.loop-at.left c.loop-at.at _ _ (read c) in
+    ((is_in_lem c).within, e ∙ simp (ne_eqb _ _ c.if-left-eq0.false))
+
+pub returns : goal.returns
+unfolding pair_number number_in
+returns c = sym (c.loop-at.invariant.1 ∙ ap (λ (ps : Pairs). number_in ps.pairs c.loop-at.left) (pairs_end c.args.list.now c.loop-at.at (omega arith)))
