@@ -46,7 +46,7 @@ wider n ids occupied id i k h = record { low = omega arith; high = omega arith; 
 -- an id of the list has a slot
 mem_holds : (n : ℕ) (ids : List ℕ) (occupied id i : ℕ) → Memᴰ id (active_from n ids occupied i) → (k : ℕ) × HoldsFrom n ids occupied id i k
 unfolding active_from
-mem_holds zero ids occupied id i m = absurd (Memᴰ.not_nil m)
+mem_holds zero ids occupied id i m = absurd (Memᴰ.not-nil m)
 mem_holds (suc n) ids occupied id i m =
     byTest (taken i occupied)
     (λ t. ⊎_elim (first t) (λ r. behind (mem_holds n ids occupied id (i + 1) r)) (Memᴰ.cases_cons (simp t at m)))

@@ -1,6 +1,6 @@
 -- What the loop over the digits keeps: the value of all digits is that of the ones left, after those read.
-use Rattle.std.specs.Prelude.{ℕ, zero, suc, ◌+◌, ◌*◌, ◌≤◌, ◌<◌, ◌≡◌, refl, true, false, List, [], length, drop, get_or, ltb}
-use Rattle.std.proofs.Common.{ap, ◌∙◌, arith, drop_of_length-le, drop-cons, ltb-false, leb-true}
+use Rattle.std.specs.Prelude.{ℕ, zero, suc, ◌+◌, ◌*◌, ◌≤◌, ◌<◌, ◌≡◌, refl, true, false, List, length, drop, get_or, ltb}
+use Rattle.std.proofs.Common.{arith, drop_of_length-le, drop-cons, ltb-false, leb-true}
 use Rattle.std.proofs.Math.Option.{none, some}
 use Rattle.wire.specs.Test.{byTest}
 use Rattle.decimal.specs.Decimal.{is_digit, digit_value, digits_after}

@@ -1,5 +1,5 @@
 -- Numbers written in decimal digits, as the text of a parameter has them.
-use Rattle.std.specs.Prelude.{ℕ, ◌+◌, ◌*◌, ◌-◌, Bool, true, false, List, [], ◌∷◌, length}
+use Rattle.std.specs.Prelude.{ℕ, ◌+◌, ◌*◌, ◌-◌, Bool, false, List, [], ◌∷◌, length}
 use Rattle.std.proofs.Math.Option.{Option, none, some}
 use Rattle.wire.specs.Test.{if◌then◌else◌, ◌<?◌, ◌≤?◌, ◌=?◌}
 use Rattle.decimal.specs.declared.Decimal.{Decimal}

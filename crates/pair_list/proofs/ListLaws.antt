@@ -146,8 +146,8 @@ pub record LiesIn (s : List ℕ) (p : Pair) : Type 0 where
 pub pairs_lie : (s : List ℕ) (at : ℕ) (p : Pair) → Memᴰ p (pairs_from s at).pairs → LiesIn s p
 pairs_lie s at p m =
     pairs_induction s (λ (a : ℕ) (ps : Pairs). Memᴰ p ps.pairs → LiesIn s p)
-    (λ a h n. absurd (Memᴰ.not_nil n))
-    (λ a place e n. absurd (Memᴰ.not_nil n))
+    (λ a h n. absurd (Memᴰ.not-nil n))
+    (λ a place e n. absurd (Memᴰ.not-nil n))
     (λ a q next e h n. ⊎_elim (λ z. subst (LiesIn s) (sym z) (lies a q next (pair_in_lem s a q next e))) h (Memᴰ.cases_cons n))
     at m
   where

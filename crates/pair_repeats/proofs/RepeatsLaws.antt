@@ -33,7 +33,7 @@ repeats_end s at e = rw e
 -- a pair that is there is found by its name
 there_found : (s : List ℕ) (ps : List Pair) (q : Pair) → Memᴰ q ps → is_named (first_in s (name_of s q) ps) ≡ true
 unfolding first_in
-there_found s [] q m = absurd (Memᴰ.not_nil m)
+there_found s [] q m = absurd (Memᴰ.not-nil m)
 there_found s (p ∷ ps) q m =
     byTest (same_bytes (name_of s p) (name_of s q))
     (λ t. simp t)
@@ -46,7 +46,7 @@ there_found s (p ∷ ps) q m =
 -- Where no name is repeated, each pair is the one that its name finds.
 first_only : (s : List ℕ) (ps : List Pair) (q : Pair) → repeats_in s ps ≡ false → Memᴰ q ps → first_in s (name_of s q) ps ≡ Found.At q
 unfolding repeats_in first_in
-first_only s [] q h m = absurd (Memᴰ.not_nil m)
+first_only s [] q h m = absurd (Memᴰ.not-nil m)
 first_only s (p ∷ ps) q h m =
     byTest (is_named (first_in s (name_of s p) ps))
     (λ f. let z : ◌≡◌ {A = ℕ} 0 1 = cc (simp f at h) in absurd (omega arith))

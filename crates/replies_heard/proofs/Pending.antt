@@ -23,7 +23,7 @@ Apart waiting refused = (b : ℕ) → Memᴰ b waiting → Memᴰ b refused → 
 -- ---- lists
 without_mem : (a b : ℕ) (l : List ℕ) → Memᴰ b (without a l) → Memᴰ b l × (b ≡ a → ⊥)
 unfolding without
-without_mem a b [] m = absurd (Memᴰ.not_nil m)
+without_mem a b [] m = absurd (Memᴰ.not-nil m)
 without_mem a b (c ∷ l) m = go (eqb c a) refl m (without_mem a b l)
   where
     go : (t : Bool) → eqb c a ≡ t → Memᴰ b (if t then without a l else (c ∷ without a l)) → (Memᴰ b (without a l) → Memᴰ b l × (b ≡ a → ⊥)) → Memᴰ b (c ∷ l) × (b ≡ a → ⊥)

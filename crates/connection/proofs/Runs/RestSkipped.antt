@@ -125,7 +125,7 @@ used_and_rest m piece rest =
 -- long as the steps use not more than n bytes in all.
 pub nothing_heard : (os : List Operation) (n : ℕ) (m : Memory) → Skips n m → length (item_bytes (timeline m os)) ≤ n → (x : Note) → Memᴰ (Heard x) (all_seen m os) → ⊥
 unfolding all_seen seen_in timeline items_of memory_after item_bytes
-nothing_heard [] n m k l x h = Memᴰ.not_nil h
+nothing_heard [] n m k l x h = Memᴰ.not-nil h
 nothing_heard (StepOver piece ∷ os) n m k l x h =
     let s = step_of m piece in
     let rest = timeline (memory_of s) os in

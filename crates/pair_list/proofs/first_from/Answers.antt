@@ -11,15 +11,6 @@ use Rattle.pairs.proofs.PairLaws.{PairIn, pair_in_lem}
 use Rattle.pair_list.proofs.ListLaws.{pairs_end, pairs_none, first_next}
 use Rattle.pair_list.proofs.first_from.Goals as goal
 
--- the pair that was read
-read : (c : tie.After-read invariant-loop decreases-loop)
-    → pair_at c.before.before.before.before.before.before.before.args.list.now c.before.before.before.before.loop.at ≡ Read.Pair c.read.given.0.0 c.read.given.0.1.0
-read c = sym c.before.before.read-pair.ensures ∙ c.read.given.1
-
-is_in_lem : (c : tie.After-read invariant-loop decreases-loop)
-    → PairIn c.before.before.before.before.before.before.before.args.list.now c.before.before.before.before.loop.at c.read.given.0.0 c.read.given.0.1.0
-is_in_lem c = pair_in_lem _ _ _ _ (read c)
-
 pub returns-in_default : goal.returns-in_default
 unfolding first_from first_in
 returns-in_default c =
@@ -29,22 +20,52 @@ returns-in_default c =
     sym (c.loop-at.invariant ∙ ap (λ (ps : Pairs). first_in s a.name.now ps.pairs) e)
 
 pub slice_bounds-same-count : goal.slice_bounds-same-count
-slice_bounds-same-count c = omega (arith, is_in_lem c)
+slice_bounds-same-count c =
+    let read : pair_at c.args.list.now c.loop-at.at ≡ Read.Pair c.in-Pair.p c.in-Pair.next =
+        sym c.read_pair-read.ensures ∙ c.in-Pair.is in
+    let is_in_lem : PairIn c.args.list.now c.loop-at.at c.in-Pair.p c.in-Pair.next =
+        pair_in_lem _ _ _ _ (read) in
+    omega (arith, is_in_lem)
+
+pub slice_bounds-same-start : goal.slice_bounds-same-start
+slice_bounds-same-start c =
+    let read : pair_at c.args.list.now c.loop-at.at ≡ Read.Pair c.in-Pair.p c.in-Pair.next =
+        sym c.read_pair-read.ensures ∙ c.in-Pair.is in
+    let is_in_lem : PairIn c.args.list.now c.loop-at.at c.in-Pair.p c.in-Pair.next =
+        pair_in_lem _ _ _ _ (read) in
+    omega (arith, is_in_lem)
+
+pub slice_bounds-same-end : goal.slice_bounds-same-end
+slice_bounds-same-end c =
+    let read : pair_at c.args.list.now c.loop-at.at ≡ Read.Pair c.in-Pair.p c.in-Pair.next =
+        sym c.read_pair-read.ensures ∙ c.in-Pair.is in
+    let is_in_lem : PairIn c.args.list.now c.loop-at.at c.in-Pair.p c.in-Pair.next =
+        pair_in_lem _ _ _ _ (read) in
+    omega (arith, is_in_lem)
 
 pub returns-then-same : goal.returns-then-same
 unfolding first_from
 returns-then-same c =
+    let read : pair_at c.args.list.now c.loop-at.at ≡ Read.Pair c.in-Pair.p c.in-Pair.next =
+        sym c.read_pair-read.ensures ∙ c.in-Pair.is in
     let a = c.args in
-    let e = c.loop-at.invariant ∙ first_next a.list.now a.name.now c.loop-at.at _ _ (read c) in
+    let e = c.loop-at.invariant ∙ first_next a.list.now a.name.now c.loop-at.at _ _ (read) in
     sym (e ∙ simp (← c.same.ensures, c.if-same.true))
 
 pub loop-at-smaller : goal.loop-at-smaller
-loop-at-smaller c = omega (arith, is_in_lem c)
+loop-at-smaller c =
+    let read : pair_at c.args.list.now c.loop-at.at ≡ Read.Pair c.in-Pair.p c.in-Pair.next =
+        sym c.read_pair-read.ensures ∙ c.in-Pair.is in
+    let is_in_lem : PairIn c.args.list.now c.loop-at.at c.in-Pair.p c.in-Pair.next =
+        pair_in_lem _ _ _ _ (read) in
+    omega (arith, is_in_lem)
 
 pub loop-at-preserved : goal.loop-at-preserved
 loop-at-preserved c =
+    let read : pair_at c.args.list.now c.loop-at.at ≡ Read.Pair c.in-Pair.p c.in-Pair.next =
+        sym c.read_pair-read.ensures ∙ c.in-Pair.is in
     let a = c.args in
-    let e = c.loop-at.invariant ∙ first_next a.list.now a.name.now c.loop-at.at _ _ (read c) in
+    let e = c.loop-at.invariant ∙ first_next a.list.now a.name.now c.loop-at.at _ _ (read) in
     e ∙ simp (← c.same.ensures, c.if-same.false)
 
 pub returns : goal.returns

@@ -12,15 +12,6 @@ use Rattle.pairs.proofs.PairLaws.{PairIn, pair_in_lem}
 use Rattle.pair_list.proofs.ListLaws.{pairs_end, pairs_none, number_next}
 use Rattle.pair_list.proofs.pair_number.Goals as goal
 
--- the pair that was read
-read : (c : tie.After-read invariant-loop decreases-loop)
-    → pair_at c.before.before.before.before.before.before.args.list.now c.before.before.before.before.loop.at ≡ Read.Pair c.read.given.0.0 c.read.given.0.1.0
-read c = sym c.before.before.read-pair.ensures ∙ c.read.given.1
-
-is_in_lem : (c : tie.After-read invariant-loop decreases-loop)
-    → PairIn c.before.before.before.before.before.before.args.list.now c.before.before.before.before.loop.at c.read.given.0.0 c.read.given.0.1.0
-is_in_lem c = pair_in_lem _ _ _ _ (read c)
-
 pub loop-at-init : goal.loop-at-init
 loop-at-init c = (omega arith, refl)
 
@@ -34,16 +25,27 @@ returns-in_default c =
 pub returns-then-left-eq0 : goal.returns-then-left-eq0
 unfolding pair_number
 returns-then-left-eq0 c =
-    let e = c.loop-at.invariant.1 ∙ number_next c.args.list.now c.loop-at.left c.loop-at.at _ _ (read c) in
+    let read : pair_at c.args.list.now c.loop-at.at ≡ Read.Pair c.in-Pair.p c.in-Pair.next =
+        sym c.read_pair-read.ensures ∙ c.in-Pair.is in
+    let e = c.loop-at.invariant.1 ∙ number_next c.args.list.now c.loop-at.left c.loop-at.at _ _ (read) in
     sym (e ∙ simp (eq-eqb _ _ c.if-left-eq0.true))
 
 pub loop-at-smaller : goal.loop-at-smaller
-loop-at-smaller c = omega (arith, is_in_lem c)
+loop-at-smaller c =
+    let read : pair_at c.args.list.now c.loop-at.at ≡ Read.Pair c.in-Pair.p c.in-Pair.next =
+        sym c.read_pair-read.ensures ∙ c.in-Pair.is in
+    let is_in_lem : PairIn c.args.list.now c.loop-at.at c.in-Pair.p c.in-Pair.next =
+        pair_in_lem _ _ _ _ (read) in
+    omega (arith, is_in_lem)
 
 pub loop-at-preserved : goal.loop-at-preserved
 loop-at-preserved c =
-    let e = c.loop-at.invariant.1 ∙ number_next c.args.list.now c.loop-at.left c.loop-at.at _ _ (read c) in
-    ((is_in_lem c).within, e ∙ simp (ne_eqb _ _ c.if-left-eq0.false))
+    let read : pair_at c.args.list.now c.loop-at.at ≡ Read.Pair c.in-Pair.p c.in-Pair.next =
+        sym c.read_pair-read.ensures ∙ c.in-Pair.is in
+    let is_in_lem : PairIn c.args.list.now c.loop-at.at c.in-Pair.p c.in-Pair.next =
+        pair_in_lem _ _ _ _ (read) in
+    let e = c.loop-at.invariant.1 ∙ number_next c.args.list.now c.loop-at.left c.loop-at.at _ _ (read) in
+    ((is_in_lem).within, e ∙ simp (ne_eqb _ _ c.if-left-eq0.false))
 
 pub returns : goal.returns
 unfolding pair_number number_in

@@ -6,16 +6,7 @@ use lib.ListN.{length}
 use borrow.Author.Tests.{lt-ltb, le-ltb}
 use Rattle.pair_writer.specs.Write.{pair_written}
 use Rattle.pair_writer.proofs.WriteLaws.{length_takes, pair_size, pair_put, pair_written_lem}
-use borrow.Author.Rules.{rules}
 use Rattle.pair_writer.proofs.write_pair.Goals as goal
-
--- both lengths' sizes, as they were computed
-sizes : (c : tie.After-length-size2) → (c.before.length-size.result ≤ 4) × (c.length-size2.result ≤ 4)
-sizes c =
-    let a = c.before.before.before.before.before.before.before.args in
-    let n = length_takes (length a.name.now) in
-    let v = length_takes (length a.value.now) in
-    (omega (arith, c.before.length-size.ensures), omega (arith, c.length-size2.ensures))
 
 pub returns-then-n-gt65535 : goal.returns-then-n-gt65535
 unfolding pair_written
@@ -26,13 +17,31 @@ unfolding pair_written
 returns-then-v-gt65535 c = simp (le-ltb _ _ c.if-n-gt65535.false, lt-ltb _ _ c.if-v-gt65535.true)
 
 pub overflow_add-size : goal.overflow_add-size
-overflow_add-size c = omega (arith, sizes c)
+overflow_add-size c =
+    let sizes : (c.length_size.result ≤ 4) × (c.length_size-2.result ≤ 4) =
+        let a = c.args in
+        let n = length_takes (length a.name.now) in
+        let v = length_takes (length a.value.now) in
+        (omega (arith, c.length_size.ensures), omega (arith, c.length_size-2.ensures)) in
+    omega (arith, sizes)
 
 pub overflow_add-size-2 : goal.overflow_add-size-2
-overflow_add-size-2 c = omega (arith, sizes c)
+overflow_add-size-2 c =
+    let sizes : (c.length_size.result ≤ 4) × (c.length_size-2.result ≤ 4) =
+        let a = c.args in
+        let n = length_takes (length a.name.now) in
+        let v = length_takes (length a.value.now) in
+        (omega (arith, c.length_size.ensures), omega (arith, c.length_size-2.ensures)) in
+    omega (arith, sizes)
 
 pub overflow_add-size-3 : goal.overflow_add-size-3
-overflow_add-size-3 c = omega (arith, sizes c)
+overflow_add-size-3 c =
+    let sizes : (c.length_size.result ≤ 4) × (c.length_size-2.result ≤ 4) =
+        let a = c.args in
+        let n = length_takes (length a.name.now) in
+        let v = length_takes (length a.value.now) in
+        (omega (arith, c.length_size.ensures), omega (arith, c.length_size-2.ensures)) in
+    omega (arith, sizes)
 
 pub returns-then-out-size : goal.returns-then-out-size
 unfolding pair_written

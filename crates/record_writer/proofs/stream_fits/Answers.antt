@@ -4,14 +4,7 @@ use native.Mathlib.Omega.{arith}
 use native.Mathlib.Nat.{mod-lt}
 use Rattle.record_writer.specs.Written.{stream_fits}
 use Rattle.record_writer.proofs.StreamLaws.{record_long, fits_behind, fits_count, count_room, fits_whole, fits_last}
-use borrow.Author.Rules.{rules}
 use Rattle.record_writer.proofs.stream_fits.Goals as goal
-
--- past the test of the count there is room for the whole records
-room : (c : tie.Else3) → c.before.before.before.before.args.n / c.before.before.before.before.args.size * c.before.record_length_lem.result ≤ c.before.before.before.before.args.room - c.before.before.before.before.args.at
-room c =
-    let a = c.before.before.before.before.args in
-    count_room a.size a.n a.at a.room c.before.record_length_lem.result (omega arith) c.before.record_length_lem.ensures c.if3.false
 
 pub returns-then-size-eq0 : goal.returns-then-size-eq0
 unfolding stream_fits
@@ -22,6 +15,9 @@ returns-then-room-at c =
     let a = c.args in
     sym (fits_behind a.size a.n a.at a.room _ (omega arith) refl c.if-room-at.true)
 
+pub nonzero_div-left : goal.nonzero_div-left
+nonzero_div-left c = omega (arith, c.record_length-whole.ensures, record_long c.args.size)
+
 pub returns-then-left-whole : goal.returns-then-left-whole
 returns-then-left-whole c =
     let a = c.args in
@@ -29,8 +25,11 @@ returns-then-left-whole c =
 
 pub returns-then-tail-eq0 : goal.returns-then-tail-eq0
 returns-then-tail-eq0 c =
+    let room : c.args.n / c.args.size * c.record_length-whole.result ≤ c.args.room - c.args.at =
+        let a = c.args in
+        count_room a.size a.n a.at a.room c.record_length-whole.result (omega arith) c.record_length-whole.ensures c.if-left-whole.false in
     let a = c.args in
-    sym (fits_whole a.size a.n a.at a.room c.record_length-whole.result (omega arith) c.record_length-whole.ensures c.if-room-at.false (room c) c.if-tail-eq0.true)
+    sym (fits_whole a.size a.n a.at a.room c.record_length-whole.result (omega arith) c.record_length-whole.ensures c.if-room-at.false (room) c.if-tail-eq0.true)
 
 pub overflow_cast-tail : goal.overflow_cast-tail
 overflow_cast-tail c =
@@ -39,13 +38,24 @@ overflow_cast-tail c =
     omega (arith, mod-lt a.n some)
 
 pub overflow_mul-result : goal.overflow_mul-result
-overflow_mul-result c = omega (arith, room c)
+overflow_mul-result c =
+    let room : c.args.n / c.args.size * c.record_length-whole.result ≤ c.args.room - c.args.at =
+        let a = c.args in
+        count_room a.size a.n a.at a.room c.record_length-whole.result (omega arith) c.record_length-whole.ensures c.if-left-whole.false in
+    omega (arith, room)
 
 pub overflow_sub-result : goal.overflow_sub-result
-overflow_sub-result c = room c
+overflow_sub-result c =
+    let room : c.args.n / c.args.size * c.record_length-whole.result ≤ c.args.room - c.args.at =
+        let a = c.args in
+        count_room a.size a.n a.at a.room c.record_length-whole.result (omega arith) c.record_length-whole.ensures c.if-left-whole.false in
+    room
 
 pub returns : goal.returns
 returns c =
+    let room : c.args.n / c.args.size * c.record_length-whole.result ≤ c.args.room - c.args.at =
+        let a = c.args in
+        count_room a.size a.n a.at a.room c.record_length-whole.result (omega arith) c.record_length-whole.ensures c.if-left-whole.false in
     let a = c.args in
-    fits_last a.size a.n a.at a.room c.record_length-whole.result (omega arith) c.record_length-whole.ensures c.record_length-last.result c.if-room-at.false (room c) c.if-tail-eq0.false
+    fits_last a.size a.n a.at a.room c.record_length-whole.result (omega arith) c.record_length-whole.ensures c.record_length-last.result c.if-room-at.false (room) c.if-tail-eq0.false
     c.record_length-last.ensures
