@@ -117,11 +117,11 @@ module _ (M : Machine) (R : ℕ) where
   simulation {T} {v} {m} {F} {F'} n (ByteItem b ∷ t) z s f a r =
       let g = byte_together M R n (item_bytes t) b z s f (open_here (Open T F) (ByteItem b) t a) (room_here (Open T F) (ByteItem b) t r) in
       item_then_rest n t (purge_from R (scan_next R m b) t) (ByteItem b) (is_own R m (b ∷ item_bytes t)) (Open T F) (Open (alone_slots M R n v) F') g
-      (simulation n t z g.contains g.readings (open_next (Open T F) _ (ByteItem b) t g.is_whole a) (room_next (Open T F) _ (ByteItem b) t g.is_whole r))
+      (simulation {T = g.slots} {v = g.request} {m = scan_next R m b} {F = g.reading} {F' = g.alone_reading} n t z g.contains g.readings (open_next (Open T F) _ (ByteItem b) t g.is_whole a) (room_next (Open T F) _ (ByteItem b) t g.is_whole r))
   simulation {T} {v} {m} {F} {F'} n (CallItem c ∷ t) z s f a r =
       let g = call_together M R n (item_bytes t) c s f (open_here (Open T F) (CallItem c) t a) in
       item_then_rest n t (purge_from R m t) (CallItem c) (is_own_call R c) (Open T F) (Open (alone_slots M R n v) F') g
-      (simulation n t z g.contains g.readings (open_next (Open T F) _ (CallItem c) t g.is_whole a) (room_next (Open T F) _ (CallItem c) t g.is_whole r))
+      (simulation {T = g.slots} {v = g.request} {m = m} {F = g.reading} {F' = g.alone_reading} n t z g.contains g.readings (open_next (Open T F) _ (CallItem c) t g.is_whole a) (room_next (Open T F) _ (CallItem c) t g.is_whole r))
 
   -- From a fresh start: the purged run begins between two records too.
   pub simulation_from_fresh : (n : ℕ) (t : List (Item M.Argument)) → 0 < R → EndsOpen (ran_fresh M n t) → NeverOverloaded (ran_fresh M n t)

@@ -69,7 +69,7 @@ fresh_together l =
       values = zeros (length l.values);
       behind = fresh_behind l.values l.values_size;
       agree = none_agree (beginning (started l)) no_requests (fresh_station l.gathered l.store l.store_size);
-      rests = λ id p. ⊎_elim (λ w. absurd (Memᴰ.not-nil w)) (λ w. absurd (Memᴰ.not_nil w)) p;
+      rests = λ id p. ⊎_elim (λ w. absurd (Memᴰ.not-nil w)) (λ w. absurd (Memᴰ.not-nil w)) p;
       apart = λ id w. absurd (Memᴰ.not-nil w);
     }
 

@@ -77,7 +77,7 @@ fresh_together gathered store values hg hs hv =
       values = zeros (length values);
       behind = fresh_behind values hv;
       agree = subst (λ (s : Table). Each s (λ id i. OpenWith no_requests id)) (sym (fresh_station gathered store hs)) (each_none (λ id i. OpenWith no_requests id));
-      rests = λ id p. ⊎_elim (λ w. absurd (Memᴰ.not-nil w)) (λ w. absurd (Memᴰ.not_nil w)) p;
+      rests = λ id p. ⊎_elim (λ w. absurd (Memᴰ.not-nil w)) (λ w. absurd (Memᴰ.not-nil w)) p;
       apart = λ id w. absurd (Memᴰ.not-nil w);
     }
 

@@ -1,12 +1,8 @@
-use mathlib.Core.Path.{◌≡◌, refl, sym, ap, ◌∙◌}
-use Prim.Native.Nat.{◌-◌}
+use mathlib.Core.Path.{◌≡◌, sym, ap, ◌∙◌}
 use native.Mathlib.Omega.{arith}
-use mathlib.Core.Logic.{⊎_elim}
-use borrow.Author.Rules.{rules}
-use lib.ListN.{length}
 use Rattle.pairs.specs.declared.pair.Read.{Read}
 use Rattle.pairs.specs.Pair.{pair_at}
-use Rattle.pair_list.specs.List.{Pairs, pairs_from, first_in, first_from}
+use Rattle.pair_list.specs.List.{Pairs, first_in, first_from}
 use Rattle.pairs.proofs.PairLaws.{PairIn, pair_in_lem}
 use Rattle.pair_list.proofs.ListLaws.{pairs_end, pairs_none, first_next}
 use Rattle.pair_list.proofs.first_from.Goals as goal
@@ -16,7 +12,7 @@ unfolding first_from first_in
 returns-in_default c =
     let a = c.args in
     let s = a.list.now in
-    let e = pairs_none s c.loop-at.at (omega arith) (λ p next e. ⊎_elim (λ w. omega arith) (λ w. omega arith) (rw (c.read_pair-read.ensures ∙ e) at c.in-Pair.keys2)) in
+    let e = pairs_none s c.loop-at.at (omega arith) (λ p next e. c.in_default.not-Pair p next (c.read_pair-read.ensures ∙ e)) in
     sym (c.loop-at.invariant ∙ ap (λ (ps : Pairs). first_in s a.name.now ps.pairs) e)
 
 pub slice_bounds-same-count : goal.slice_bounds-same-count

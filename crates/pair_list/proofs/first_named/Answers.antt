@@ -1,4 +1,3 @@
-use borrow.Author.Rules.{rules}
 use Rattle.pair_list.specs.List.{first_named, first_from}
 use Rattle.pair_list.proofs.first_named.Goals as goal
 

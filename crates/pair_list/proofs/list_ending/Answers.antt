@@ -1,10 +1,6 @@
-use mathlib.Core.Path.{◌≡◌, refl, sym, ap, ◌∙◌}
-use Prim.Native.Nat.{◌≤◌, ◌-◌}
+use mathlib.Core.Path.{refl, sym, ap, ◌∙◌}
 use native.Mathlib.Omega.{arith}
-use mathlib.Core.Logic.{⊎_elim}
-use borrow.Author.Rules.{rules}
-use lib.ListN.{length}
-use Rattle.pair_list.specs.List.{Pairs, pairs_from, ending_of}
+use Rattle.pair_list.specs.List.{Pairs, ending_of}
 use Rattle.pairs.proofs.PairLaws.{pair_in_lem}
 use Rattle.pair_list.proofs.ListLaws.{pairs_next, pairs_end, pairs_none}
 use Rattle.pair_list.proofs.list_ending.Goals as goal
@@ -16,7 +12,7 @@ pub returns-in_default : goal.returns-in_default
 unfolding ending_of
 returns-in_default c =
     let s = c.args.list.now in
-    let e = pairs_none s c.loop-at.at (omega arith) (λ p next e. ⊎_elim (λ w. omega arith) (λ w. omega arith) (rw (c.read_pair-read.ensures ∙ e) at c.in-Pair.keys2)) in
+    let e = pairs_none s c.loop-at.at (omega arith) (λ p next e. c.in_default.not-Pair p next (c.read_pair-read.ensures ∙ e)) in
     sym (c.loop-at.invariant.1 ∙ ap (λ (ps : Pairs). ps.ending) e)
 
 pub loop-at-smaller : goal.loop-at-smaller

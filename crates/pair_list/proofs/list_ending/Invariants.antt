@@ -1,12 +1,7 @@
-use mathlib.Core.Path.{◌≡◌, refl, sym, ap, ◌∙◌}
+use mathlib.Core.Path.{◌≡◌}
 use Prim.Native.Nat.{◌≤◌, ◌-◌}
-use native.Mathlib.Omega.{arith}
-use mathlib.Core.Logic.{⊎_elim}
-use borrow.Author.Rules.{rules}
 use lib.ListN.{length}
-use Rattle.pair_list.specs.List.{Pairs, pairs_from, ending_of}
-use Rattle.pairs.proofs.PairLaws.{pair_in_lem}
-use Rattle.pair_list.proofs.ListLaws.{pairs_next, pairs_end, pairs_none}
+use Rattle.pair_list.specs.List.{pairs_from}
 use Rattle.pair_list.proofs.list_ending.Given as goal
 
 abbrev pub invariant-loop-at : goal.invariant-loop-at

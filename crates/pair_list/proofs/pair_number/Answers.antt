@@ -1,13 +1,9 @@
 use mathlib.Core.Path.{◌≡◌, refl, sym, ap, ◌∙◌}
-use Prim.Native.Nat.{◌≤◌, ◌-◌}
 use native.Mathlib.Omega.{arith}
-use mathlib.Core.Logic.{⊎_elim}
-use borrow.Author.Rules.{rules}
 use borrow.Author.Tests.{eq-eqb, ne_eqb}
-use lib.ListN.{length}
 use Rattle.pairs.specs.declared.pair.Read.{Read}
 use Rattle.pairs.specs.Pair.{pair_at}
-use Rattle.pair_list.specs.List.{Pairs, pairs_from, number_in, pair_number}
+use Rattle.pair_list.specs.List.{Pairs, number_in, pair_number}
 use Rattle.pairs.proofs.PairLaws.{PairIn, pair_in_lem}
 use Rattle.pair_list.proofs.ListLaws.{pairs_end, pairs_none, number_next}
 use Rattle.pair_list.proofs.pair_number.Goals as goal
@@ -19,7 +15,7 @@ pub returns-in_default : goal.returns-in_default
 unfolding pair_number number_in
 returns-in_default c =
     let s = c.args.list.now in
-    let e = pairs_none s c.loop-at.at (omega arith) (λ p next e. ⊎_elim (λ w. omega arith) (λ w. omega arith) (rw (c.read_pair-read.ensures ∙ e) at c.in-Pair.keys2)) in
+    let e = pairs_none s c.loop-at.at (omega arith) (λ p next e. c.in_default.not-Pair p next (c.read_pair-read.ensures ∙ e)) in
     sym (c.loop-at.invariant.1 ∙ ap (λ (ps : Pairs). number_in ps.pairs c.loop-at.left) e)
 
 pub returns-then-left-eq0 : goal.returns-then-left-eq0

@@ -1,14 +1,8 @@
-use borrow.Author.Tests.{not-true, not-false}
-use mathlib.Core.Path.{◌≡◌, refl, sym, ap, ◌∙◌}
-use Prim.Native.Nat.{◌+◌, ◌-◌, ◌≤◌, ◌<◌}
-use native.Mathlib.Omega.{arith}
-use borrow.Author.Rules.{rules}
-use mathlib.Core.List.{[]}
-use lib.ListN.{length, drop, drop_of_length-le}
+use mathlib.Core.Path.{◌≡◌}
+use Prim.Native.Nat.{◌+◌, ◌-◌, ◌≤◌}
+use lib.ListN.{length, drop}
 use Rattle.wire.specs.Buffer.{put_at}
-use Rattle.wire.proofs.BufferLaws.{put_none}
 use Rattle.record_writer.specs.Written.{stream_bytes}
-use Rattle.record_writer.proofs.StreamLaws.{stream_fits_lem, stream_length_lem, stream_none, LoopTurn, stream_turn, stream_placed_lem, stream_unplaced}
 use Rattle.record_writer.proofs.write_stream.Given as goal
 
 abbrev pub invariant-loop-from : goal.invariant-loop-from

@@ -1,0 +1,8 @@
+use mathlib.Core.Path.{refl}
+use Rattle.pair_repeats.specs.Keys.{key_with}
+use borrow.Author.Rules.{rules}
+use Rattle.pair_repeats.proofs.key_with.Goals as goal
+
+pub returns : goal.returns
+unfolding key_with
+returns c = refl
