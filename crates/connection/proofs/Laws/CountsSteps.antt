@@ -36,7 +36,7 @@ use Rattle.connection.proofs.Laws.Spent.{due_use}
 pub shown_append : (R stream n : ℕ) (x y : List Observed) → shown_in R stream n (x ++ y) ≡ shown_in R stream (shown_in R stream n x) y
 unfolding shown_in
 shown_append R stream n [] y = refl
-shown_append R stream n (o ∷ x) y = shown_append R stream _ x y
+shown_append R stream n (o ∷ x) y = shown_append R stream (count_after R stream n o) x y
 
 -- Both counts after what is observed.
 abbrev pub shown_after : ℕ → Shown → List Observed → Shown
@@ -60,12 +60,12 @@ byte_own R stream n b = rw (eq-eqb R R refl, eq-eqb stream stream refl)
 shown_other : (R stream n id s : ℕ) (x : List ℕ) → (id ≡ R → ⊥) → shown_in R stream n (map Heard (showing id s x)) ≡ n
 unfolding shown_in showing
 shown_other R stream n id s [] ne = refl
-shown_other R stream n id s (b ∷ x) ne = shown_other R stream _ id s x ne ∙ byte_other R stream n id s b ne
+shown_other R stream n id s (b ∷ x) ne = shown_other R stream (count_after R stream n (Heard (Note.Shown id s b))) id s x ne ∙ byte_other R stream n id s b ne
 
 shown_beside : (R stream n s : ℕ) (x : List ℕ) → (s ≡ stream → ⊥) → shown_in R stream n (map Heard (showing R s x)) ≡ n
 unfolding shown_in showing
 shown_beside R stream n s [] ne = refl
-shown_beside R stream n s (b ∷ x) ne = shown_beside R stream _ s x ne ∙ byte_beside R stream n s b ne
+shown_beside R stream n s (b ∷ x) ne = shown_beside R stream (count_after R stream n (Heard (Note.Shown R s b))) s x ne ∙ byte_beside R stream n s b ne
 
 -- Bytes of that stream of R are counted one by one, as they are at once; first after k others.
 shown_more_lem : (R stream n k : ℕ) (x : List ℕ) → shown_in R stream (counted n k) (map Heard (showing R stream x)) ≡ counted n (k + length x)
@@ -91,6 +91,13 @@ nameless_counts R c t Event.None x q = refl
 nameless_counts R c t (Event.Refuse id status) x q = refl
 nameless_counts R c t (Event.Query conns reqs mpxs) x q = refl
 nameless_counts R c t (Event.Unknown kind) x q = refl
+nameless_counts R c t (Event.Open _ _ _) x q = elim q [ ]
+nameless_counts R c t (Event.Ready _ _) x q = elim q [ ]
+nameless_counts R c t (Event.Data _ _ _) x q = elim q [ ]
+nameless_counts R c t (Event.End _ _ _) x q = elim q [ ]
+nameless_counts R c t (Event.Abort _) x q = elim q [ ]
+nameless_counts R c t (Event.Fault _ _) x q = elim q [ ]
+nameless_counts R c t (Event.Closed _) x q = elim q [ ]
 
 -- ---- the rules of one request
 -- A request h becomes q, and this is observed. The id stays. If the request is R's, its counts are changed by what is

@@ -22,6 +22,13 @@ nameless_inactive t Event.None R r q d = absurd (omega arith)
 nameless_inactive t (Event.Refuse id status) R r q d = subst (λ k. find t k ≡ Slot.Nowhere) d q
 nameless_inactive t (Event.Query conns reqs mpxs) R r q d = absurd (omega arith)
 nameless_inactive t (Event.Unknown kind) R r q d = absurd (omega arith)
+nameless_inactive t (Event.Open _ _ _) R r q d = elim q [ ]
+nameless_inactive t (Event.Ready _ _) R r q d = elim q [ ]
+nameless_inactive t (Event.Data _ _ _) R r q d = elim q [ ]
+nameless_inactive t (Event.End _ _ _) R r q d = elim q [ ]
+nameless_inactive t (Event.Abort _) R r q d = elim q [ ]
+nameless_inactive t (Event.Fault _ _) R r q d = elim q [ ]
+nameless_inactive t (Event.Closed _) R r q d = elim q [ ]
 
 -- what a header tells is of its own request
 rule_names : (kind n : ℕ) (h : Held) (R : ℕ) → 0 < R → event_id (on_header kind n h).event ≡ R → h.request.id ≡ R

@@ -64,6 +64,13 @@ nameless_not_final t Event.None q = refl
 nameless_not_final t (Event.Refuse id status) q = refl
 nameless_not_final t (Event.Query conns reqs mpxs) q = refl
 nameless_not_final t (Event.Unknown kind) q = refl
+nameless_not_final t (Event.Open _ _ _) q = elim q [ ]
+nameless_not_final t (Event.Ready _ _) q = elim q [ ]
+nameless_not_final t (Event.Data _ _ _) q = elim q [ ]
+nameless_not_final t (Event.End _ _ _) q = elim q [ ]
+nameless_not_final t (Event.Abort _) q = elim q [ ]
+nameless_not_final t (Event.Fault _ _) q = elim q [ ]
+nameless_not_final t (Event.Closed _) q = elim q [ ]
 
 -- the causes of closes: close 14 has a place, the others have none
 abbrev pub is_close : Cause → Bool

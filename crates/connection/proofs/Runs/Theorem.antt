@@ -44,6 +44,7 @@ told_there : (o : Observation receiver) (e : Observed) (os : List (Observation r
 unfolding told_all
 told_there o e (x ∷ os) a (Memᴰ.head d) = Memᴰ.append_left _ (subst (λ l. Memᴰ e l) (sym a ∙ ap told d) (Memᴰ.head refl))
 told_there o e (x ∷ os) a (Memᴰ.tail m) = Memᴰ.append_right (told x) (told_there o e os a m)
+told_there o e [] a x'' = elim x'' [ ]
 
 -- on the machine R is then nowhere refused for want of a slot
 never : {R : ℕ} (r : WholeRun) → NeverOverloaded R r → OnMachine.NeverOverloaded receiver R (ran_fresh receiver 15 (timeline_of r))
