@@ -1,5 +1,5 @@
 -- What contracts ask of a header, and of what content is for.
-use Rattle.std.specs.Prelude.{◌≡◌, ℕ, ◌+◌, ◌≤◌, ◌<◌, Bool, true, get_or}
+use Rattle.std.specs.Prelude.{◌≡◌, ℕ, ◌+◌, ◌≤◌, ◌<◌, true, get_or}
 use Rattle.slot_word.specs.Word.{taken}
 use Rattle.record.specs.declared.header.Header.{Header}
 use Rattle.connection.specs.declared.state.Table.{Table}

@@ -12,7 +12,6 @@ use Rattle.record_reader.specs.declared.Phase.{Phase}
 use Rattle.record_reader.specs.declared.Advanced.{Advanced}
 use Rattle.pair_list.specs.List.{well_formed, broken_at, is_named, first_named}
 use Rattle.machine.specs.Cause.{Cause, Plain, At}
-use Rattle.pair_list.specs.declared.Found.{Found}
 use Rattle.connection.specs.declared.request.Role.{Role}
 use Rattle.connection.specs.declared.request.Due.{Due}
 use Rattle.connection.specs.declared.state.Table.{Table}

@@ -2,13 +2,13 @@
 use Prim.Native.Nat.{ℕ, suc, ◌+◌, ◌≤◌, ◌<◌}
 use Rattle.std.specs.Prelude.{◌≡◌, Bool, false, take, ltb, eqb}
 use Rattle.std.proofs.Math.Path.{refl}
-use Rattle.std.proofs.Common.{sym, ap, ◌∙◌, subst, arith, length-append}
+use Rattle.std.proofs.Common.{sym, ap, ◌∙◌, subst, arith}
 use Rattle.std.proofs.Math.Bool.{true}
 use mathlib.Core.List.{List, [], ◌∷◌, ◌++◌}
 use Rattle.std.proofs.Math.ListN.{length}
 use borrow.Author.Tests.{ltb-false, eqb-true, eqb-false, ne_eqb}
 use Rattle.wire.specs.Test.{if◌then◌else◌, byTest}
-use Rattle.wire.specs.Buffer.{copied, put_at}
+use Rattle.wire.specs.Buffer.{copied}
 use Rattle.wire.proofs.BufferLaws.{copied_copied}
 use Rattle.record.specs.declared.header.Header.{Header}
 use Rattle.pair_list.specs.List.{well_formed}
@@ -28,7 +28,7 @@ use Rattle.connection.proofs.Laws.StateShape.{good_closed}
 use Rattle.record_rules.specs.Rules.{Lawful}
 use Rattle.server.specs.declared.state.Target.{Target}
 use Rattle.server.specs.Event.{Note, notes, showing}
-use Rattle.server.specs.Step.{Inner, idle, Left, told, closes, target_if, aimed, valued, on_management, output_target, on_output, output_of, on_request, is_management, is_reply, judged, frame_within, with_values, on_target, of_values, taken, rules}
+use Rattle.server.specs.Step.{Inner, idle, Left, closes, target_if, aimed, valued, on_management, output_target, on_output, output_of, on_request, is_management, is_reply, judged, frame_within, with_values, on_target, of_values, taken, rules}
 
 -- what is still to come fits
 abbrev pub Waits : Target → Table → ℕ → ℕ → Type 0

@@ -33,7 +33,7 @@ use Rattle.connection.proofs.Laws.SlotsLaws.{find_at}
 use Rattle.record_rules.specs.Rules.{Left, Reader, Run, and_then, by_byte, record_means}
 use Rattle.record_rules.proofs.Laws.{by_byte_append, by_byte_none}
 use Rattle.record_rules.proofs.Records.{between, record_read, record_ready}
-use Rattle.server.specs.Event.{Event, Note, notes, showing}
+use Rattle.server.specs.Event.{Event, Note, showing}
 use Rattle.server.specs.Step.{Inner, idle, valued, on_management, on_output, on_request, judged, taken, of_values, rules}
 use Rattle.server.proofs.Laws.{Ready, lawful}
 

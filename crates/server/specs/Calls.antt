@@ -23,7 +23,7 @@ use Rattle.connection.specs.Step.{onRole}
 use Rattle.connection.specs.Refusal.{◌when◌}
 use Rattle.server.specs.declared.state.Input.{Input}
 use Rattle.server.specs.declared.state.Server.{Server}
-use Rattle.server.specs.Codes.{input_type, input_turn, stream_input}
+use Rattle.server.specs.Codes.{input_type, stream_input}
 use Rattle.server.specs.Refusal.{refusal}
 use Rattle.server.specs.Shape.{in_shape}
 use Rattle.server.specs.Step.{step_refusal}

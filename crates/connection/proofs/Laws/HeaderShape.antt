@@ -1,5 +1,5 @@
 -- What a header leaves is in shape.
-use Rattle.std.specs.Prelude.{◌≡◌, refl, ℕ, ◌≤◌, ◌<◌, length, ltb, eqb}
+use Rattle.std.specs.Prelude.{◌≡◌, refl, ℕ, ◌≤◌, ◌<◌, ltb, eqb}
 use mathlib.Core.List.{List, []}
 use Rattle.std.proofs.Common.{arith}
 use borrow.Author.Tests.{ltb-false, eqb-true, eqb-false}

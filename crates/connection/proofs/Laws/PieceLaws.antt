@@ -5,7 +5,6 @@ use Rattle.std.proofs.lemmas.Bool.{lt-leb}
 use Rattle.wire.specs.Test.{byTest}
 use Rattle.wire.proofs.Bytes.{AllBytes}
 use Rattle.record.specs.Header.{header_of}
-use Rattle.record.specs.declared.header.Header.{Header}
 use Rattle.record_reader.specs.Position.{after_header, held_and, in_header, advanced}
 use Rattle.record_reader.proofs.PositionLaws.{at}
 use Rattle.record_reader.specs.declared.Position.{Position}

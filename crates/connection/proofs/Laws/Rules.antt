@@ -2,7 +2,6 @@
 use Rattle.std.specs.Prelude.{◌≡◌, ℕ, ◌+◌, ◌≤◌, Bool, true, false, ltb, eqb}
 use Rattle.std.proofs.Math.Path.{refl}
 use Rattle.std.proofs.Math.Option.{none}
-use Rattle.std.proofs.Common.{arith}
 use borrow.Author.Tests.{ltb-false, eqb-true}
 use Rattle.wire.specs.Test.{if◌then◌else◌, ◌=?◌, byTest}
 use Rattle.record.specs.Names.{BEGIN_REQUEST, ABORT_REQUEST, STDIN, DATA}

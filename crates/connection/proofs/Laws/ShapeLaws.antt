@@ -9,7 +9,7 @@ use Rattle.connection.specs.declared.state.Table.{Table}
 use Rattle.connection.specs.declared.state.Slot.{Slot}
 use Rattle.connection.specs.declared.state.Target.{Target}
 use Rattle.connection.specs.declared.state.Conn.{Conn}
-use Rattle.connection.specs.Fits.{InUse, Begins, Grows, Aimed}
+use Rattle.connection.specs.Fits.{InUse, Aimed}
 use Rattle.connection.specs.Sizes.{SLOTS, AREA, QUERY}
 use Rattle.connection.specs.Slots.{find_from, find, is_found, no_requests}
 use Rattle.connection.proofs.Laws.SlotsLaws.{Holds, HoldsFrom, Distinct, all_slots, of_all_slots, none_from, nowhere_from, found_false}

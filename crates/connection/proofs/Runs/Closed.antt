@@ -1,8 +1,6 @@
 -- A closed connection is final: whatever is done on it changes nothing.
 use Rattle.std.specs.Prelude.{◌≡◌, refl, List, [], ◌∷◌, false, ℕ}
 use Rattle.std.proofs.Common.{ap, ◌∙◌, arith}
-use Rattle.machine.proofs.Isolation as Generic
-use Rattle.connection.specs.Calls as C
 use Rattle.connection.proofs.Laws.Progress.{admitted_fits, step_refused}
 use Rattle.connection.specs.Run.{Memory, Operation, StepOver, CallFor, CountActive, memory_of, memory_after, final_memory}
 use Rattle.connection.proofs.Runs.LinkingStep.{Steady}

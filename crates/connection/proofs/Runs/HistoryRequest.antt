@@ -6,7 +6,7 @@ use Rattle.wire.specs.Test.{if◌then◌else◌, byTest}
 use Rattle.wire.proofs.BufferLaws.{copied_room}
 use Rattle.record.specs.Names.{RESPONDER, AUTHORIZER, FILTER, PARAMS}
 use Rattle.record.specs.Body.{begin_body_of}
-use Rattle.machine.specs.Machine.{BeginOutcome, Declined, Accepted, CallOutcome, Stays, Retires, Leaves, Closes, Skip}
+use Rattle.machine.specs.Machine.{BeginOutcome, Declined, Accepted, CallOutcome, Stays, Retires, Leaves, Closes}
 use Rattle.connection.specs.declared.request.Due.{Due}
 use Rattle.connection.specs.declared.request.Role.{Role}
 use Rattle.connection.specs.Sizes.{AREA}

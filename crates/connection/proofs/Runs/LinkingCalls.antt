@@ -10,7 +10,7 @@ use Rattle.wire.specs.Test.{if◌then◌else◌, ◌=?◌, byTest}
 use Rattle.wire.specs.Buffer.{zeros}
 use Rattle.machine.specs.Slots.{HeldBy}
 use Rattle.machine.specs.Timeline.{RequestCall, CountCall, CallItem}
-use Rattle.machine.specs.Machine.{Stays, Leaves, Closes, Target, Skip, Reading, Slots, Connection, Open, Closed, CallAnswer, Effect, target_without, reading_without, call_decided, request_called, on_item, state_after, observations, as_list}
+use Rattle.machine.specs.Machine.{Stays, Leaves, Closes, Target, Reading, Slots, Connection, Open, Closed, CallAnswer, Effect, target_without, reading_without, call_decided, request_called, on_item, state_after, observations, as_list}
 use Rattle.connection.specs.declared.state.Table.{Table}
 use Rattle.connection.specs.declared.state.Slot.{Slot}
 use Rattle.connection.specs.declared.state.Target.{Target as Aim}

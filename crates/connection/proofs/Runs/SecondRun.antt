@@ -6,9 +6,7 @@ use Rattle.machine.specs.Timeline.{RequestCall, CountCall, Item, CallItem, byte_
 use Rattle.machine.specs.Machine.{Connection, Open, Closed, AtHeader, state_after}
 use Rattle.machine.proofs.TimelineLaws.{byte_items_append}
 use Rattle.machine.proofs.RunLaws.{closed_stays, state_append}
-use Rattle.machine.proofs.Isolation as Generic
 use Rattle.connection.specs.Sizes.{STORE, QUERY}
-use Rattle.connection.specs.Calls as C
 use Rattle.wire.proofs.Bytes.{AllBytes, drop_bytes}
 use Rattle.connection.proofs.Laws.Progress.{step_uses_some}
 use Rattle.connection.specs.Runs.Receiver.{receiver}

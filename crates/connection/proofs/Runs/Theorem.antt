@@ -21,7 +21,7 @@ use Rattle.connection.specs.Isolation.{EndsBetweenRecords, overloaded_for, Never
 use Rattle.connection.specs.Shuffle.{SameOf}
 use Rattle.connection.proofs.Runs.Telling.{told, told_all, seen_observed}
 use Rattle.connection.proofs.Runs.LinkingStep.{loaded_of, closed_loaded, Steady}
-use Rattle.connection.proofs.Runs.LinkingRuns.{run_linked, start_loaded, start_steady, request_loaded, BetweenRecords, between_loaded, loaded_between}
+use Rattle.connection.proofs.Runs.LinkingRuns.{run_linked, start_loaded, start_steady, request_loaded, between_loaded, loaded_between}
 use Rattle.connection.proofs.Runs.Records.{whole_between, between_whole}
 
 -- ---- a run from a start, on the machine

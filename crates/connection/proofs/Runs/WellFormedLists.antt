@@ -1,7 +1,7 @@
 -- In a run the list of a request whose PARAMS have ended, and that is not faulted, is well formed and repeats no name.
 use Rattle.std.specs.Prelude.{◌≡◌, refl, List, [], ◌∷◌, Bool, true, false, ℕ, suc, ◌+◌, ◌≤◌, ◌<◌, length, take, eqb, leb}
 use Rattle.std.proofs.Common.{ap, sym, ◌∙◌, subst, arith}
-use Rattle.std.proofs.Math.Option.{Option, none, some}
+use Rattle.std.proofs.Math.Option.{Option, none}
 use Rattle.wire.specs.Test.{if◌then◌else◌, byTest}
 use Rattle.record.specs.Names.{RESPONDER, AUTHORIZER, FILTER}
 use Rattle.record.specs.Body.{begin_body_of}

@@ -1,4 +1,3 @@
-use borrow.Author.Rules.{rules}
 use Rattle.float_bits.proofs.NanLaws.{nan_pattern, no_nan}
 use Rattle.float_bits.proofs.bits_of_float.Goals as goal
 

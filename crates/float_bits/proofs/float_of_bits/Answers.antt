@@ -1,4 +1,3 @@
-use borrow.Author.Rules.{rules}
 use Rattle.float_bits.proofs.NanLaws.{from_nan_pattern, no_nan_pattern}
 use Rattle.float_bits.proofs.float_of_bits.Goals as goal
 

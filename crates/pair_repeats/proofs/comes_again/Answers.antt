@@ -1,9 +1,7 @@
 use mathlib.Core.Path.{◌∙◌, sym, ap}
-use borrow.Author.Tests.{not-true}
 use Rattle.pair_repeats.specs.Keys.{may_hold}
 use Rattle.pair_list.specs.List.{is_named}
 use Rattle.pair_repeats.proofs.KeysLaws.{not_held}
-use borrow.Author.Rules.{rules}
 use Rattle.pair_repeats.proofs.comes_again.Goals as goal
 
 pub returns-then-not-may_hold : goal.returns-then-not-may_hold

@@ -1,15 +1,7 @@
-use mathlib.Core.Path.{◌≡◌, refl, sym, ap, ◌∙◌}
+use mathlib.Core.Path.{◌≡◌}
 use Prim.Native.Nat.{◌≤◌, ◌-◌}
-use native.Mathlib.Omega.{arith}
-use mathlib.Core.Logic.{⊎_elim}
-use borrow.Author.Rules.{rules}
-use lib.ListN.{length, length-set}
-use Rattle.pairs.specs.declared.pair.Read.{Read}
-use Rattle.pairs.specs.Pair.{pair_at}
-use Rattle.pairs.proofs.PairLaws.{PairIn, pair_in_lem}
-use Rattle.pair_list.specs.List.{Pairs}
-use Rattle.pair_list.proofs.ListLaws.{pairs_end, pairs_none}
-use Rattle.pair_repeats.proofs.KeysLaws.{Filling, fill_next, fill_done}
+use lib.ListN.{length}
+use Rattle.pair_repeats.proofs.KeysLaws.{Filling}
 use Rattle.pair_repeats.proofs.fill_keys.Given as goal
 
 abbrev pub invariant-loop-at : goal.invariant-loop-at

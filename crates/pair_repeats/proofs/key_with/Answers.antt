@@ -1,6 +1,5 @@
 use mathlib.Core.Path.{refl}
 use Rattle.pair_repeats.specs.Keys.{key_with}
-use borrow.Author.Rules.{rules}
 use Rattle.pair_repeats.proofs.key_with.Goals as goal
 
 pub returns : goal.returns

@@ -1,11 +1,7 @@
-use mathlib.Core.Path.{◌≡◌, refl, sym, ◌∙◌}
+use mathlib.Core.Path.{◌≡◌}
 use Prim.Native.Nat.{◌-◌}
-use native.Mathlib.Omega.{arith}
-use borrow.Author.Rules.{rules}
-use borrow.Author.Tests.{eq-eqb, ne_eqb, lt-ltb, le-ltb}
-use lib.ListN.{length, take, drop}
-use Rattle.pair_repeats.specs.Keys.{holds, may_hold}
-use Rattle.pair_repeats.proofs.KeysLaws.{held_step, held_end}
+use lib.ListN.{take, drop}
+use Rattle.pair_repeats.specs.Keys.{holds}
 use Rattle.pair_repeats.proofs.may_hold.Given as goal
 
 abbrev pub invariant-loop-i : goal.invariant-loop-i

@@ -1,10 +1,7 @@
-use mathlib.Core.Path.{◌≡◌, refl, sym, ap, ◌∙◌}
-use Prim.Native.Nat.{ℕ, ◌+◌, ◌≤◌, ◌-◌}
-use native.Mathlib.Omega.{arith}
-use borrow.Author.Rules.{rules}
+use mathlib.Core.Path.{◌≡◌}
+use Prim.Native.Nat.{◌≤◌, ◌-◌}
 use lib.ListN.{length, drop}
-use Rattle.pair_repeats.specs.Keys.{key_from, key_of}
-use Rattle.pair_repeats.proofs.KeysLaws.{key_step, key_end}
+use Rattle.pair_repeats.specs.Keys.{key_from}
 use Rattle.pair_repeats.proofs.name_key.Given as goal
 
 abbrev pub invariant-loop-i : goal.invariant-loop-i

@@ -1,20 +1,13 @@
 use mathlib.Core.Path.{◌≡◌, refl, sym, ap, ◌∙◌}
-use Prim.Native.Nat.{ℕ, ◌≤◌, ◌-◌}
 use native.Mathlib.Omega.{arith}
-use mathlib.Core.List.{List}
-use mathlib.Core.Logic.{⊎_elim}
-use borrow.Author.Rules.{rules}
-use lib.ListN.{length}
 use Rattle.pairs.specs.declared.pair.Read.{Read}
 use Rattle.pairs.specs.Pair.{pair_at}
 use Rattle.pairs.proofs.PairLaws.{PairIn, pair_in_lem}
-use Rattle.pair_list.specs.List.{Pairs, pairs_from}
+use Rattle.pair_list.specs.List.{Pairs}
 use Rattle.pair_list.proofs.ListLaws.{pairs_end, pairs_none}
-use Rattle.pair_repeats.specs.Repeats.{repeats_in, repeats}
-use Rattle.pair_repeats.specs.Keys.{Filled}
+use Rattle.pair_repeats.specs.Repeats.{repeats}
 use Rattle.pair_repeats.proofs.KeysLaws.{filled_next}
 use Rattle.pair_repeats.proofs.RepeatsLaws.{repeats_next, repeats_end}
-use Rattle.pair_repeats.proofs.repeats_by.Invariants.{Round}
 use Rattle.pair_repeats.proofs.repeats_by.Goals as goal
 
 pub loop-at-init : goal.loop-at-init

@@ -1,19 +1,10 @@
-use mathlib.Core.Path.{◌≡◌, refl, sym, ap, ◌∙◌}
+use mathlib.Core.Path.{◌≡◌}
 use Prim.Native.Nat.{ℕ, ◌≤◌, ◌-◌}
-use native.Mathlib.Omega.{arith}
 use mathlib.Core.List.{List}
-use mathlib.Core.Logic.{⊎_elim}
-use borrow.Author.Rules.{rules}
 use lib.ListN.{length}
-use Rattle.pairs.specs.declared.pair.Read.{Read}
-use Rattle.pairs.specs.Pair.{pair_at}
-use Rattle.pairs.proofs.PairLaws.{PairIn, pair_in_lem}
-use Rattle.pair_list.specs.List.{Pairs, pairs_from}
-use Rattle.pair_list.proofs.ListLaws.{pairs_end, pairs_none}
-use Rattle.pair_repeats.specs.Repeats.{repeats_in, repeats}
+use Rattle.pair_list.specs.List.{pairs_from}
+use Rattle.pair_repeats.specs.Repeats.{repeats_in}
 use Rattle.pair_repeats.specs.Keys.{Filled}
-use Rattle.pair_repeats.proofs.KeysLaws.{filled_next}
-use Rattle.pair_repeats.proofs.RepeatsLaws.{repeats_next, repeats_end}
 use Rattle.pair_repeats.proofs.repeats_by.Given as goal
 
 -- where the table is filled: it is from here on, and here the test still has to be made

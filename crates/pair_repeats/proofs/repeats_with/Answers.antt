@@ -1,4 +1,3 @@
-use borrow.Author.Rules.{rules}
 use Rattle.pair_repeats.proofs.repeats_with.Goals as goal
 
 pub returns : goal.returns
