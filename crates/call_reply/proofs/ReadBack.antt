@@ -206,11 +206,11 @@ two_or_three Status.UnknownRole = (omega arith, omega arith)
 pub reply_status : (e : CodeEvent) → ((id : ℕ) (status : Status) → e ≡ CodeEvent.Refuse id status → id < 65536)
     → Statuses (λ n. (2 ≤ n) × (n ≤ 3)) (split (owed (event_of e))).records
 unfolding owed split split_in
-reply_status (CodeEvent.Refuse id status) h = status_end _ id 0 (status_number status) (h id status refl) (omega arith) (two_or_three status)
+reply_status (CodeEvent.Refuse id status) h = status_end (λ n. (2 ≤ n) × (n ≤ 3)) id 0 (status_number status) (h id status refl) (omega arith) (two_or_three status)
 reply_status (CodeEvent.Query conns reqs mpxs) h =
-    status_other _ GET_VALUES_RESULT 0 (values_of conns reqs mpxs) (λ e. omega arith) (omega arith) (omega (arith, values_length conns reqs mpxs))
+    status_other (λ n. (2 ≤ n) × (n ≤ 3)) GET_VALUES_RESULT 0 (values_of conns reqs mpxs) (λ e. omega arith) (omega arith) (omega (arith, values_length conns reqs mpxs))
 reply_status (CodeEvent.Unknown kind) h =
-    status_other _ UNKNOWN_TYPE 0 (unknown_type_bytes kind) (λ e. omega arith) (omega arith) (omega (arith, unknown_length kind))
+    status_other (λ n. (2 ≤ n) × (n ≤ 3)) UNKNOWN_TYPE 0 (unknown_type_bytes kind) (λ e. omega arith) (omega arith) (omega (arith, unknown_length kind))
 reply_status CodeEvent.Nothing h = tt
 reply_status (CodeEvent.Open id role keep) h = tt
 reply_status (CodeEvent.Ready id n) h = tt
@@ -226,5 +226,5 @@ pub finish_status : (r : Request) (appStatus : ℕ) → r.id < 65536 → appStat
 unfolding finish_bytes
 finish_status r appStatus hi ha =
     let last = record_bytes END_REQUEST r.id (end_body_bytes appStatus REQUEST_COMPLETE) in
-    status_behind _ (owes_out r.state) STDOUT r.id (λ e. omega arith) hi ((if owes_err r.state then record_bytes STDERR r.id [] else []) ++ last)
-    (status_behind _ (owes_err r.state) STDERR r.id (λ e. omega arith) hi last (status_end _ r.id appStatus REQUEST_COMPLETE hi ha refl))
+    status_behind (λ n. n ≡ REQUEST_COMPLETE) (owes_out r.state) STDOUT r.id (λ e. omega arith) hi ((if owes_err r.state then record_bytes STDERR r.id [] else []) ++ last)
+    (status_behind (λ n. n ≡ REQUEST_COMPLETE) (owes_err r.state) STDERR r.id (λ e. omega arith) hi last (status_end (λ n. n ≡ REQUEST_COMPLETE) r.id appStatus REQUEST_COMPLETE hi ha refl))

@@ -10,7 +10,6 @@ use Rattle.record_reader.specs.Position.{advanced, in_header}
 use Rattle.pairs.specs.Length.{four_at, length_at}
 use Rattle.pairs.specs.Pair.{pair_at}
 use Rattle.wire.specs.Compare.{same_bytes, places_up_to, compared}
-use Rattle.wire.specs.declared.Compared.{Compared}
 use Rattle.pair_list.specs.List.{pairs_in, pairs_from, ending_of, well_formed, broken_at, first_named, first_in}
 use Rattle.pair_repeats.specs.Repeats.{repeats_in, repeats}
 use Rattle.stated_length.specs.Stated.{stated_in}

@@ -8,8 +8,6 @@ use Rattle.record.proofs.SplitLaws.{split_whole}
 use Rattle.machine.specs.Timeline.{Item, ByteItem, CallItem, item_bytes, is_own_call}
 use Rattle.machine.specs.Interleaving.{Part, RecordPart, CallPart, IsRecordOf, AllWhole, own_in, own_of}
 use Rattle.connection.specs.Event.{Event}
-use Rattle.connection.specs.RequestCalls as Of
-use Rattle.connection.specs.Calls as C
 use Rattle.connection.specs.Bytewise.{Note}
 use Rattle.wire.proofs.Bytes.{AllBytes}
 use Rattle.connection.specs.Arguments.{Argument}
@@ -94,6 +92,7 @@ never_refused R (o ∷ os) e (Memᴰ.tail m) = go (tells_refusal R o) e (λ d. n
     go : (w : Bool) → (if w then true else refused_in R os) ≡ false → (refused_in R os ≡ false → ⊥) → ⊥
     go true d f = let z : ◌≡◌ {A = ℕ} 0 1 = cc in omega arith
     go false d f = f d
+never_refused R [] e x'' = elim x'' [ ]
 
 -- a call among these items names R
 unfoldable pub names_in : ℕ → List (Item Argument) → Bool

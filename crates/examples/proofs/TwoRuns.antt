@@ -1,5 +1,5 @@
 -- A worked instance of isolation: two requests, interleaved, with calls. R is 1.
-use Rattle.std.specs.Prelude.{◌≡◌, refl, Bool, true, false, ℕ, ◌-◌, length}
+use Rattle.std.specs.Prelude.{◌≡◌, refl, Bool, true, false, ℕ, ◌-◌}
 use Rattle.std.proofs.Common.{◌∙◌, inl, arith}
 use mathlib.Core.List.{List, [], ◌∷◌, ◌++◌, flatten, append-nil}
 use Rattle.std.proofs.Math.Option.{none, some}

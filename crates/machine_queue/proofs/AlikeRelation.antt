@@ -103,6 +103,9 @@ module _ (M : Machine) (Q : Queue M) (R : ℕ) where
   unfolding reading_without target_without
   idle_without i (AtHeader h) f = refl
   idle_without i (PastHeader Skip c p) f = refl
+  idle_without i (PastHeader (ToBegin _ _) c p) f = elim f [ ]
+  idle_without i (PastHeader (ToQuery _) c p) f = elim f [ ]
+  idle_without i (PastHeader (ToSlot _ _) c p) f = elim f [ ]
 
   -- nothing said, nothing written
   pub nothing_said : (w : List Atom) → w ++ [] ≡ [] ++ w

@@ -11,7 +11,7 @@ use Prim.Native.Nat.{ℕ, zero, suc, ◌+◌, ◌-◌, ◌≤◌, ◌<◌}
 use native.Mathlib.Omega.{arith}
 use Rattle.std.proofs.Math.Dec.{ltb, leb}
 use borrow.Author.Tests.{eqb-true, eqb-false, ltb-true, ltb-false, leb-true, leb-false, le-leb, lt-leb}
-use Rattle.wire.specs.Test.{if◌then◌else◌, ◌<?◌, ◌≤?◌, byTest}
+use Rattle.wire.specs.Test.{if◌then◌else◌, byTest}
 use Rattle.machine.specs.Timeline.{RequestCall, Item, CallItem}
 use Rattle.machine.specs.Slots.{SlotState, Vacant, HeldBy, slot_at}
 use Rattle.machine.specs.Machine.{Machine, Slots, Connection, Open, Closed, on_item, state_after}

@@ -9,7 +9,6 @@ use Rattle.machine_queue.specs.Waiting.{CallLeaving, ServeLive, ServeLeaving, Wa
 use Rattle.connection.specs.declared.answer.Output.{Output}
 use Rattle.connection.specs.Codes.{output_type}
 use Rattle.connection.specs.Request.{Held}
-use Rattle.connection.specs.RequestCalls as Of
 use Rattle.connection.specs.Arguments.{Argument, ForRead, ForSay, ForEnd, ForFinish, refused}
 use Rattle.connection.specs.Runs.Receiver.{receive_call}
 use Rattle.queue_slot.specs.Atoms.{RUN, Atom, ByteOn, EndOf, EndRequest, end_waits, run_from, next, record_atoms, atoms_of}

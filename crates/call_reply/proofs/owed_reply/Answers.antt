@@ -11,7 +11,6 @@ use Rattle.connection.specs.Codes.{event_of}
 use Rattle.connection.specs.Calls.{values_of, owed, replied}
 use Rattle.call_reply.specs.Answer.{filled_by}
 use Rattle.call_reply.proofs.Laws.{Values, values_put, unowed}
-use borrow.Author.Rules.{rules}
 use Rattle.call_reply.proofs.owed_reply.Goals as goal
 
 pub slice_bounds-one_record-end-in-Query : goal.slice_bounds-one_record-end-in-Query
@@ -32,7 +31,7 @@ returns-in-Refuse c =
     let s = c.args in
     let id = c.in-Refuse.id in
     c.one_record.ensures
-    ∙ ap (λ (x : List ℕ). filled_by (record_bytes END_REQUEST id x) s.out.now) (c.end_Body.ensures ∙ ap (end_body_bytes 0) c.status_number-number.ensures)
+    ∙ ap (λ (x : List ℕ). filled_by (record_bytes END_REQUEST id x) s.out.now) (c.end_body-body.ensures ∙ ap (end_body_bytes 0) c.status_number-number.ensures)
     ∙ ap (λ (e : Event). replied (event_of e) s.out.now) (sym c.in-Refuse.is)
 
 pub returns-in-Query : goal.returns-in-Query

@@ -4,12 +4,11 @@ use mathlib.Core.List.{List}
 use Prim.Native.Nat.{ℕ}
 use native.Mathlib.Omega.{arith}
 use lib.ListN.{length}
-use borrow.Author.Tests.{lt-ltb, le-ltb, not-true, not-false}
+use borrow.Author.Tests.{lt-ltb, le-ltb}
 use Rattle.record_writer.specs.Written.{stream_fits, stream_placed}
 use Rattle.pairs.specs.Pair.{pair_bytes}
 use Rattle.pair_stream.specs.Stream.{pair_streamed}
 use Rattle.pair_stream.proofs.StreamLaws.{Head, head, pair_placed}
-use borrow.Author.Rules.{rules}
 use Rattle.pair_stream.proofs.write_pair_stream.Goals as goal
 
 pub returns-then-n-gt65535 : goal.returns-then-n-gt65535
@@ -22,35 +21,35 @@ returns-then-v-gt65535 c = simp (le-ltb _ _ c.if-n-gt65535.false, lt-ltb _ _ c.i
 
 pub overflow_add-h : goal.overflow_add-h
 overflow_add-h c =
-    let lengths : Head c.args.name.now c.args.value.now c.length-Fields.result.bytes c.length-Fields.result.count =
-        head c.args.name.now c.args.value.now c.length-Fields.result.bytes c.length-Fields.result.count c.length-Fields.ensures.0 c.length-Fields.ensures.1 in
+    let lengths : Head c.args.name.now c.args.value.now c.length_fields-fields.result.bytes c.length_fields-fields.result.count =
+        head c.args.name.now c.args.value.now c.length_fields-fields.result.bytes c.length_fields-fields.result.count c.length_fields-fields.ensures.0 c.length_fields-fields.ensures.1 in
     omega (arith, lengths)
 
 pub overflow_add-h-2 : goal.overflow_add-h-2
 overflow_add-h-2 c =
-    let lengths : Head c.args.name.now c.args.value.now c.length-Fields.result.bytes c.length-Fields.result.count =
-        head c.args.name.now c.args.value.now c.length-Fields.result.bytes c.length-Fields.result.count c.length-Fields.ensures.0 c.length-Fields.ensures.1 in
+    let lengths : Head c.args.name.now c.args.value.now c.length_fields-fields.result.bytes c.length_fields-fields.result.count =
+        head c.args.name.now c.args.value.now c.length_fields-fields.result.bytes c.length_fields-fields.result.count c.length_fields-fields.ensures.0 c.length_fields-fields.ensures.1 in
     omega (arith, lengths)
 
 pub returns-then-not-stream_fits : goal.returns-then-not-stream_fits
 unfolding pair_streamed
 returns-then-not-stream_fits c =
-    let lengths : Head c.args.name.now c.args.value.now c.length-Fields.result.bytes c.length-Fields.result.count =
-        head c.args.name.now c.args.value.now c.length-Fields.result.bytes c.length-Fields.result.count c.length-Fields.ensures.0 c.length-Fields.ensures.1 in
+    let lengths : Head c.args.name.now c.args.value.now c.length_fields-fields.result.bytes c.length_fields-fields.result.count =
+        head c.args.name.now c.args.value.now c.length_fields-fields.result.bytes c.length_fields-fields.result.count c.length_fields-fields.ensures.0 c.length_fields-fields.ensures.1 in
     let a = c.args in
     let short = ap (λ (n : ℕ). stream_fits a.size n 0 (length a.out.now)) (sym (lengths).size) ∙ sym c.stream_fits.ensures ∙ c.if-not-stream_fits.true in
     simp (le-ltb _ _ c.if-n-gt65535.false, le-ltb _ _ c.if-v-gt65535.false, short)
 
 pub slice_bounds-put_records-end : goal.slice_bounds-put_records-end
 slice_bounds-put_records-end c =
-    let lengths : Head c.args.name.now c.args.value.now c.length-Fields.result.bytes c.length-Fields.result.count =
-        head c.args.name.now c.args.value.now c.length-Fields.result.bytes c.length-Fields.result.count c.length-Fields.ensures.0 c.length-Fields.ensures.1 in
+    let lengths : Head c.args.name.now c.args.value.now c.length_fields-fields.result.bytes c.length_fields-fields.result.count =
+        head c.args.name.now c.args.value.now c.length_fields-fields.result.bytes c.length_fields-fields.result.count c.length_fields-fields.ensures.0 c.length_fields-fields.ensures.1 in
     (lengths).within
 
 pub put_records-requires : goal.put_records-requires
 put_records-requires c =
-    let lengths : Head c.args.name.now c.args.value.now c.length-Fields.result.bytes c.length-Fields.result.count =
-        head c.args.name.now c.args.value.now c.length-Fields.result.bytes c.length-Fields.result.count c.length-Fields.ensures.0 c.length-Fields.ensures.1 in
+    let lengths : Head c.args.name.now c.args.value.now c.length_fields-fields.result.bytes c.length_fields-fields.result.count =
+        head c.args.name.now c.args.value.now c.length_fields-fields.result.bytes c.length_fields-fields.result.count c.length_fields-fields.ensures.0 c.length_fields-fields.ensures.1 in
     let fits : stream_fits c.args.size (length (pair_bytes c.args.name.now c.args.value.now)) 0 (length c.args.out.now) ≡ true =
         let a = c.args in
         ap (λ (n : ℕ). stream_fits a.size n 0 (length a.out.now)) (sym (lengths).size) ∙ sym c.stream_fits.ensures ∙ c.if-not-stream_fits.false in
@@ -60,8 +59,8 @@ put_records-requires c =
 
 pub returns : goal.returns
 returns c =
-    let lengths : Head c.args.name.now c.args.value.now c.length-Fields.result.bytes c.length-Fields.result.count =
-        head c.args.name.now c.args.value.now c.length-Fields.result.bytes c.length-Fields.result.count c.length-Fields.ensures.0 c.length-Fields.ensures.1 in
+    let lengths : Head c.args.name.now c.args.value.now c.length_fields-fields.result.bytes c.length_fields-fields.result.count =
+        head c.args.name.now c.args.value.now c.length_fields-fields.result.bytes c.length_fields-fields.result.count c.length_fields-fields.ensures.0 c.length_fields-fields.ensures.1 in
     let fits : stream_fits c.args.size (length (pair_bytes c.args.name.now c.args.value.now)) 0 (length c.args.out.now) ≡ true =
         let a = c.args in
         ap (λ (n : ℕ). stream_fits a.size n 0 (length a.out.now)) (sym (lengths).size) ∙ sym c.stream_fits.ensures ∙ c.if-not-stream_fits.false in

@@ -1,8 +1,5 @@
-use mathlib.Core.Path.{◌≡◌, refl, sym, ◌∙◌}
-use Prim.Native.Nat.{◌-◌}
+use mathlib.Core.Path.{sym, ◌∙◌}
 use native.Mathlib.Omega.{arith}
-use Rattle.connection.specs.Sizes.{SLOTS}
-use Rattle.connection.specs.Slots.{find_from}
 use Rattle.slot_table.proofs.Laws.{find_turn, find_end}
 use Rattle.slot_table.proofs.find_from.Goals as goal
 

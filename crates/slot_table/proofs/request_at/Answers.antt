@@ -11,11 +11,11 @@ use Rattle.slot_table.proofs.request_at.Goals as goal
 
 pub returns-then-i-lt-SLOTS : goal.returns-then-i-lt-SLOTS
 unfolding request_at
-returns-then-i-lt-SLOTS c = simp (c.slot_taken.ensures, c.is_taken-then-i-lt-SLOTS.ensures, c.is_taken-then-i-lt-SLOTS-2.ensures, c.is_taken-then-i-lt-SLOTS-3.ensures)
+returns-then-i-lt-SLOTS c = simp (c.is_taken.ensures, c.is_taken-then-i-lt-SLOTS.ensures, c.is_taken-then-i-lt-SLOTS-2.ensures, c.is_taken-then-i-lt-SLOTS-3.ensures)
 
 pub returns : goal.returns
 returns c =
-    let t = c.args.t1 in
+    let t = c.args.t in
     let ids : length t.ids ≡ SLOTS = search rules in
     let lengths : length t.lengths ≡ SLOTS = search rules in
     let standings : length t.standings ≡ SLOTS = search mapped-length in
