@@ -93,7 +93,7 @@ def tight(text):
                     pend += inner
                     i = j
             elif kind == 'proj' or (kind == 'name' and False):
-                t = re.sub(r"«([^»]*)»", r"\1", t)
+                t = re.sub(r"«(?!(?:data|open)»)([^»]*)»", r"\1", t)
                 while pend and pend[-1][0] == 'ws':
                     pend.pop()
                 k = len(pend)
@@ -114,7 +114,7 @@ def tight(text):
                 else:
                     pend.append(('op', t))
             else:
-                pend.append(('atom', re.sub(r"«([^»]*)»", r"\1", t) if kind == 'name' else t))
+                pend.append(('atom', re.sub(r"«(?!(?:data|open)»)([^»]*)»", r"\1", t) if kind == 'name' else t))
             i += 1
         out += pend
         return out, i
