@@ -1,6 +1,6 @@
 -- What the admission of a call says: of one let through, the slot; of a refused one, the row.
 use Rattle.std.specs.Prelude.{ℕ, ◌≡◌, eqb}
-use Rattle.std.proofs.Common.{sym, ap, ◌∙◌, eqb-true}
+use Rattle.std.proofs.Common.{sym, ap, eqb-true}
 use Rattle.std.proofs.lemmas.Bool.{eqb-false}
 use Rattle.wire.specs.Test.{byTest}
 use Rattle.connection.specs.declared.answer.Refusal.{Refusal}

@@ -1,5 +1,5 @@
 -- What the proofs of this crate share, and what a shape depends on.
-use Rattle.std.specs.Prelude.{ℕ, ◌+◌, ◌-◌, ◌≤◌, ◌<◌, ◌≡◌, refl, Bool, true, false, List, ltb, eqb}
+use Rattle.std.specs.Prelude.{ℕ, ◌+◌, ◌-◌, ◌≤◌, ◌<◌, ◌≡◌, refl, Bool, true, false, ltb, eqb}
 use Rattle.std.proofs.Common.{ap, arith, ltb-true, eq-eqb, ne_eqb}
 use Rattle.wire.specs.Test.{byTest}
 use Rattle.connection.specs.Sizes.{SLOTS}

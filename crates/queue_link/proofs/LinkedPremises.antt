@@ -51,6 +51,7 @@ full_note R = Note.Told (Event.Refuse R OVERLOADED)
 heard_note : (n : Note) (ns : List Note) → Memᴰ (Run.Heard n) (map Run.Heard ns) → Memᴰ n ns
 heard_note n (x ∷ ns) (Memᴰ.head e) = let d : n ≡ x = cc in Memᴰ.head d
 heard_note n (x ∷ ns) (Memᴰ.tail h) = Memᴰ.tail (heard_note n ns h)
+heard_note n [] x' = elim x' [ ]
 
 lifted_told : (R : ℕ) (f : Waiting) (os : List (Observation receiver)) → Memᴰ (full R) (lift_seen f os) → Memᴰ (Run.Heard (full_note R)) (told_all os)
 unfolding lift_seen told_all as_list
@@ -66,9 +67,11 @@ lifted_told R f (CloseEvent n ∷ os) (Memᴰ.head d) = let z : ◌≡◌ {A = �
 lifted_told R f (CloseEvent n ∷ os) (Memᴰ.tail h) = Memᴰ.tail (lifted_told R f os h)
 lifted_told R f (CountAnswer T ∷ os) h = lifted_told R f os h
 lifted_told R f (CallAnswer id a n v w ∷ os) h = Memᴰ.tail (lifted_told R f os h)
+lifted_told R f [] h = elim h [ ]
 
 not_call : (R id : ℕ) (a : Asked) (n : QueueAnswer) (v w : Option Queued) → Memᴰ (full R) (CallAnswer id a n v w ∷ []) → ⊥
 not_call R id a n v w (Memᴰ.head d) = let z : ◌≡◌ {A = ℕ} 0 1 = cc in omega arith
+not_call R id a n v w (Memᴰ.tail x4) = elim x4 [ ]
 
 not_serves : (R : ℕ) (ids : List ℕ) (s : Connection queueing_receiver) → Memᴰ (full R) (observations queueing_receiver s (serves_of ids)) → ⊥
 unfolding observations serves_of as_list
@@ -80,11 +83,14 @@ not_serves R (id ∷ ids) s h =
     go : {A B : Type 0} → A ⊎ B → (A → ⊥) → (B → ⊥) → ⊥
     go (inl x) f g = f x
     go (inr x) f g = g x
+not_serves R [] s h = elim h [ ]
 
 not_count : (R : ℕ) (s : Connection queueing_receiver) → Memᴰ (full R) (observations queueing_receiver s (CallItem CountCall ∷ [])) → ⊥
 unfolding observations on_item as_list
 not_count R (Open T F) (Memᴰ.head d) = let z : ◌≡◌ {A = ℕ} 0 1 = cc in omega arith
 not_count R Closed (Memᴰ.head d) = let z : ◌≡◌ {A = ℕ} 0 1 = cc in omega arith
+not_count R (Open T F) (Memᴰ.tail x5) = elim x5 [ ]
+not_count R Closed (Memᴰ.tail x6) = elim x6 [ ]
 
 -- the notes of one operation
 abbrev notes_op : QueueMemory → QueueOperation → List Note
@@ -127,6 +133,7 @@ run_full R (o ∷ os) m k p h =
     go : {A B : Type 0} {n : Note} {l r : List Note} → A ⊎ B → (A → Memᴰ n l) → (B → Memᴰ n r) → Memᴰ n (l ++ r)
     go {r = r} (inl a) f g = Memᴰ.append_left r (f a)
     go {l = l} (inr b) f g = Memᴰ.append_right l (g b)
+run_full R [] m k p h = elim h [ ]
 
 -- ---- no call of R refused by 10
 unheld_append : (x y : List (Observation queueing_receiver)) → NoneHeldUp queueing_receiver waiting_queue x → NoneHeldUp queueing_receiver waiting_queue y → NoneHeldUp queueing_receiver waiting_queue (x ++ y)

@@ -27,16 +27,16 @@ returns-then-raw-gt65535 c = let a = c.args in sym (row_41 a.calibration a.tenth
 pub returns-then-not-sent_fits : goal.returns-then-not-sent_fits
 returns-then-not-sent_fits c =
     let ranged : c.sent_fits.result ≡ sent_fits (sent_of c.args.tenths) =
-        c.sent_fits.ensures ∙ ap sent_fits (c.sent_of.ensures ∙ ap sent_of (to_z-of_z w32 c.args.tenths c.ranges.tenths)) in
+    c.sent_fits.ensures ∙ ap sent_fits (c.sent_of.ensures ∙ ap sent_of (to_z-of_z w32 c.args.tenths c.ranges.tenths)) in
     let a = c.args in
     sym (row_42 a.calibration a.tenths a.raw (le-ltb _ _ c.if-raw-gt65535.false) (sym (ranged) ∙ c.if-not-sent_fits.true))
 
 pub returns-then-not-is_thawed-is_frozen : goal.returns-then-not-is_thawed-is_frozen
 returns-then-not-is_thawed-is_frozen c =
     let ranged : c.sent_fits.result ≡ sent_fits (sent_of c.args.tenths) =
-        c.sent_fits.ensures ∙ ap sent_fits (c.sent_of.ensures ∙ ap sent_of (to_z-of_z w32 c.args.tenths c.ranges.tenths)) in
+    c.sent_fits.ensures ∙ ap sent_fits (c.sent_of.ensures ∙ ap sent_of (to_z-of_z w32 c.args.tenths c.ranges.tenths)) in
     let kinds-are : (c.is_thawed.result && c.is_frozen.result) ≡ kinds c.args.calibration =
-        simp (c.is_thawed.ensures, c.is_frozen.ensures) in
+    simp (c.is_thawed.ensures, c.is_frozen.ensures) in
     let a = c.args in
     sym
     (row_43 a.calibration a.tenths a.raw (le-ltb _ _ c.if-raw-gt65535.false)
@@ -46,11 +46,11 @@ returns-then-not-is_thawed-is_frozen c =
 pub returns-then-not-floats_allowed : goal.returns-then-not-floats_allowed
 returns-then-not-floats_allowed c =
     let ranged : c.sent_fits.result ≡ sent_fits (sent_of c.args.tenths) =
-        c.sent_fits.ensures ∙ ap sent_fits (c.sent_of.ensures ∙ ap sent_of (to_z-of_z w32 c.args.tenths c.ranges.tenths)) in
+    c.sent_fits.ensures ∙ ap sent_fits (c.sent_of.ensures ∙ ap sent_of (to_z-of_z w32 c.args.tenths c.ranges.tenths)) in
     let kinds-are : (c.is_thawed.result && c.is_frozen.result) ≡ kinds c.args.calibration =
-        simp (c.is_thawed.ensures, c.is_frozen.ensures) in
+    simp (c.is_thawed.ensures, c.is_frozen.ensures) in
     let floats-are : (c.floats_allowed.result && c.floats_allowed-2.result) ≡ floats c.args.calibration =
-        simp (c.floats_allowed.ensures, c.floats_allowed-2.ensures) in
+    simp (c.floats_allowed.ensures, c.floats_allowed-2.ensures) in
     let a = c.args in
     sym
     (row_44 a.calibration a.tenths a.raw (le-ltb _ _ c.if-raw-gt65535.false)
@@ -61,11 +61,11 @@ returns-then-not-floats_allowed c =
 pub returns-then-tenths-lt0 : goal.returns-then-tenths-lt0
 returns-then-tenths-lt0 c =
     let ranged : c.sent_fits.result ≡ sent_fits (sent_of c.args.tenths) =
-        c.sent_fits.ensures ∙ ap sent_fits (c.sent_of.ensures ∙ ap sent_of (to_z-of_z w32 c.args.tenths c.ranges.tenths)) in
+    c.sent_fits.ensures ∙ ap sent_fits (c.sent_of.ensures ∙ ap sent_of (to_z-of_z w32 c.args.tenths c.ranges.tenths)) in
     let kinds-are : (c.is_thawed.result && c.is_frozen.result) ≡ kinds c.args.calibration =
-        simp (c.is_thawed.ensures, c.is_frozen.ensures) in
+    simp (c.is_thawed.ensures, c.is_frozen.ensures) in
     let floats-are : (c.floats_allowed.result && c.floats_allowed-2.result) ≡ floats c.args.calibration =
-        simp (c.floats_allowed.ensures, c.floats_allowed-2.ensures) in
+    simp (c.floats_allowed.ensures, c.floats_allowed-2.ensures) in
     let a = c.args in
     let fits = c.ranges.tenths in
     let curve = below-zero a.calibration a.tenths c.if-tenths-lt0.true fits in
@@ -83,11 +83,11 @@ returns-then-tenths-lt0 c =
 pub returns : goal.returns
 returns c =
     let ranged : c.sent_fits.result ≡ sent_fits (sent_of c.args.tenths) =
-        c.sent_fits.ensures ∙ ap sent_fits (c.sent_of.ensures ∙ ap sent_of (to_z-of_z w32 c.args.tenths c.ranges.tenths)) in
+    c.sent_fits.ensures ∙ ap sent_fits (c.sent_of.ensures ∙ ap sent_of (to_z-of_z w32 c.args.tenths c.ranges.tenths)) in
     let kinds-are : (c.is_thawed.result && c.is_frozen.result) ≡ kinds c.args.calibration =
-        simp (c.is_thawed.ensures, c.is_frozen.ensures) in
+    simp (c.is_thawed.ensures, c.is_frozen.ensures) in
     let floats-are : (c.floats_allowed.result && c.floats_allowed-2.result) ≡ floats c.args.calibration =
-        simp (c.floats_allowed.ensures, c.floats_allowed-2.ensures) in
+    simp (c.floats_allowed.ensures, c.floats_allowed-2.ensures) in
     let a = c.args in
     let fits = c.ranges.tenths in
     let curve = from_zero a.calibration a.tenths c.if-tenths-lt0.false fits in

@@ -18,32 +18,32 @@ returns-in_default c =
 pub slice_bounds-same-count : goal.slice_bounds-same-count
 slice_bounds-same-count c =
     let read : pair_at c.args.list.now c.loop-at.at ≡ Read.Pair c.in-Pair.p c.in-Pair.next =
-        sym c.read_pair-read.ensures ∙ c.in-Pair.is in
+    sym c.read_pair-read.ensures ∙ c.in-Pair.is in
     let is_in_lem : PairIn c.args.list.now c.loop-at.at c.in-Pair.p c.in-Pair.next =
-        pair_in_lem _ _ _ _ (read) in
+    pair_in_lem _ _ _ _ (read) in
     omega (arith, is_in_lem)
 
 pub slice_bounds-same-start : goal.slice_bounds-same-start
 slice_bounds-same-start c =
     let read : pair_at c.args.list.now c.loop-at.at ≡ Read.Pair c.in-Pair.p c.in-Pair.next =
-        sym c.read_pair-read.ensures ∙ c.in-Pair.is in
+    sym c.read_pair-read.ensures ∙ c.in-Pair.is in
     let is_in_lem : PairIn c.args.list.now c.loop-at.at c.in-Pair.p c.in-Pair.next =
-        pair_in_lem _ _ _ _ (read) in
+    pair_in_lem _ _ _ _ (read) in
     omega (arith, is_in_lem)
 
 pub slice_bounds-same-end : goal.slice_bounds-same-end
 slice_bounds-same-end c =
     let read : pair_at c.args.list.now c.loop-at.at ≡ Read.Pair c.in-Pair.p c.in-Pair.next =
-        sym c.read_pair-read.ensures ∙ c.in-Pair.is in
+    sym c.read_pair-read.ensures ∙ c.in-Pair.is in
     let is_in_lem : PairIn c.args.list.now c.loop-at.at c.in-Pair.p c.in-Pair.next =
-        pair_in_lem _ _ _ _ (read) in
+    pair_in_lem _ _ _ _ (read) in
     omega (arith, is_in_lem)
 
 pub returns-then-same : goal.returns-then-same
 unfolding first_from
 returns-then-same c =
     let read : pair_at c.args.list.now c.loop-at.at ≡ Read.Pair c.in-Pair.p c.in-Pair.next =
-        sym c.read_pair-read.ensures ∙ c.in-Pair.is in
+    sym c.read_pair-read.ensures ∙ c.in-Pair.is in
     let a = c.args in
     let e = c.loop-at.invariant ∙ first_next a.list.now a.name.now c.loop-at.at _ _ (read) in
     sym (e ∙ simp (← c.same.ensures, c.if-same.true))
@@ -51,15 +51,15 @@ returns-then-same c =
 pub loop-at-smaller : goal.loop-at-smaller
 loop-at-smaller c =
     let read : pair_at c.args.list.now c.loop-at.at ≡ Read.Pair c.in-Pair.p c.in-Pair.next =
-        sym c.read_pair-read.ensures ∙ c.in-Pair.is in
+    sym c.read_pair-read.ensures ∙ c.in-Pair.is in
     let is_in_lem : PairIn c.args.list.now c.loop-at.at c.in-Pair.p c.in-Pair.next =
-        pair_in_lem _ _ _ _ (read) in
+    pair_in_lem _ _ _ _ (read) in
     omega (arith, is_in_lem)
 
 pub loop-at-preserved : goal.loop-at-preserved
 loop-at-preserved c =
     let read : pair_at c.args.list.now c.loop-at.at ≡ Read.Pair c.in-Pair.p c.in-Pair.next =
-        sym c.read_pair-read.ensures ∙ c.in-Pair.is in
+    sym c.read_pair-read.ensures ∙ c.in-Pair.is in
     let a = c.args in
     let e = c.loop-at.invariant ∙ first_next a.list.now a.name.now c.loop-at.at _ _ (read) in
     e ∙ simp (← c.same.ensures, c.if-same.false)

@@ -22,24 +22,24 @@ pub returns-then-left-eq0 : goal.returns-then-left-eq0
 unfolding pair_number
 returns-then-left-eq0 c =
     let read : pair_at c.args.list.now c.loop-at.at ≡ Read.Pair c.in-Pair.p c.in-Pair.next =
-        sym c.read_pair-read.ensures ∙ c.in-Pair.is in
+    sym c.read_pair-read.ensures ∙ c.in-Pair.is in
     let e = c.loop-at.invariant.1 ∙ number_next c.args.list.now c.loop-at.left c.loop-at.at _ _ (read) in
     sym (e ∙ simp (eq-eqb _ _ c.if-left-eq0.true))
 
 pub loop-at-smaller : goal.loop-at-smaller
 loop-at-smaller c =
     let read : pair_at c.args.list.now c.loop-at.at ≡ Read.Pair c.in-Pair.p c.in-Pair.next =
-        sym c.read_pair-read.ensures ∙ c.in-Pair.is in
+    sym c.read_pair-read.ensures ∙ c.in-Pair.is in
     let is_in_lem : PairIn c.args.list.now c.loop-at.at c.in-Pair.p c.in-Pair.next =
-        pair_in_lem _ _ _ _ (read) in
+    pair_in_lem _ _ _ _ (read) in
     omega (arith, is_in_lem)
 
 pub loop-at-preserved : goal.loop-at-preserved
 loop-at-preserved c =
     let read : pair_at c.args.list.now c.loop-at.at ≡ Read.Pair c.in-Pair.p c.in-Pair.next =
-        sym c.read_pair-read.ensures ∙ c.in-Pair.is in
+    sym c.read_pair-read.ensures ∙ c.in-Pair.is in
     let is_in_lem : PairIn c.args.list.now c.loop-at.at c.in-Pair.p c.in-Pair.next =
-        pair_in_lem _ _ _ _ (read) in
+    pair_in_lem _ _ _ _ (read) in
     let e = c.loop-at.invariant.1 ∙ number_next c.args.list.now c.loop-at.left c.loop-at.at _ _ (read) in
     ((is_in_lem).within, e ∙ simp (ne_eqb _ _ c.if-left-eq0.false))
 

@@ -24,41 +24,41 @@ returns-then-keys-n c = λ h. absurd (omega arith)
 pub slice_bounds-name_key-count : goal.slice_bounds-name_key-count
 slice_bounds-name_key-count c =
     let read : pair_at c.args.list.now c.loop-at.at ≡ Read.Pair c.in-Pair.p c.in-Pair.next =
-        sym c.read_pair-read.ensures ∙ c.in-Pair.is in
+    sym c.read_pair-read.ensures ∙ c.in-Pair.is in
     let is_in_lem : PairIn c.args.list.now c.loop-at.at c.in-Pair.p c.in-Pair.next =
-        pair_in_lem _ _ _ _ (read) in
+    pair_in_lem _ _ _ _ (read) in
     omega (arith, is_in_lem)
 
 pub slice_bounds-name_key-start : goal.slice_bounds-name_key-start
 slice_bounds-name_key-start c =
     let read : pair_at c.args.list.now c.loop-at.at ≡ Read.Pair c.in-Pair.p c.in-Pair.next =
-        sym c.read_pair-read.ensures ∙ c.in-Pair.is in
+    sym c.read_pair-read.ensures ∙ c.in-Pair.is in
     let is_in_lem : PairIn c.args.list.now c.loop-at.at c.in-Pair.p c.in-Pair.next =
-        pair_in_lem _ _ _ _ (read) in
+    pair_in_lem _ _ _ _ (read) in
     omega (arith, is_in_lem)
 
 pub slice_bounds-name_key-end : goal.slice_bounds-name_key-end
 slice_bounds-name_key-end c =
     let read : pair_at c.args.list.now c.loop-at.at ≡ Read.Pair c.in-Pair.p c.in-Pair.next =
-        sym c.read_pair-read.ensures ∙ c.in-Pair.is in
+    sym c.read_pair-read.ensures ∙ c.in-Pair.is in
     let is_in_lem : PairIn c.args.list.now c.loop-at.at c.in-Pair.p c.in-Pair.next =
-        pair_in_lem _ _ _ _ (read) in
+    pair_in_lem _ _ _ _ (read) in
     omega (arith, is_in_lem)
 
 pub loop-at-smaller : goal.loop-at-smaller
 loop-at-smaller c =
     let read : pair_at c.args.list.now c.loop-at.at ≡ Read.Pair c.in-Pair.p c.in-Pair.next =
-        sym c.read_pair-read.ensures ∙ c.in-Pair.is in
+    sym c.read_pair-read.ensures ∙ c.in-Pair.is in
     let is_in_lem : PairIn c.args.list.now c.loop-at.at c.in-Pair.p c.in-Pair.next =
-        pair_in_lem _ _ _ _ (read) in
+    pair_in_lem _ _ _ _ (read) in
     omega (arith, is_in_lem)
 
 pub loop-at-preserved : goal.loop-at-preserved
 loop-at-preserved c =
     let read : pair_at c.args.list.now c.loop-at.at ≡ Read.Pair c.in-Pair.p c.in-Pair.next =
-        sym c.read_pair-read.ensures ∙ c.in-Pair.is in
+    sym c.read_pair-read.ensures ∙ c.in-Pair.is in
     let is_in_lem : PairIn c.args.list.now c.loop-at.at c.in-Pair.p c.in-Pair.next =
-        pair_in_lem _ _ _ _ (read) in
+    pair_in_lem _ _ _ _ (read) in
     let f = fill_next _ c.loop-at.keys c.loop-at.at c.loop-at.n _ _ (read) (omega arith) c.loop-at.invariant.3 in
     (length-set c.loop-at.keys c.loop-at.n _ ∙ c.loop-at.invariant.0, omega (arith, length-set c.loop-at.keys c.loop-at.n c.name_key.result), (is_in_lem).within, rw c.name_key.ensures f)
 

@@ -16,7 +16,7 @@ pub returns-then-keys-i : goal.returns-then-keys-i
 unfolding may_hold
 returns-then-keys-i c =
     let within : may_hold c.args.keys.now c.args.from c.args.n c.args.key ≡ holds (drop c.args.from (take c.args.n c.args.keys.now)) c.args.key =
-        let a = c.args in simp (le-ltb (length a.keys.now) a.n c.if-keys-n.false) in
+    let a = c.args in simp (le-ltb (length a.keys.now) a.n c.if-keys-n.false) in
     let a = c.args in
     sym (within ∙ c.loop-i.invariant ∙ held_step a.keys.now a.n a.key c.loop-i.i (omega arith) (omega arith) ∙ simp (eq-eqb _ _ c.if-keys-i.true))
 
@@ -29,6 +29,6 @@ pub returns : goal.returns
 unfolding may_hold
 returns c =
     let within : may_hold c.args.keys.now c.args.from c.args.n c.args.key ≡ holds (drop c.args.from (take c.args.n c.args.keys.now)) c.args.key =
-        let a = c.args in simp (le-ltb (length a.keys.now) a.n c.if-keys-n.false) in
+    let a = c.args in simp (le-ltb (length a.keys.now) a.n c.if-keys-n.false) in
     let a = c.args in
     sym (within ∙ c.loop-i.invariant ∙ held_end a.keys.now a.n a.key c.loop-i.i (omega arith) (omega arith))

@@ -23,32 +23,32 @@ returns-in_default c =
 pub slice_bounds-comes_again-count : goal.slice_bounds-comes_again-count
 slice_bounds-comes_again-count c =
     let read : pair_at c.args.list.now c.loop-at.at ≡ Read.Pair c.in-Pair.p c.in-Pair.next =
-        sym c.read_pair-read.ensures ∙ c.in-Pair.is in
+    sym c.read_pair-read.ensures ∙ c.in-Pair.is in
     let is_in_lem : PairIn c.args.list.now c.loop-at.at c.in-Pair.p c.in-Pair.next =
-        pair_in_lem _ _ _ _ (read) in
+    pair_in_lem _ _ _ _ (read) in
     omega (arith, is_in_lem)
 
 pub slice_bounds-comes_again-start : goal.slice_bounds-comes_again-start
 slice_bounds-comes_again-start c =
     let read : pair_at c.args.list.now c.loop-at.at ≡ Read.Pair c.in-Pair.p c.in-Pair.next =
-        sym c.read_pair-read.ensures ∙ c.in-Pair.is in
+    sym c.read_pair-read.ensures ∙ c.in-Pair.is in
     let is_in_lem : PairIn c.args.list.now c.loop-at.at c.in-Pair.p c.in-Pair.next =
-        pair_in_lem _ _ _ _ (read) in
+    pair_in_lem _ _ _ _ (read) in
     omega (arith, is_in_lem)
 
 pub slice_bounds-comes_again-end : goal.slice_bounds-comes_again-end
 slice_bounds-comes_again-end c =
     let read : pair_at c.args.list.now c.loop-at.at ≡ Read.Pair c.in-Pair.p c.in-Pair.next =
-        sym c.read_pair-read.ensures ∙ c.in-Pair.is in
+    sym c.read_pair-read.ensures ∙ c.in-Pair.is in
     let is_in_lem : PairIn c.args.list.now c.loop-at.at c.in-Pair.p c.in-Pair.next =
-        pair_in_lem _ _ _ _ (read) in
+    pair_in_lem _ _ _ _ (read) in
     omega (arith, is_in_lem)
 
 pub returns-then-comes_again : goal.returns-then-comes_again
 unfolding repeats
 returns-then-comes_again c =
     let read : pair_at c.args.list.now c.loop-at.at ≡ Read.Pair c.in-Pair.p c.in-Pair.next =
-        sym c.read_pair-read.ensures ∙ c.in-Pair.is in
+    sym c.read_pair-read.ensures ∙ c.in-Pair.is in
     let a = c.args in
     let next = repeats_next a.list.now c.loop-at.at _ _ (read) in
     let from = filled_next a.list.now a.keys.now c.loop-at.at c.loop-at.i a.n _ _ (read) in
@@ -59,17 +59,17 @@ returns-then-comes_again c =
 pub loop-at-smaller : goal.loop-at-smaller
 loop-at-smaller c =
     let read : pair_at c.args.list.now c.loop-at.at ≡ Read.Pair c.in-Pair.p c.in-Pair.next =
-        sym c.read_pair-read.ensures ∙ c.in-Pair.is in
+    sym c.read_pair-read.ensures ∙ c.in-Pair.is in
     let is_in_lem : PairIn c.args.list.now c.loop-at.at c.in-Pair.p c.in-Pair.next =
-        pair_in_lem _ _ _ _ (read) in
+    pair_in_lem _ _ _ _ (read) in
     omega (arith, is_in_lem)
 
 pub loop-at-preserved : goal.loop-at-preserved
 loop-at-preserved c =
     let read : pair_at c.args.list.now c.loop-at.at ≡ Read.Pair c.in-Pair.p c.in-Pair.next =
-        sym c.read_pair-read.ensures ∙ c.in-Pair.is in
+    sym c.read_pair-read.ensures ∙ c.in-Pair.is in
     let is_in_lem : PairIn c.args.list.now c.loop-at.at c.in-Pair.p c.in-Pair.next =
-        pair_in_lem _ _ _ _ (read) in
+    pair_in_lem _ _ _ _ (read) in
     let a = c.args in
     let next = repeats_next a.list.now c.loop-at.at _ _ (read) in
     let from = filled_next a.list.now a.keys.now c.loop-at.at c.loop-at.i a.n _ _ (read) in (

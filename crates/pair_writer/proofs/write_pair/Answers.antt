@@ -19,28 +19,28 @@ returns-then-v-gt65535 c = simp (le-ltb _ _ c.if-n-gt65535.false, lt-ltb _ _ c.i
 pub overflow_add-size : goal.overflow_add-size
 overflow_add-size c =
     let sizes : (c.length_size.result ≤ 4) × (c.length_size-2.result ≤ 4) =
-        let a = c.args in
-        let n = length_takes (length a.name.now) in
-        let v = length_takes (length a.value.now) in
-        (omega (arith, c.length_size.ensures), omega (arith, c.length_size-2.ensures)) in
+    let a = c.args in
+    let n = length_takes (length a.name.now) in
+    let v = length_takes (length a.value.now) in
+    (omega (arith, c.length_size.ensures), omega (arith, c.length_size-2.ensures)) in
     omega (arith, sizes)
 
 pub overflow_add-size-2 : goal.overflow_add-size-2
 overflow_add-size-2 c =
     let sizes : (c.length_size.result ≤ 4) × (c.length_size-2.result ≤ 4) =
-        let a = c.args in
-        let n = length_takes (length a.name.now) in
-        let v = length_takes (length a.value.now) in
-        (omega (arith, c.length_size.ensures), omega (arith, c.length_size-2.ensures)) in
+    let a = c.args in
+    let n = length_takes (length a.name.now) in
+    let v = length_takes (length a.value.now) in
+    (omega (arith, c.length_size.ensures), omega (arith, c.length_size-2.ensures)) in
     omega (arith, sizes)
 
 pub overflow_add-size-3 : goal.overflow_add-size-3
 overflow_add-size-3 c =
     let sizes : (c.length_size.result ≤ 4) × (c.length_size-2.result ≤ 4) =
-        let a = c.args in
-        let n = length_takes (length a.name.now) in
-        let v = length_takes (length a.value.now) in
-        (omega (arith, c.length_size.ensures), omega (arith, c.length_size-2.ensures)) in
+    let a = c.args in
+    let n = length_takes (length a.name.now) in
+    let v = length_takes (length a.value.now) in
+    (omega (arith, c.length_size.ensures), omega (arith, c.length_size-2.ensures)) in
     omega (arith, sizes)
 
 pub returns-then-out-size : goal.returns-then-out-size

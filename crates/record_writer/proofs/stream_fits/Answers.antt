@@ -26,8 +26,8 @@ returns-then-left-whole c =
 pub returns-then-tail-eq0 : goal.returns-then-tail-eq0
 returns-then-tail-eq0 c =
     let room : c.args.n / c.args.size * c.record_length-whole.result ≤ c.args.room - c.args.at =
-        let a = c.args in
-        count_room a.size a.n a.at a.room c.record_length-whole.result (omega arith) c.record_length-whole.ensures c.if-left-whole.false in
+    let a = c.args in
+    count_room a.size a.n a.at a.room c.record_length-whole.result (omega arith) c.record_length-whole.ensures c.if-left-whole.false in
     let a = c.args in
     sym (fits_whole a.size a.n a.at a.room c.record_length-whole.result (omega arith) c.record_length-whole.ensures c.if-room-at.false (room) c.if-tail-eq0.true)
 
@@ -40,22 +40,22 @@ overflow_cast-tail c =
 pub overflow_mul-result : goal.overflow_mul-result
 overflow_mul-result c =
     let room : c.args.n / c.args.size * c.record_length-whole.result ≤ c.args.room - c.args.at =
-        let a = c.args in
-        count_room a.size a.n a.at a.room c.record_length-whole.result (omega arith) c.record_length-whole.ensures c.if-left-whole.false in
+    let a = c.args in
+    count_room a.size a.n a.at a.room c.record_length-whole.result (omega arith) c.record_length-whole.ensures c.if-left-whole.false in
     omega (arith, room)
 
 pub overflow_sub-result : goal.overflow_sub-result
 overflow_sub-result c =
     let room : c.args.n / c.args.size * c.record_length-whole.result ≤ c.args.room - c.args.at =
-        let a = c.args in
-        count_room a.size a.n a.at a.room c.record_length-whole.result (omega arith) c.record_length-whole.ensures c.if-left-whole.false in
+    let a = c.args in
+    count_room a.size a.n a.at a.room c.record_length-whole.result (omega arith) c.record_length-whole.ensures c.if-left-whole.false in
     room
 
 pub returns : goal.returns
 returns c =
     let room : c.args.n / c.args.size * c.record_length-whole.result ≤ c.args.room - c.args.at =
-        let a = c.args in
-        count_room a.size a.n a.at a.room c.record_length-whole.result (omega arith) c.record_length-whole.ensures c.if-left-whole.false in
+    let a = c.args in
+    count_room a.size a.n a.at a.room c.record_length-whole.result (omega arith) c.record_length-whole.ensures c.if-left-whole.false in
     let a = c.args in
     fits_last a.size a.n a.at a.room c.record_length-whole.result (omega arith) c.record_length-whole.ensures c.record_length-last.result c.if-room-at.false (room) c.if-tail-eq0.false
     c.record_length-last.ensures

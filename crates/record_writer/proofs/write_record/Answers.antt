@@ -12,25 +12,25 @@ returns-then-not-record_fits c =
 pub overflow_cast-n : goal.overflow_cast-n
 overflow_cast-n c =
     let fits : Fits (length c.args.content.now) c.args.at (length c.args.out.now) =
-        record_fits_lem _ _ _ (sym c.record_fits.ensures ∙ c.if-not-record_fits.false) in
+    record_fits_lem _ _ _ (sym c.record_fits.ensures ∙ c.if-not-record_fits.false) in
     omega (arith, fits)
 
 pub overflow_cast-n-2 : goal.overflow_cast-n-2
 overflow_cast-n-2 c =
     let fits : Fits (length c.args.content.now) c.args.at (length c.args.out.now) =
-        record_fits_lem _ _ _ (sym c.record_fits.ensures ∙ c.if-not-record_fits.false) in
+    record_fits_lem _ _ _ (sym c.record_fits.ensures ∙ c.if-not-record_fits.false) in
     omega (arith, fits)
 
 pub overflow_add-a : goal.overflow_add-a
 overflow_add-a c =
     let fits : Fits (length c.args.content.now) c.args.at (length c.args.out.now) =
-        record_fits_lem _ _ _ (sym c.record_fits.ensures ∙ c.if-not-record_fits.false) in
+    record_fits_lem _ _ _ (sym c.record_fits.ensures ∙ c.if-not-record_fits.false) in
     omega (arith, fits)
 
 pub overflow_add-b : goal.overflow_add-b
 overflow_add-b c =
     let fits : Fits (length c.args.content.now) c.args.at (length c.args.out.now) =
-        record_fits_lem _ _ _ (sym c.record_fits.ensures ∙ c.if-not-record_fits.false) in
+    record_fits_lem _ _ _ (sym c.record_fits.ensures ∙ c.if-not-record_fits.false) in
     omega (arith, fits)
 
 pub slice_bounds-copy_into-end-2 : goal.slice_bounds-copy_into-end-2
@@ -39,7 +39,7 @@ slice_bounds-copy_into-end-2 c = omega (arith, padding_small (length c.args.cont
 pub overflow_add-result : goal.overflow_add-result
 overflow_add-result c =
     let fits : Fits (length c.args.content.now) c.args.at (length c.args.out.now) =
-        record_fits_lem _ _ _ (sym c.record_fits.ensures ∙ c.if-not-record_fits.false) in
+    record_fits_lem _ _ _ (sym c.record_fits.ensures ∙ c.if-not-record_fits.false) in
     omega (arith, fits, c.padding_of-padding.ensures)
 
 pub returns : goal.returns

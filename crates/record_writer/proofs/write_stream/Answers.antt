@@ -32,27 +32,27 @@ slice_bounds-write_record-end c = omega (arith, c.least-n.ensures)
 pub loop-from-smaller : goal.loop-from-smaller
 loop-from-smaller c =
     let fits : (0 < c.args.size) × (c.args.at + length (stream_bytes c.args.size c.args.kind c.args.id c.args.bytes.now) ≤ length c.args.out.now) =
-        let a = c.args in
-        let f = stream_fits_lem a.size (length a.bytes.now) a.at (length a.out.now) (sym c.stream_fits.ensures ∙ c.if-not-stream_fits.false) in
-        (f.0, omega (arith, f.1, stream_length_lem a.size a.kind a.id f.0 a.bytes.now)) in
+    let a = c.args in
+    let f = stream_fits_lem a.size (length a.bytes.now) a.at (length a.out.now) (sym c.stream_fits.ensures ∙ c.if-not-stream_fits.false) in
+    (f.0, omega (arith, f.1, stream_length_lem a.size a.kind a.id f.0 a.bytes.now)) in
     let turn : LoopTurn c.args.size c.args.kind c.args.id c.args.bytes.now c.loop-from.out c.write_record-place.new.out c.loop-from.place c.write_record-place.result c.loop-from.from c.least-n.result =
-        let a = c.args in
-        let f = fits in
-        stream_turn a.size a.kind a.id a.bytes.now c.loop-from.out c.write_record-place.new.out c.loop-from.place c.write_record-place.result c.loop-from.from c.least-n.result f.0 (omega arith)
-        c.loop-from-test.true c.least-n.ensures (omega (arith, f.1)) c.write_record-place.ensures in
+    let a = c.args in
+    let f = fits in
+    stream_turn a.size a.kind a.id a.bytes.now c.loop-from.out c.write_record-place.new.out c.loop-from.place c.write_record-place.result c.loop-from.from c.least-n.result f.0 (omega arith)
+    c.loop-from-test.true c.least-n.ensures (omega (arith, f.1)) c.write_record-place.ensures in
     omega (arith, turn)
 
 pub loop-from-preserved : goal.loop-from-preserved
 loop-from-preserved c =
     let fits : (0 < c.args.size) × (c.args.at + length (stream_bytes c.args.size c.args.kind c.args.id c.args.bytes.now) ≤ length c.args.out.now) =
-        let a = c.args in
-        let f = stream_fits_lem a.size (length a.bytes.now) a.at (length a.out.now) (sym c.stream_fits.ensures ∙ c.if-not-stream_fits.false) in
-        (f.0, omega (arith, f.1, stream_length_lem a.size a.kind a.id f.0 a.bytes.now)) in
+    let a = c.args in
+    let f = stream_fits_lem a.size (length a.bytes.now) a.at (length a.out.now) (sym c.stream_fits.ensures ∙ c.if-not-stream_fits.false) in
+    (f.0, omega (arith, f.1, stream_length_lem a.size a.kind a.id f.0 a.bytes.now)) in
     let turn : LoopTurn c.args.size c.args.kind c.args.id c.args.bytes.now c.loop-from.out c.write_record-place.new.out c.loop-from.place c.write_record-place.result c.loop-from.from c.least-n.result =
-        let a = c.args in
-        let f = fits in
-        stream_turn a.size a.kind a.id a.bytes.now c.loop-from.out c.write_record-place.new.out c.loop-from.place c.write_record-place.result c.loop-from.from c.least-n.result f.0 (omega arith)
-        c.loop-from-test.true c.least-n.ensures (omega (arith, f.1)) c.write_record-place.ensures in
+    let a = c.args in
+    let f = fits in
+    stream_turn a.size a.kind a.id a.bytes.now c.loop-from.out c.write_record-place.new.out c.loop-from.place c.write_record-place.result c.loop-from.from c.least-n.result f.0 (omega arith)
+    c.loop-from-test.true c.least-n.ensures (omega (arith, f.1)) c.write_record-place.ensures in
     let t = turn in
     (t.inside, t.kept ∙ c.loop-from.invariant.1, t.left ∙ c.loop-from.invariant.2, c.loop-from.invariant.3 ∙ t.put)
 

@@ -14,13 +14,13 @@ returns-in_default c = simp (← c.first_named-found.ensures, c.in_default.is)
 pub overflow_add-e : goal.overflow_add-e
 overflow_add-e c =
     let found_in : LiesIn c.args.list.now c.in-At.p =
-        first_within _ c.args.name.now _ (sym c.first_named-found.ensures ∙ c.in-At.is) in
+    first_within _ c.args.name.now _ (sym c.first_named-found.ensures ∙ c.in-At.is) in
     omega (arith, found_in)
 
 pub slice_bounds-read_decimal-end : goal.slice_bounds-read_decimal-end
 slice_bounds-read_decimal-end c =
     let found_in : LiesIn c.args.list.now c.in-At.p =
-        first_within _ c.args.name.now _ (sym c.first_named-found.ensures ∙ c.in-At.is) in
+    first_within _ c.args.name.now _ (sym c.first_named-found.ensures ∙ c.in-At.is) in
     omega (arith, found_in)
 
 pub returns : goal.returns
