@@ -4,93 +4,88 @@
 
 use connection::event::Event;
 use event_text::{LONGEST, write_byte_line, write_line};
-use libc::{STDIN_FILENO, STDOUT_FILENO};
+use host::{read_full, write_out};
 use plain::{Answer, LastWord, event_at};
+use std::io;
 
 // The longest capture that it takes, 1 MiB.
 const LARGEST: usize = 1048576;
 
 // The first n bytes, which are a line.
-fn print(line: &[u8], n: usize) {
+fn print(rt: &HostRuntime, line: &[u8], n: usize) -> io::Result<()> {
     let start: usize = 0;
     if n <= line.len() {
-        io::write_all(STDOUT_FILENO, &line[start..n]);
+        return write_out(rt, &line[start..n]);
     }
+    Ok(())
 }
 
-fn print_event(event: Event) {
+fn print_event(rt: &HostRuntime, event: Event) -> io::Result<()> {
     let mut line = [0u8; LONGEST];
     let n = write_line(&mut line, 0, event);
-    print(&line, n);
+    print(rt, &line, n)
 }
 
-fn print_last(word: LastWord) {
+fn print_last(rt: &HostRuntime, word: LastWord) -> io::Result<()> {
     match word {
-        LastWord::Open => {
-            io::write_all(STDOUT_FILENO, b"stop open\n");
-        }
-        LastWord::Cut => {
-            io::write_all(STDOUT_FILENO, b"stop cut\n");
-        }
+        LastWord::Open => write_out(rt, b"stop open\n"),
+        LastWord::Cut => write_out(rt, b"stop cut\n"),
         LastWord::Closed { cause } => {
-            print_event(Event::Closed { cause });
-            io::write_all(STDOUT_FILENO, b"stop closed\n");
+            print_event(rt, Event::Closed { cause })?;
+            write_out(rt, b"stop closed\n")
         }
     }
 }
 
 // Prints an answer, and says whether there is another event to ask for.
-fn print_answer(answer: Answer) -> bool {
+fn print_answer(rt: &HostRuntime, answer: Answer) -> io::Result<bool> {
     match answer {
         Answer::Event(event) => {
-            print_event(event);
-            true
+            print_event(rt, event)?;
+            Ok(true)
         }
         Answer::Byte { id, stream, byte } => {
             let mut line = [0u8; LONGEST];
             let n = write_byte_line(&mut line, 0, id, stream, byte);
-            print(&line, n);
-            true
+            print(rt, &line, n)?;
+            Ok(true)
         }
         Answer::Last(word) => {
-            print_last(word);
-            false
+            print_last(rt, word)?;
+            Ok(false)
         }
     }
 }
 
 // Asks from 0 on, up to the last word. (A proved loop has to end, so it counts to a number that no capture comes to.)
-fn print_all(capture: &[u8]) {
+fn print_all(rt: &HostRuntime, capture: &[u8]) -> io::Result<()> {
     let mut k: usize = 0;
     while k < usize::MAX {
         let answer = event_at(capture, k);
-        if !print_answer(answer) {
-            return;
+        if !print_answer(rt, answer)? {
+            return Ok(());
         }
         k += 1;
     }
+    Ok(())
 }
 
 // Reads a capture to its end and prints its lines. There is room for one byte more than the longest capture has.
-fn audit(capture: &mut [u8]) {
-    let n = io::read_full(STDIN_FILENO, capture);
+fn audit(rt: &HostRuntime, capture: &mut [u8]) -> io::Result<()> {
+    let n = read_full(rt, capture)?;
     if LARGEST < n {
-        io::write_all(
-            STDOUT_FILENO,
-            b"audit: the capture is longer than 1048576 bytes\n",
-        );
-        return;
+        return write_out(rt, b"audit: the capture is longer than 1048576 bytes\n");
     }
     let start: usize = 0;
-    print_all(&capture[start..n]);
+    print_all(rt, &capture[start..n])
 }
 
 // (The array goes through a function of its own, because the length of so long a local array is not proved.)
-fn audit_with(capture: &mut [u8; LARGEST + 1]) {
-    audit(capture);
+fn audit_with(rt: &HostRuntime, capture: &mut [u8; LARGEST + 1]) -> io::Result<()> {
+    audit(rt, capture)
 }
 
-fn main() {
+fn main(rt: HostRuntime) -> io::Result<()> {
     let mut capture = [0u8; LARGEST + 1];
-    audit_with(&mut capture);
+    audit_with(&rt, &mut capture)
 }

@@ -5,7 +5,7 @@ use crate::command::{
 use crate::feeding::feed;
 use crate::poke::{poke_values, poked};
 use crate::state::{State, with_server};
-use crate::station::hang_up;
+use crate::station::{Pipes, hang_up};
 use crate::waiting::{TO_THE_END, wait};
 use crate::write::{kept_call, put_effect, send_on};
 use fastcgi_server::{OpenCount, QUERY, Server, open_count, refusal_number, start_server};
@@ -15,25 +15,26 @@ use script::lines::LONG;
 use script::page::{end_line, put, put_hex, put_number};
 use script::said::put_refused;
 use script::words::part;
+use std::io;
 use wire::least;
 
 // An answer of words alone.
-fn tell(page: &mut [u8], text: &[u8]) {
-    let at = put(page, 0, text);
-    end_line(page, at);
+fn tell(rt: &HostRuntime, page: &mut [u8], text: &[u8]) -> io::Result<()> {
+    let at = put(rt, page, 0, text)?;
+    end_line(rt, page, at)
 }
 
 // The number of open requests.
-fn tell_count(page: &mut [u8], c: Server) {
+fn tell_count(rt: &HostRuntime, page: &mut [u8], c: Server) -> io::Result<()> {
     let count = open_count(c);
     match count {
         OpenCount::Open(n) => {
-            let at = put_number(page, 0, b"opened ", n as u64);
-            end_line(page, at);
+            let at = put_number(rt, page, 0, b"opened ", n as u64)?;
+            end_line(rt, page, at)
         }
         OpenCount::Refused(why) => {
-            let at = put_refused(page, 0, refusal_number(why));
-            end_line(page, at);
+            let at = put_refused(rt, page, 0, refusal_number(why))?;
+            end_line(rt, page, at)
         }
     }
 }
@@ -51,78 +52,96 @@ fn length_of(bytes: &[u8]) -> usize {
 }
 
 // The values without the zeros at their end.
-fn tell_values(page: &mut [u8], values: &[u8]) {
-    let at = put(page, 0, b"values");
-    let e = put_hex(page, at, part(values, 0, length_of(values)));
-    end_line(page, e);
+fn tell_values(rt: &HostRuntime, page: &mut [u8], values: &[u8]) -> io::Result<()> {
+    let at = put(rt, page, 0, b"values")?;
+    let e = put_hex(rt, page, at, part(values, 0, length_of(values)))?;
+    end_line(rt, page, e)
 }
 
 // A question, a line that is too long, or one that is no command.
-fn ask(page: &mut [u8], c: Server, values: &[u8; QUERY], kind: u64) {
+fn ask(
+    rt: &HostRuntime,
+    page: &mut [u8],
+    c: Server,
+    values: &[u8; QUERY],
+    kind: u64,
+) -> io::Result<()> {
     match kind {
-        OPENED => tell_count(page, c),
-        VALUES => tell_values(page, values),
-        LONG => tell(page, b"long"),
-        _ => tell(page, b"what"),
+        OPENED => tell_count(rt, page, c),
+        VALUES => tell_values(rt, page, values),
+        LONG => tell(rt, page, b"long"),
+        _ => tell(rt, page, b"what"),
     }
 }
 
 // Starts anew.
-fn start_anew(s: State, values: &mut [u8; QUERY], page: &mut [u8]) -> State {
+fn start_anew(
+    rt: &HostRuntime,
+    s: State,
+    values: &mut [u8; QUERY],
+    page: &mut [u8],
+) -> io::Result<State> {
     let c = start_server(values);
-    tell(page, b"open");
-    with_server(s, c)
+    tell(rt, page, b"open")?;
+    Ok(with_server(s, c))
 }
 
 // A call that writes into the lent room; what it wrote goes to the station, if there is one.
 fn write_on(
+    rt: &HostRuntime,
     s: State,
     f: Form,
     values: &[u8; QUERY],
     kept: &mut [u8],
     bytes: &[u8],
     room: &mut [u8],
+    pipes: &mut Pipes,
     page: &mut [u8],
-) -> State {
+) -> io::Result<State> {
     let written = kept_call(s.server, f, values, kept, bytes, room);
     let wrote = written.wrote;
-    put_effect(page, written, kept, values, room);
-    send_on(s.station, wrote, room);
-    with_server(s, written.server)
+    put_effect(rt, page, written, kept, values, room)?;
+    send_on(pipes, s.station, wrote, room);
+    Ok(with_server(s, written.server))
 }
 
 // Waits for the station.
 fn wait_on(
+    rt: &HostRuntime,
     s: State,
     id: u64,
     values: &mut [u8; QUERY],
     kept: &mut [u8],
     inbox: &mut [u8],
+    pipes: &mut Pipes,
     page: &mut [u8],
-) -> State {
+) -> io::Result<State> {
     if s.station {
-        return wait(s, id, values, kept, inbox, page);
+        return wait(rt, s, id, values, kept, inbox, pipes, page);
     }
-    tell(page, b"what");
-    s
+    tell(rt, page, b"what")?;
+    Ok(s)
 }
 
 // Ends the station's input, and waits for the end of its output.
 fn hang_on(
+    rt: &HostRuntime,
     s: State,
     values: &mut [u8; QUERY],
     kept: &mut [u8],
     inbox: &mut [u8],
+    pipes: &mut Pipes,
     page: &mut [u8],
-) -> State {
+) -> io::Result<State> {
     if s.station {
-        hang_up();
+        hang_up(pipes);
     }
-    wait_on(s, TO_THE_END, values, kept, inbox, page)
+    wait_on(rt, s, TO_THE_END, values, kept, inbox, pipes, page)
 }
 
 // What a command does, with so much of the buffer as its room.
 fn perform(
+    rt: &HostRuntime,
     s: State,
     f: Form,
     values: &mut [u8; QUERY],
@@ -130,43 +149,53 @@ fn perform(
     bytes: &[u8],
     out: &mut [u8],
     inbox: &mut [u8],
+    pipes: &mut Pipes,
     page: &mut [u8],
-) -> State {
+) -> io::Result<State> {
     let numbers = f.values;
     let z: usize = 0;
     let e = least(room_of(f), out.len());
     let kind = f.kind;
     match kind {
-        START => start_anew(s, values, page),
-        STEP | FEED => with_server(
+        START => start_anew(rt, s, values, page),
+        STEP | FEED => Ok(with_server(
             s,
             feed(
+                rt,
                 s.server,
                 size_of(f),
                 part(bytes, 0, end_of(f)),
                 values,
                 kept,
                 page,
-            ),
-        ),
-        WAIT => wait_on(s, numbers[0], values, kept, inbox, page),
-        HANG => hang_on(s, values, kept, inbox, page),
-        _ => write_on(s, f, values, kept, bytes, &mut out[z..e], page),
+            )?,
+        )),
+        WAIT => wait_on(rt, s, numbers[0], values, kept, inbox, pipes, page),
+        HANG => hang_on(rt, s, values, kept, inbox, pipes, page),
+        _ => write_on(rt, s, f, values, kept, bytes, &mut out[z..e], pipes, page),
     }
 }
 
 // Sets a field.
-fn poke(s: State, f: Form, values: &mut [u8; QUERY], bytes: &[u8], page: &mut [u8]) -> State {
+fn poke(
+    rt: &HostRuntime,
+    s: State,
+    f: Form,
+    values: &mut [u8; QUERY],
+    bytes: &[u8],
+    page: &mut [u8],
+) -> io::Result<State> {
     let numbers = f.values;
     let a = numbers[0];
     let b = numbers[1];
     poke_values(values, f.kind, a, bytes);
-    tell(page, b"ok");
-    with_server(s, poked(s.server, f.kind, a, b, numbers[2], bytes))
+    tell(rt, page, b"ok")?;
+    Ok(with_server(s, poked(s.server, f.kind, a, b, numbers[2], bytes)))
 }
 
 // Answers a line that was read.
 pub fn answer(
+    rt: &HostRuntime,
     s: State,
     f: Form,
     values: &mut [u8; QUERY],
@@ -174,14 +203,15 @@ pub fn answer(
     bytes: &[u8],
     out: &mut [u8],
     inbox: &mut [u8],
+    pipes: &mut Pipes,
     page: &mut [u8],
-) -> State {
+) -> io::Result<State> {
     if is_question(f.kind) {
-        ask(page, s.server, values, f.kind);
-        return s;
+        ask(rt, page, s.server, values, f.kind)?;
+        return Ok(s);
     }
     if POKE <= f.kind {
-        return poke(s, f, values, bytes, page);
+        return poke(rt, s, f, values, bytes, page);
     }
-    perform(s, f, values, kept, bytes, out, inbox, page)
+    perform(rt, s, f, values, kept, bytes, out, inbox, pipes, page)
 }

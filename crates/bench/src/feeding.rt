@@ -12,6 +12,7 @@ use script::page::{end_line, put, put_pairs};
 use script::pieces::{piece_end, plus};
 use script::said::put_refusal;
 use script::words::part;
+use std::io;
 
 // What the steps told so far: where the line goes on, the last event on it, the bytes used by all steps together, and the
 // number of the refusal that ended them, or 0. A step that is `alone` puts its event after the bytes used.
@@ -66,28 +67,36 @@ fn is_put(alone: bool, e: ServerEvent) -> bool {
 
 // An event after the last one.
 fn put_next(
+    rt: &HostRuntime,
     page: &mut [u8],
     at: usize,
     last: ServerEvent,
     e: ServerEvent,
     piece: &[u8],
     values: &[u8; QUERY],
-) -> usize {
+) -> io::Result<usize> {
     let more = more_output(last, e);
     if 0 < more {
-        return put_pairs(page, at, part(piece, 0, more));
+        return put_pairs(rt, page, at, part(piece, 0, more));
     }
-    let place = put_mark(page, at, b"; ", last);
-    put_event(page, place, e, piece, values)
+    let place = put_mark(rt, page, at, b"; ", last)?;
+    put_event(rt, page, place, e, piece, values)
 }
 
 // What a step adds to the line.
-fn put_more(page: &mut [u8], t: Tale, e: ServerEvent, piece: &[u8], values: &[u8; QUERY]) -> usize {
+fn put_more(
+    rt: &HostRuntime,
+    page: &mut [u8],
+    t: Tale,
+    e: ServerEvent,
+    piece: &[u8],
+    values: &[u8; QUERY],
+) -> io::Result<usize> {
     let last = t.event;
     if is_put(t.alone, e) {
-        return put_next(page, t.at, last, e, piece, values);
+        return put_next(rt, page, t.at, last, e, piece, values);
     }
-    t.at
+    Ok(t.at)
 }
 
 // The last event that was told.
@@ -116,22 +125,23 @@ fn refusal_of(told: ServerResult) -> u8 {
 
 // What a step adds to what was told.
 fn tell_step(
+    rt: &HostRuntime,
     page: &mut [u8],
     t: Tale,
     stepped: ServerStepped,
     piece: &[u8],
     values: &[u8; QUERY],
-) -> Tale {
+) -> io::Result<Tale> {
     let last = t.event;
     let told = stepped.result;
     let e = event_of(told);
-    Tale {
-        at: put_more(page, t, e, piece, values),
+    Ok(Tale {
+        at: put_more(rt, page, t, e, piece, values)?,
         event: latest(last, e),
         used: plus(t.used, stepped.used),
         refusal: refusal_of(told),
         alone: t.alone,
-    }
+    })
 }
 
 // A step; what it finds is kept.
@@ -142,19 +152,20 @@ fn kept_step(c: Server, values: &mut [u8; QUERY], kept: &mut [u8], piece: &[u8])
 
 // A step over what is left of a piece.
 pub fn take_step(
+    rt: &HostRuntime,
     f: Fed,
     piece: &[u8],
     values: &mut [u8; QUERY],
     kept: &mut [u8],
     page: &mut [u8],
-) -> Fed {
+) -> io::Result<Fed> {
     let stepped = kept_step(f.server, values, kept, piece);
-    let tale = tell_step(page, f.tale, stepped, piece, values);
+    let tale = tell_step(rt, page, f.tale, stepped, piece, values)?;
     let server = stepped.server;
-    Fed {
+    Ok(Fed {
         server: server,
         tale: tale,
-    }
+    })
 }
 
 // Whether an event says that the connection is closed.
@@ -208,49 +219,62 @@ pub fn unfed(c: Server, alone: bool) -> Fed {
 
 // Goes through the bytes, in pieces of that size.
 fn feed_all(
+    rt: &HostRuntime,
     c: Server,
     size: usize,
     input: &[u8],
     values: &mut [u8; QUERY],
     kept: &mut [u8],
     page: &mut [u8],
-) -> Fed {
+) -> io::Result<Fed> {
     let mut fed = unfed(c, size == 0);
     let end = steps_end(size, input.len());
     let mut from: usize = 0;
     while from < end {
         let e = piece_end(from, size, input.len());
-        fed = take_step(fed, part(input, from, e), values, kept, page);
+        fed = take_step(rt, fed, part(input, from, e), values, kept, page)?;
         from = next_place(from, end, fed.tale);
     }
-    fed
+    Ok(fed)
 }
 
 // The end of a line of steps: a last word, or the refusal.
-pub fn put_end(page: &mut [u8], t: Tale, changed: bool, last_word: &[u8]) -> usize {
+pub fn put_end(
+    rt: &HostRuntime,
+    page: &mut [u8],
+    t: Tale,
+    changed: bool,
+    last_word: &[u8],
+) -> io::Result<usize> {
     let last = t.event;
-    let at = put_mark(page, t.at, b"; ", last);
+    let at = put_mark(rt, page, t.at, b"; ", last)?;
     if 0 < t.refusal {
-        return put_refusal(page, at, t.refusal, changed);
+        return put_refusal(rt, page, at, t.refusal, changed);
     }
-    put(page, at, last_word)
+    put(rt, page, at, last_word)
 }
 
 // The same with how many bytes were used.
-fn put_used_end(page: &mut [u8], t: Tale, changed: bool) -> usize {
-    let at = put_end(page, t, changed, b"");
+fn put_used_end(rt: &HostRuntime, page: &mut [u8], t: Tale, changed: bool) -> io::Result<usize> {
+    let at = put_end(rt, page, t, changed, b"")?;
     if 0 < t.refusal {
-        return at;
+        return Ok(at);
     }
-    put_used(page, at, t.used)
+    put_used(rt, page, at, t.used)
 }
 
 // How many bytes a single step used, and its event.
-fn put_single(page: &mut [u8], t: Tale, input: &[u8], values: &[u8; QUERY]) -> usize {
+fn put_single(
+    rt: &HostRuntime,
+    page: &mut [u8],
+    t: Tale,
+    input: &[u8],
+    values: &[u8; QUERY],
+) -> io::Result<usize> {
     let last = t.event;
-    let a = put_used(page, 0, t.used);
-    let b = put_mark(page, a, b" ", last);
-    put_event(page, b, last, input, values)
+    let a = put_used(rt, page, 0, t.used)?;
+    let b = put_mark(rt, page, a, b" ", last)?;
+    put_event(rt, page, b, last, input, values)
 }
 
 // Whether there is a single step to tell of.
@@ -262,30 +286,45 @@ fn is_single(t: Tale) -> bool {
 }
 
 // What is left to tell after the steps.
-fn put_last(page: &mut [u8], t: Tale, changed: bool, input: &[u8], values: &[u8; QUERY]) -> usize {
+fn put_last(
+    rt: &HostRuntime,
+    page: &mut [u8],
+    t: Tale,
+    changed: bool,
+    input: &[u8],
+    values: &[u8; QUERY],
+) -> io::Result<usize> {
     if is_single(t) {
-        return put_single(page, t, input, values);
+        return put_single(rt, page, t, input, values);
     }
-    put_used_end(page, t, changed)
+    put_used_end(rt, page, t, changed)
 }
 
 // The rest of the line. Only the last step can be a refused one, and it is compared with what is kept from before it.
-fn put_rest(page: &mut [u8], f: Fed, kept: &[u8], values: &[u8; QUERY], input: &[u8]) {
+fn put_rest(
+    rt: &HostRuntime,
+    page: &mut [u8],
+    f: Fed,
+    kept: &[u8],
+    values: &[u8; QUERY],
+    input: &[u8],
+) -> io::Result<()> {
     let changed = is_changed(kept, f.server, values);
-    let at = put_last(page, f.tale, changed, input, values);
-    end_line(page, at);
+    let at = put_last(rt, page, f.tale, changed, input, values)?;
+    end_line(rt, page, at)
 }
 
 // Feeds bytes in pieces of that size; of size 0, takes a single step over all of them.
 pub fn feed(
+    rt: &HostRuntime,
     c: Server,
     size: usize,
     input: &[u8],
     values: &mut [u8; QUERY],
     kept: &mut [u8],
     page: &mut [u8],
-) -> Server {
-    let fed = feed_all(c, size, input, values, kept, page);
-    put_rest(page, fed, kept, values, input);
-    fed.server
+) -> io::Result<Server> {
+    let fed = feed_all(rt, c, size, input, values, kept, page)?;
+    put_rest(rt, page, fed, kept, values, input)?;
+    Ok(fed.server)
 }

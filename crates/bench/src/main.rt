@@ -1,6 +1,6 @@
 // The web server's end played from a script: a command on each line of standard input, an answer on each line of
-// standard output. With the argument `station` it drives a station besides: what is written goes to descriptor 3, and
-// what the station answers comes from descriptor 4.
+// standard output. With the arguments `station`, TO and FROM it drives a station besides: what is written goes to the
+// pipe TO, and what the station answers comes from the pipe FROM.
 #![tactic(auto)]
 
 mod answer;
@@ -19,14 +19,18 @@ use crate::answer::answer;
 use crate::command::read_line;
 use crate::kept::KEPT;
 use crate::state::fresh;
-use crate::station::is_asked;
+use crate::station::{Pipes, is_asked, open_pipes};
 use fastcgi_server::QUERY;
+use host::large_buffer;
 use script::form::BYTES;
 use script::input::{Input, LINE, next_line};
+use std::io;
 
 // Answers every line. A proved loop has to end, and nothing says that the input does: so it counts its turns down, from
 // a number that no run uses up.
 fn answer_all(
+    rt: &HostRuntime,
+    asked: bool,
     piece: &mut [u8],
     line: &mut [u8],
     values: &mut [u8; QUERY],
@@ -34,38 +38,44 @@ fn answer_all(
     bytes: &mut [u8],
     out: &mut [u8],
     inbox: &mut [u8],
+    pipes: &mut Pipes,
     page: &mut [u8],
-) {
+) -> io::Result<()> {
     let mut input = Input {
         from: 0,
         to: 0,
         held: 0,
         more: true,
     };
-    let mut state = fresh(values, is_asked());
+    let mut state = fresh(values, asked);
     let mut turns = u64::MAX;
     while turns > 0 {
         turns -= 1;
-        input = next_line(input, piece, line);
+        input = next_line(rt, input, piece, line)?;
         if input.more {} else {
-            return;
+            return Ok(());
         }
         let f = read_line(line, input.held, bytes);
-        state = answer(state, f, values, kept, bytes, out, inbox, page);
+        state = answer(rt, state, f, values, kept, bytes, out, inbox, pipes, page)?;
     }
+    Ok(())
 }
 
 // The buffers are made once.
-fn main() {
+fn main(rt: HostRuntime) -> io::Result<()> {
+    let asked = is_asked(&rt);
+    let mut pipes = open_pipes(&rt, asked)?;
     let mut values = [0u8; QUERY];
-    let mut piece = io::large_buffer();
+    let mut piece = large_buffer();
     let mut line = [0u8; LINE];
     let mut kept = [0u8; KEPT];
     let mut bytes = [0u8; BYTES];
     let mut out = [0u8; BYTES];
-    let mut inbox = io::large_buffer();
-    let mut page = io::large_buffer();
+    let mut inbox = large_buffer();
+    let mut page = large_buffer();
     answer_all(
+        &rt,
+        asked,
         &mut piece,
         &mut line,
         &mut values,
@@ -73,6 +83,7 @@ fn main() {
         &mut bytes,
         &mut out,
         &mut inbox,
+        &mut pipes,
         &mut page,
-    );
+    )
 }

@@ -2,7 +2,7 @@
 use crate::feeding::{Fed, is_close, put_end, take_step, unfed};
 use crate::kept::is_changed;
 use crate::state::State;
-use crate::station::receive;
+use crate::station::{Pipes, receive};
 use connection::state::Slot;
 use fastcgi_server::{QUERY, Server};
 use script::number::low16;
@@ -10,6 +10,7 @@ use script::page::end_line;
 use script::pieces::plus;
 use script::words::part;
 use slot_table::find_from;
+use std::io;
 
 // No id: the station's output is read to its end.
 pub const TO_THE_END: u64 = 65536;
@@ -70,11 +71,11 @@ struct Unread {
 }
 
 // What is left to read; where nothing is, what the station writes next.
-fn refill(inbox: &mut [u8], from: usize, to: usize) -> Unread {
+fn refill(pipes: &mut Pipes, inbox: &mut [u8], from: usize, to: usize) -> Unread {
     if from < to {
         return Unread { from: from, to: to };
     }
-    let n = receive(inbox);
+    let n = receive(pipes, inbox);
     Unread { from: 0, to: n }
 }
 
@@ -88,6 +89,7 @@ fn further(from: usize, before: usize, used: usize) -> usize {
 
 // A step over what was received.
 fn hear_step(
+    rt: &HostRuntime,
     h: Heard,
     u: Unread,
     id: u64,
@@ -95,15 +97,15 @@ fn hear_step(
     values: &mut [u8; QUERY],
     kept: &mut [u8],
     page: &mut [u8],
-) -> Heard {
+) -> io::Result<Heard> {
     let before = h.fed.tale.used;
-    let fed = take_step(h.fed, piece, values, kept, page);
-    Heard {
+    let fed = take_step(rt, h.fed, piece, values, kept, page)?;
+    Ok(Heard {
         fed: fed,
         from: further(u.from, before, fed.tale.used),
         to: u.to,
         why: why_now(fed, id),
-    }
+    })
 }
 
 // The station's output is over.
@@ -119,18 +121,20 @@ fn heard_all(h: Heard) -> Heard {
 
 // One step on, over what was received or is received now.
 fn hear_more(
+    rt: &HostRuntime,
     h: Heard,
     id: u64,
     values: &mut [u8; QUERY],
     kept: &mut [u8],
     inbox: &mut [u8],
+    pipes: &mut Pipes,
     page: &mut [u8],
-) -> Heard {
-    let u = refill(inbox, h.from, h.to);
+) -> io::Result<Heard> {
+    let u = refill(pipes, inbox, h.from, h.to);
     if u.to <= u.from {
-        return heard_all(h);
+        return Ok(heard_all(h));
     }
-    hear_step(h, u, id, part(inbox, u.from, u.to), values, kept, page)
+    hear_step(rt, h, u, id, part(inbox, u.from, u.to), values, kept, page)
 }
 
 // Before the first step.
@@ -147,53 +151,57 @@ fn unheard(s: State, id: u64) -> Heard {
 // Steps over what the station writes until the waiting ends. A proved loop has to end, and nothing says that the station
 // does: so it counts its turns down, from a number that no run uses up.
 fn hear(
+    rt: &HostRuntime,
     s: State,
     id: u64,
     values: &mut [u8; QUERY],
     kept: &mut [u8],
     inbox: &mut [u8],
+    pipes: &mut Pipes,
     page: &mut [u8],
-) -> Heard {
+) -> io::Result<Heard> {
     let mut h = unheard(s, id);
     let mut turns = u64::MAX;
     while turns > 0 {
         turns -= 1;
         if h.why != WAITS {
-            return h;
+            return Ok(h);
         }
-        h = hear_more(h, id, values, kept, inbox, page);
+        h = hear_more(rt, h, id, values, kept, inbox, pipes, page)?;
     }
-    h
+    Ok(h)
 }
 
 // The rest of the line: a word for why the waiting ended.
-fn put_why(page: &mut [u8], f: Fed, changed: bool, why: u8) -> usize {
+fn put_why(rt: &HostRuntime, page: &mut [u8], f: Fed, changed: bool, why: u8) -> io::Result<usize> {
     match why {
-        FINISHED => put_end(page, f.tale, changed, b"finished"),
-        CLOSED => put_end(page, f.tale, changed, b"closed"),
-        _ => put_end(page, f.tale, changed, b"over"),
+        FINISHED => put_end(rt, page, f.tale, changed, b"finished"),
+        CLOSED => put_end(rt, page, f.tale, changed, b"closed"),
+        _ => put_end(rt, page, f.tale, changed, b"over"),
     }
 }
 
 // Waits until a request is not open any more, or to the end of the station's output.
 pub fn wait(
+    rt: &HostRuntime,
     s: State,
     id: u64,
     values: &mut [u8; QUERY],
     kept: &mut [u8],
     inbox: &mut [u8],
+    pipes: &mut Pipes,
     page: &mut [u8],
-) -> State {
-    let heard = hear(s, id, values, kept, inbox, page);
+) -> io::Result<State> {
+    let heard = hear(rt, s, id, values, kept, inbox, pipes, page)?;
     let fed = heard.fed;
     let changed = is_changed(kept, fed.server, values);
-    let at = put_why(page, fed, changed, heard.why);
-    end_line(page, at);
+    let at = put_why(rt, page, fed, changed, heard.why)?;
+    end_line(rt, page, at)?;
     let server = fed.server;
-    State {
+    Ok(State {
         server: server,
         station: s.station,
         from: heard.from,
         to: heard.to,
-    }
+    })
 }

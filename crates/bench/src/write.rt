@@ -1,7 +1,7 @@
 // The calls that write into a lent buffer, and what is told of them.
 use crate::command::{ABORT, ASK, END, OPEN, PAIR};
 use crate::kept::{is_changed, keep};
-use crate::station::send;
+use crate::station::{Pipes, send};
 use fastcgi_server::{
     Input, QUERY, Server, ServerWritten, ServerWrote, Stream, abort_request, add_pair, ask_values,
     end_input, open_request, refusal_number, write_input,
@@ -12,6 +12,7 @@ use script::page::end_line;
 use script::room::fill;
 use script::said::{put_refusal, put_touched, put_wrote};
 use script::words::part;
+use std::io;
 
 // The stream of a number.
 fn stream_of(n: u64) -> Stream {
@@ -73,43 +74,50 @@ pub fn kept_call(
 }
 
 // What a call came to and left in the room.
-fn put_call(page: &mut [u8], wrote: ServerWrote, changed: bool, room: &[u8]) -> usize {
+fn put_call(
+    rt: &HostRuntime,
+    page: &mut [u8],
+    wrote: ServerWrote,
+    changed: bool,
+    room: &[u8],
+) -> io::Result<usize> {
     match wrote {
         ServerWrote::Bytes(n) => {
-            let a = put_wrote(page, 0, room, n, b"");
-            put_touched(page, a, room, n)
+            let a = put_wrote(rt, page, 0, room, n, b"")?;
+            put_touched(rt, page, a, room, n)
         }
         ServerWrote::Refused(why) => {
-            let a = put_refusal(page, 0, refusal_number(why), changed);
-            put_touched(page, a, room, 0)
+            let a = put_refusal(rt, page, 0, refusal_number(why), changed)?;
+            put_touched(rt, page, a, room, 0)
         }
     }
 }
 
 // Sends what a call wrote.
-fn send_wrote(wrote: ServerWrote, room: &[u8]) {
+fn send_wrote(pipes: &mut Pipes, wrote: ServerWrote, room: &[u8]) {
     if let ServerWrote::Bytes(n) = wrote {
-        send(part(room, 0, n));
+        send(pipes, part(room, 0, n));
     }
 }
 
 // Sends it where there is a station.
-pub fn send_on(station: bool, wrote: ServerWrote, room: &[u8]) {
+pub fn send_on(pipes: &mut Pipes, station: bool, wrote: ServerWrote, room: &[u8]) {
     if station {
-        send_wrote(wrote, room);
+        send_wrote(pipes, wrote, room);
     }
 }
 
 // The line of a call, which is compared with what is kept from before it.
 pub fn put_effect(
+    rt: &HostRuntime,
     page: &mut [u8],
     written: ServerWritten,
     kept: &[u8],
     values: &[u8; QUERY],
     room: &[u8],
-) {
+) -> io::Result<()> {
     let changed = is_changed(kept, written.server, values);
     let wrote = written.wrote;
-    let at = put_call(page, wrote, changed, room);
-    end_line(page, at);
+    let at = put_call(rt, page, wrote, changed, room)?;
+    end_line(rt, page, at)
 }

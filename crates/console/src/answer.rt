@@ -18,64 +18,67 @@ use script::form::Form;
 use script::page::{end_line, put};
 use script::said::put_refused;
 use script::words::part;
+use std::io;
 use wire::least;
 
 // An answer of words alone.
-fn tell(page: &mut [u8], text: &[u8]) {
-    let at = put(page, 0, text);
-    end_line(page, at);
+fn tell(rt: &HostRuntime, page: &mut [u8], text: &[u8]) -> io::Result<()> {
+    let at = put(rt, page, 0, text)?;
+    end_line(rt, page, at)
 }
 
 // What a start came to.
-fn tell_start(page: &mut [u8], started: StartResult) {
+fn tell_start(rt: &HostRuntime, page: &mut [u8], started: StartResult) -> io::Result<()> {
     match started {
-        StartResult::Open => tell(page, b"open"),
+        StartResult::Open => tell(rt, page, b"open"),
         StartResult::Refused(why) => {
-            let at = put_refused(page, 0, refusal_number(why));
-            end_line(page, at);
+            let at = put_refused(rt, page, 0, refusal_number(why))?;
+            end_line(rt, page, at)
         }
     }
 }
 
 // Starts anew over the lent part of the store.
 fn start_anew(
+    rt: &HostRuntime,
     s: State,
     lent: &mut [u8],
     gathered: &mut [u8; QUERY],
     waits: &mut [u16; WAITS],
     page: &mut [u8],
-) -> State {
+) -> io::Result<State> {
     let started = start(lent, gathered, waits);
     let told = started.result;
     let conn = started.conn;
     let reader = s.reader;
-    tell_start(page, told);
-    State {
+    tell_start(rt, page, told)?;
+    Ok(State {
         conn: conn,
         event: Event::Nothing,
         lent: s.lent,
         lent_queue: s.lent_queue,
         reader: reader,
-    }
+    })
 }
 
 // Lends the first n bytes of the store and the first k of the queue from now on.
-fn lend(s: State, n: usize, k: usize, page: &mut [u8]) -> State {
+fn lend(rt: &HostRuntime, s: State, n: usize, k: usize, page: &mut [u8]) -> io::Result<State> {
     let c = s.conn;
     let e = s.event;
     let reader = s.reader;
-    tell(page, b"ok");
-    State {
+    tell(rt, page, b"ok")?;
+    Ok(State {
         conn: c,
         event: e,
         lent: n,
         lent_queue: k,
         reader: reader,
-    }
+    })
 }
 
 // A call that writes into the lent room, and its line.
 fn call_and_tell(
+    rt: &HostRuntime,
     s: State,
     f: Form,
     lent: &mut [u8],
@@ -85,14 +88,15 @@ fn call_and_tell(
     bytes: &[u8],
     room: &mut [u8],
     page: &mut [u8],
-) -> Called {
+) -> io::Result<Called> {
     let called = kept_call(s, f, lent, gathered, waits, kept, bytes, room);
-    put_effect(page, called, kept, lent, gathered, waits, room);
-    called
+    put_effect(rt, page, called, kept, lent, gathered, waits, room)?;
+    Ok(called)
 }
 
 // The state after such a call.
 fn write_on(
+    rt: &HostRuntime,
     s: State,
     f: Form,
     lent: &mut [u8],
@@ -102,14 +106,15 @@ fn write_on(
     bytes: &[u8],
     room: &mut [u8],
     page: &mut [u8],
-) -> State {
-    let called = call_and_tell(s, f, lent, gathered, waits, kept, bytes, room, page);
-    with_conn(s, called.conn)
+) -> io::Result<State> {
+    let called = call_and_tell(rt, s, f, lent, gathered, waits, kept, bytes, room, page)?;
+    Ok(with_conn(s, called.conn))
 }
 
 // What a command does that is not lent the queue, over the lent part of the store and into so much of the buffer as its
 // room.
 fn perform(
+    rt: &HostRuntime,
     s: State,
     f: Form,
     lent: &mut [u8],
@@ -119,15 +124,16 @@ fn perform(
     bytes: &[u8],
     room: &mut [u8],
     page: &mut [u8],
-) -> State {
+) -> io::Result<State> {
     let values = f.values;
     let n = values[0] as usize;
     let kind = f.kind;
     match kind {
-        START => start_anew(s, lent, gathered, waits, page),
-        LEND => lend(s, n, s.lent_queue, page),
-        LEND_QUEUE => lend(s, s.lent, n, page),
+        START => start_anew(rt, s, lent, gathered, waits, page),
+        LEND => lend(rt, s, n, s.lent_queue, page),
+        LEND_QUEUE => lend(rt, s, s.lent, n, page),
         STEP | NEXT | FEED => feed(
+            rt,
             s,
             size_of(f),
             is_onward(f),
@@ -138,14 +144,15 @@ fn perform(
             kept,
             page,
         ),
-        READ => with_reader(s, read_body(s.reader, part(bytes, 0, n), page)),
-        BODY => with_reader(s, body_turn(s.reader, n, page)),
-        _ => write_on(s, f, lent, gathered, waits, kept, bytes, room, page),
+        READ => Ok(with_reader(s, read_body(rt, s.reader, part(bytes, 0, n), page)?)),
+        BODY => Ok(with_reader(s, body_turn(rt, s.reader, n, page)?)),
+        _ => write_on(rt, s, f, lent, gathered, waits, kept, bytes, room, page),
     }
 }
 
 // What any command does, over the lent parts of the store and of the queue.
 fn perform_any(
+    rt: &HostRuntime,
     s: State,
     f: Form,
     lent: &mut [u8],
@@ -157,20 +164,21 @@ fn perform_any(
     bytes: &[u8],
     room: &mut [u8],
     page: &mut [u8],
-) -> State {
+) -> io::Result<State> {
     if QUEUE_SAY <= f.kind {
-        return with_conn(
+        return Ok(with_conn(
             s,
             queue_command(
-                s.conn, f, lent, gathered, waits, marks, queue, kept, bytes, room, page,
-            ),
-        );
+                rt, s.conn, f, lent, gathered, waits, marks, queue, kept, bytes, room, page,
+            )?,
+        ));
     }
-    perform(s, f, lent, gathered, waits, kept, bytes, room, page)
+    perform(rt, s, f, lent, gathered, waits, kept, bytes, room, page)
 }
 
 // What a field sets beside the connection, and the answer.
 fn poke_beside(
+    rt: &HostRuntime,
     f: Form,
     store: &mut [u8],
     gathered: &mut [u8; QUERY],
@@ -179,17 +187,18 @@ fn poke_beside(
     queue: &mut [u8],
     bytes: &[u8],
     page: &mut [u8],
-) {
+) -> io::Result<()> {
     let values = f.values;
     let a = values[0];
     let b = values[1];
     poke_bytes(f.kind, a, b, store, gathered, bytes);
     poke_waits(f.kind, a, b, waits, marks, queue);
-    tell(page, b"ok");
+    tell(rt, page, b"ok")
 }
 
 // Sets a field.
 fn poke(
+    rt: &HostRuntime,
     s: State,
     f: Form,
     store: &mut [u8],
@@ -199,17 +208,18 @@ fn poke(
     queue: &mut [u8],
     bytes: &[u8],
     page: &mut [u8],
-) -> State {
+) -> io::Result<State> {
     let values = f.values;
-    poke_beside(f, store, gathered, waits, marks, queue, bytes, page);
-    with_conn(
+    poke_beside(rt, f, store, gathered, waits, marks, queue, bytes, page)?;
+    Ok(with_conn(
         s,
         poked(s.conn, f.kind, values[0], values[1], values[2], bytes),
-    )
+    ))
 }
 
 // Answers a line that was read.
 pub fn answer(
+    rt: &HostRuntime,
     s: State,
     f: Form,
     store: &mut [u8],
@@ -221,19 +231,22 @@ pub fn answer(
     bytes: &[u8],
     out: &mut [u8],
     page: &mut [u8],
-) -> State {
+) -> io::Result<State> {
     if is_question(f.kind) {
-        ask(page, s.conn, f, store, s.lent, waits, marks, queue, bytes);
-        return s;
+        ask(
+            rt, page, s.conn, f, store, s.lent, waits, marks, queue, bytes,
+        )?;
+        return Ok(s);
     }
     if POKE <= f.kind {
-        return poke(s, f, store, gathered, waits, marks, queue, bytes, page);
+        return poke(rt, s, f, store, gathered, waits, marks, queue, bytes, page);
     }
     let z: usize = 0;
     let e = least(s.lent, store.len());
     let q = least(s.lent_queue, queue.len());
     let r = least(room_of(f), out.len());
     perform_any(
+        rt,
         s,
         f,
         &mut store[z..e],

@@ -4,6 +4,7 @@ use float_bits::{bits_of_float, float_of_bits};
 use script::number::low8;
 use script::page::{put, put_hex};
 use script::said::put_refused;
+use std::io;
 use wire::number_of_four;
 
 // A card, or bytes that are none.
@@ -71,7 +72,7 @@ fn card_of(bytes: &[u8]) -> CardWord {
 }
 
 // ` ` and the eight bytes of a float's bits.
-fn put_float(page: &mut [u8], at: usize, x: f64) -> usize {
+fn put_float(rt: &HostRuntime, page: &mut [u8], at: usize, x: f64) -> io::Result<usize> {
     let bits = bits_of_float(x);
     let bytes = [
         low8(bits / 72057594037927936),
@@ -83,32 +84,39 @@ fn put_float(page: &mut [u8], at: usize, x: f64) -> usize {
         low8(bits / 256),
         low8(bits),
     ];
-    put_hex(page, at, &bytes)
+    put_hex(rt, page, at, &bytes)
 }
 
-fn put_corrected(page: &mut [u8], corrected: Corrected) -> usize {
+fn put_corrected(rt: &HostRuntime, page: &mut [u8], corrected: Corrected) -> io::Result<usize> {
     match corrected {
         Corrected::Count(x) => {
-            let at = put(page, 0, b"count");
-            put_float(page, at, x)
+            let at = put(rt, page, 0, b"count")?;
+            put_float(rt, page, at, x)
         }
-        Corrected::Refused(fault) => put_refused(page, 0, correction_fault_number(fault)),
+        Corrected::Refused(fault) => put_refused(rt, page, 0, correction_fault_number(fault)),
     }
 }
 
 // A raw count corrected by two cards.
-pub fn ask_correct(page: &mut [u8], thawed: &[u8], frozen: &[u8], tenths: i32, raw: u32) -> usize {
+pub fn ask_correct(
+    rt: &HostRuntime,
+    page: &mut [u8],
+    thawed: &[u8],
+    frozen: &[u8],
+    tenths: i32,
+    raw: u32,
+) -> io::Result<usize> {
     let first = card_of(thawed);
     let CardWord::Is(t) = first else {
-        return put(page, 0, b"what");
+        return put(rt, page, 0, b"what");
     };
     let second = card_of(frozen);
     let CardWord::Is(f) = second else {
-        return put(page, 0, b"what");
+        return put(rt, page, 0, b"what");
     };
     let calibration = Calibration {
         thawed: t,
         frozen: f,
     };
-    put_corrected(page, correct(calibration, tenths, raw))
+    put_corrected(rt, page, correct(calibration, tenths, raw))
 }

@@ -12,6 +12,7 @@ use script::page::{end_line, put_pairs};
 use script::pieces::{piece_end, plus};
 use script::said::put_refusal;
 use script::words::{last_part, part};
+use std::io;
 
 // What the calls told so far: where the line goes on, the last event on it, the bytes used by all calls together, and
 // the number of the refusal that ended them, or 0. A call that is `alone` puts its event after the bytes used.
@@ -65,22 +66,35 @@ fn is_put(alone: bool, e: Event) -> bool {
 }
 
 // An event after the last one.
-fn put_next(page: &mut [u8], at: usize, last: Event, e: Event, used: &[u8]) -> usize {
+fn put_next(
+    rt: &HostRuntime,
+    page: &mut [u8],
+    at: usize,
+    last: Event,
+    e: Event,
+    used: &[u8],
+) -> io::Result<usize> {
     let more = more_data(last, e);
     if 0 < more {
-        return put_pairs(page, at, last_part(used, more));
+        return put_pairs(rt, page, at, last_part(used, more));
     }
-    let place = put_mark(page, at, b"; ", last);
-    put_event(page, place, e, used)
+    let place = put_mark(rt, page, at, b"; ", last)?;
+    put_event(rt, page, place, e, used)
 }
 
 // What a call adds to the line.
-fn put_more(page: &mut [u8], t: Tale, e: Event, used: &[u8]) -> usize {
+fn put_more(
+    rt: &HostRuntime,
+    page: &mut [u8],
+    t: Tale,
+    e: Event,
+    used: &[u8],
+) -> io::Result<usize> {
     let last = t.event;
     if is_put(t.alone, e) {
-        return put_next(page, t.at, last, e, used);
+        return put_next(rt, page, t.at, last, e, used);
     }
-    t.at
+    Ok(t.at)
 }
 
 // The last event that was told.
@@ -108,17 +122,23 @@ fn refusal_of(told: StepResult) -> u8 {
 }
 
 // What a call adds to what was told.
-fn tell_step(page: &mut [u8], t: Tale, stepped: Stepped, piece: &[u8]) -> Tale {
+fn tell_step(
+    rt: &HostRuntime,
+    page: &mut [u8],
+    t: Tale,
+    stepped: Stepped,
+    piece: &[u8],
+) -> io::Result<Tale> {
     let last = t.event;
     let told = stepped.result;
     let e = event_of(told);
-    Tale {
-        at: put_more(page, t, e, part(piece, 0, stepped.used)),
+    Ok(Tale {
+        at: put_more(rt, page, t, e, part(piece, 0, stepped.used))?,
         event: latest(last, e),
         used: plus(t.used, stepped.used),
         refusal: refusal_of(told),
         alone: t.alone,
-    }
+    })
 }
 
 // A step, or a call that goes on to the next event; what it finds is kept.
@@ -140,6 +160,7 @@ fn kept_step(
 
 // A call over what is left of a piece.
 fn take_step(
+    rt: &HostRuntime,
     f: Fed,
     on: bool,
     piece: &[u8],
@@ -148,14 +169,14 @@ fn take_step(
     waits: &mut [u16; WAITS],
     kept: &mut [u8],
     page: &mut [u8],
-) -> Fed {
+) -> io::Result<Fed> {
     let stepped = kept_step(f.conn, on, lent, gathered, waits, kept, piece);
-    let tale = tell_step(page, f.tale, stepped, piece);
+    let tale = tell_step(rt, page, f.tale, stepped, piece)?;
     let conn = stepped.conn;
-    Fed {
+    Ok(Fed {
         conn: conn,
         tale: tale,
-    }
+    })
 }
 
 // Whether an event says that the connection is closed.
@@ -209,6 +230,7 @@ fn unfed(c: Conn, size: usize) -> Fed {
 
 // Goes through the bytes, in pieces of that size.
 fn feed_all(
+    rt: &HostRuntime,
     c: Conn,
     size: usize,
     on: bool,
@@ -218,13 +240,14 @@ fn feed_all(
     waits: &mut [u16; WAITS],
     kept: &mut [u8],
     page: &mut [u8],
-) -> Fed {
+) -> io::Result<Fed> {
     let mut fed = unfed(c, size);
     let end = steps_end(size, input.len());
     let mut from: usize = 0;
     while from < end {
         let e = piece_end(from, size, input.len());
         fed = take_step(
+            rt,
             fed,
             on,
             part(input, from, e),
@@ -233,20 +256,20 @@ fn feed_all(
             waits,
             kept,
             page,
-        );
+        )?;
         from = next_place(from, end, fed.tale);
     }
-    fed
+    Ok(fed)
 }
 
 // The end of the line: how many bytes were used, or the refusal.
-fn put_end(page: &mut [u8], t: Tale, changed: bool) -> usize {
+fn put_end(rt: &HostRuntime, page: &mut [u8], t: Tale, changed: bool) -> io::Result<usize> {
     let last = t.event;
-    let at = put_mark(page, t.at, b"; ", last);
+    let at = put_mark(rt, page, t.at, b"; ", last)?;
     if 0 < t.refusal {
-        return put_refusal(page, at, t.refusal, changed);
+        return put_refusal(rt, page, at, t.refusal, changed);
     }
-    put_used(page, at, t.used)
+    put_used(rt, page, at, t.used)
 }
 
 // Whether there is a single call to tell of.
@@ -258,16 +281,23 @@ fn is_single(t: Tale) -> bool {
 }
 
 // What is left to tell after the calls.
-fn put_last(page: &mut [u8], t: Tale, changed: bool, input: &[u8]) -> usize {
+fn put_last(
+    rt: &HostRuntime,
+    page: &mut [u8],
+    t: Tale,
+    changed: bool,
+    input: &[u8],
+) -> io::Result<usize> {
     let last = t.event;
     if is_single(t) {
-        return put_step(page, last, part(input, 0, t.used));
+        return put_step(rt, page, last, part(input, 0, t.used));
     }
-    put_end(page, t, changed)
+    put_end(rt, page, t, changed)
 }
 
 // The rest of the line. Only the last call can be a refused one, and it is compared with what is kept from before it.
 fn put_rest(
+    rt: &HostRuntime,
     page: &mut [u8],
     f: Fed,
     kept: &[u8],
@@ -275,10 +305,10 @@ fn put_rest(
     gathered: &[u8; QUERY],
     waits: &[u16; WAITS],
     input: &[u8],
-) {
+) -> io::Result<()> {
     let changed = is_changed(kept, f.conn, lent, gathered, waits);
-    let at = put_last(page, f.tale, changed, input);
-    end_line(page, at);
+    let at = put_last(rt, page, f.tale, changed, input)?;
+    end_line(rt, page, at)
 }
 
 // The event that is the last one now: as it was where the first call was refused.
@@ -307,6 +337,7 @@ fn behind_feed(s: State, f: Fed) -> State {
 
 // Feeds bytes, and tells what the calls told.
 fn feed_and_tell(
+    rt: &HostRuntime,
     c: Conn,
     size: usize,
     on: bool,
@@ -316,15 +347,16 @@ fn feed_and_tell(
     waits: &mut [u16; WAITS],
     kept: &mut [u8],
     page: &mut [u8],
-) -> Fed {
-    let fed = feed_all(c, size, on, input, lent, gathered, waits, kept, page);
-    put_rest(page, fed, kept, lent, gathered, waits, input);
-    fed
+) -> io::Result<Fed> {
+    let fed = feed_all(rt, c, size, on, input, lent, gathered, waits, kept, page)?;
+    put_rest(rt, page, fed, kept, lent, gathered, waits, input)?;
+    Ok(fed)
 }
 
 // Feeds bytes in pieces of that size; of size 0, makes a single call over all of them. A call goes `on` to the next
 // event or takes one step.
 pub fn feed(
+    rt: &HostRuntime,
     s: State,
     size: usize,
     on: bool,
@@ -334,7 +366,9 @@ pub fn feed(
     waits: &mut [u16; WAITS],
     kept: &mut [u8],
     page: &mut [u8],
-) -> State {
-    let fed = feed_and_tell(s.conn, size, on, input, lent, gathered, waits, kept, page);
-    behind_feed(s, fed)
+) -> io::Result<State> {
+    let fed = feed_and_tell(
+        rt, s.conn, size, on, input, lent, gathered, waits, kept, page,
+    )?;
+    Ok(behind_feed(s, fed))
 }

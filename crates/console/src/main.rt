@@ -18,8 +18,10 @@ use crate::state::fresh;
 use console_queue::kept::KEPT;
 use console_queue::sizes::{WHOLE, WHOLE_QUEUE};
 use fastcgi_queue::{QUERY, QUEUE, WAITS};
+use host::large_buffer;
 use script::form::BYTES;
 use script::input::{Input, LINE, next_line};
+use std::io;
 
 // Before the first line.
 fn unread() -> Input {
@@ -34,6 +36,7 @@ fn unread() -> Input {
 // Answers every line. A proved loop has to end, and nothing says that the input does: so it counts its turns down, from
 // a number that no run uses up.
 fn answer_all(
+    rt: &HostRuntime,
     piece: &mut [u8],
     line: &mut [u8],
     store: &mut [u8],
@@ -45,37 +48,39 @@ fn answer_all(
     bytes: &mut [u8],
     out: &mut [u8],
     page: &mut [u8],
-) {
+) -> io::Result<()> {
     let mut input = unread();
     let mut state = fresh();
     let mut turns = u64::MAX;
     while turns > 0 {
         turns -= 1;
-        input = next_line(input, piece, line);
+        input = next_line(rt, input, piece, line)?;
         if input.more {} else {
-            return;
+            return Ok(());
         }
         let f = read_line(line, input.held, bytes);
         state = answer(
-            state, f, store, gathered, waits, marks, queue, kept, bytes, out, page,
-        );
+            rt, state, f, store, gathered, waits, marks, queue, kept, bytes, out, page,
+        )?;
     }
+    Ok(())
 }
 
 // The buffers are made once.
-fn main() {
+fn main(rt: HostRuntime) -> io::Result<()> {
     let mut store = [0u8; WHOLE];
     let mut gathered = [0u8; QUERY];
     let mut waits = [0u16; WAITS];
     let mut marks = [0u8; QUEUE];
     let mut queue = [0u8; WHOLE_QUEUE];
-    let mut piece = io::large_buffer();
+    let mut piece = large_buffer();
     let mut line = [0u8; LINE];
     let mut kept = [0u8; KEPT];
     let mut bytes = [0u8; BYTES];
     let mut out = [0u8; BYTES];
-    let mut page = io::large_buffer();
+    let mut page = large_buffer();
     answer_all(
+        &rt,
         &mut piece,
         &mut line,
         &mut store,
@@ -87,5 +92,5 @@ fn main() {
         &mut bytes,
         &mut out,
         &mut page,
-    );
+    )
 }

@@ -8,6 +8,7 @@ use script::page::{end_line, put, put_number};
 use script::pieces::plus;
 use script::said::put_refused;
 use script::words::part;
+use std::io;
 
 // Where the line goes on, the bytes used so far, the number of the refusal or 0, and the reader.
 #[derive(Clone, Copy)]
@@ -19,29 +20,34 @@ struct Tale {
 }
 
 // A temperature in decimal.
-fn put_tenths(page: &mut [u8], at: usize, tenths: i32) -> usize {
+fn put_tenths(rt: &HostRuntime, page: &mut [u8], at: usize, tenths: i32) -> io::Result<usize> {
     let sent = sent_of(tenths) as u64;
     if sent % 2 == 1 {
-        return put_number(page, at, b" -", sent / 2 + 1);
+        return put_number(rt, page, at, b" -", sent / 2 + 1);
     }
-    put_number(page, at, b" ", sent / 2)
+    put_number(rt, page, at, b" ", sent / 2)
 }
 
 // A reading.
-fn put_reading(page: &mut [u8], at: usize, r: Reading) -> usize {
-    let a = put(page, at, b"reading");
-    let b = put_number(page, a, b" ", r.log as u64);
-    let d = put_tenths(page, b, r.tenths);
-    let e = put_number(page, d, b" ", r.raw as u64);
-    put(page, e, b"; ")
+fn put_reading(rt: &HostRuntime, page: &mut [u8], at: usize, r: Reading) -> io::Result<usize> {
+    let a = put(rt, page, at, b"reading")?;
+    let b = put_number(rt, page, a, b" ", r.log as u64)?;
+    let d = put_tenths(rt, page, b, r.tenths)?;
+    let e = put_number(rt, page, d, b" ", r.raw as u64)?;
+    put(rt, page, e, b"; ")
 }
 
 // What a call told: a reading, or nothing. A refusal ends the line.
-fn put_result(page: &mut [u8], at: usize, res: ReadingResult) -> usize {
+fn put_result(
+    rt: &HostRuntime,
+    page: &mut [u8],
+    at: usize,
+    res: ReadingResult,
+) -> io::Result<usize> {
     match res {
-        ReadingResult::Nothing => at,
-        ReadingResult::Reading(r) => put_reading(page, at, r),
-        ReadingResult::Refused(_) => at,
+        ReadingResult::Nothing => Ok(at),
+        ReadingResult::Reading(r) => put_reading(rt, page, at, r),
+        ReadingResult::Refused(_) => Ok(at),
     }
 }
 
@@ -54,17 +60,17 @@ fn refusal_of(res: ReadingResult) -> u8 {
 }
 
 // One call, with what the calls before it left of the bytes.
-fn read_on(t: Tale, bytes: &[u8], page: &mut [u8]) -> Tale {
+fn read_on(rt: &HostRuntime, t: Tale, bytes: &[u8], page: &mut [u8]) -> io::Result<Tale> {
     let before = t.reader;
     let q = read_reading(before, part(bytes, t.used, bytes.len()));
     let result = q.result;
     let reader = q.reader;
-    Tale {
-        at: put_result(page, t.at, result),
+    Ok(Tale {
+        at: put_result(rt, page, t.at, result)?,
         used: plus(t.used, q.used),
         refusal: refusal_of(result),
         reader: reader,
-    }
+    })
 }
 
 // Whether the line is told: the bytes are used up, or the body is refused.
@@ -76,7 +82,7 @@ fn is_told(t: Tale, n: usize) -> bool {
 }
 
 // Call after call. Each that does not end this uses a byte, so one more than the bytes are enough.
-fn read_all(r: Reader, bytes: &[u8], page: &mut [u8]) -> Tale {
+fn read_all(rt: &HostRuntime, r: Reader, bytes: &[u8], page: &mut [u8]) -> io::Result<Tale> {
     let mut t = Tale {
         at: 0,
         used: 0,
@@ -86,56 +92,56 @@ fn read_all(r: Reader, bytes: &[u8], page: &mut [u8]) -> Tale {
     let mut turns = plus(bytes.len(), 1);
     while turns > 0 {
         turns -= 1;
-        t = read_on(t, bytes, page);
+        t = read_on(rt, t, bytes, page)?;
         if is_told(t, bytes.len()) {
-            return t;
+            return Ok(t);
         }
     }
-    t
+    Ok(t)
 }
 
 // How the line ends.
-fn put_end(page: &mut [u8], t: Tale) -> usize {
+fn put_end(rt: &HostRuntime, page: &mut [u8], t: Tale) -> io::Result<usize> {
     let at = t.at;
     if t.refusal == 0 {
-        let a = put(page, at, b"used");
-        return put_number(page, a, b" ", t.used as u64);
+        let a = put(rt, page, at, b"used")?;
+        return put_number(rt, page, a, b" ", t.used as u64);
     }
-    let a = put_refused(page, at, t.refusal);
-    put_number(page, a, b" at ", t.used as u64)
+    let a = put_refused(rt, page, at, t.refusal)?;
+    put_number(rt, page, a, b" at ", t.used as u64)
 }
 
 // Bytes of a body: its readings on one line.
-pub fn read_body(r: Reader, bytes: &[u8], page: &mut [u8]) -> Reader {
-    let t = read_all(r, bytes, page);
-    let at = put_end(page, t);
-    end_line(page, at);
-    t.reader
+pub fn read_body(rt: &HostRuntime, r: Reader, bytes: &[u8], page: &mut [u8]) -> io::Result<Reader> {
+    let t = read_all(rt, r, bytes, page)?;
+    let at = put_end(rt, page, t)?;
+    end_line(rt, page, at)?;
+    Ok(t.reader)
 }
 
 // What the end of a body came to.
-fn put_body_end(page: &mut [u8], end: BodyEnd) {
+fn put_body_end(rt: &HostRuntime, page: &mut [u8], end: BodyEnd) -> io::Result<()> {
     match end {
         BodyEnd::Clean => {
-            let at = put(page, 0, b"clean");
-            end_line(page, at);
+            let at = put(rt, page, 0, b"clean")?;
+            end_line(rt, page, at)
         }
         BodyEnd::Refused(fault) => {
-            let at = put_refused(page, 0, reading_fault_number(fault));
-            end_line(page, at);
+            let at = put_refused(rt, page, 0, reading_fault_number(fault))?;
+            end_line(rt, page, at)
         }
     }
 }
 
 // The body ends, or with 1 a new one begins.
-pub fn body_turn(r: Reader, k: usize, page: &mut [u8]) -> Reader {
+pub fn body_turn(rt: &HostRuntime, r: Reader, k: usize, page: &mut [u8]) -> io::Result<Reader> {
     if k == 1 {
-        let at = put(page, 0, b"ok");
-        end_line(page, at);
-        return new_reader();
+        let at = put(rt, page, 0, b"ok")?;
+        end_line(rt, page, at)?;
+        return Ok(new_reader());
     }
     let e = end_body(r);
     let end = e.end;
-    put_body_end(page, end);
-    e.reader
+    put_body_end(rt, page, end)?;
+    Ok(e.reader)
 }

@@ -15,6 +15,7 @@ use script::page::end_line;
 use script::room::fill;
 use script::said::{put_refusal, put_touched, put_wrote};
 use script::words::part;
+use std::io;
 
 // The bytes written, of a finish with the connection left open or closed; or the number of the refusal.
 #[derive(Clone, Copy)]
@@ -208,29 +209,37 @@ pub fn kept_call(
 }
 
 // What a call came to and left in the room.
-fn put_call(page: &mut [u8], at: usize, e: Effect, changed: bool, room: &[u8]) -> usize {
+fn put_call(
+    rt: &HostRuntime,
+    page: &mut [u8],
+    at: usize,
+    e: Effect,
+    changed: bool,
+    room: &[u8],
+) -> io::Result<usize> {
     match e {
         Effect::Bytes(n) => {
-            let a = put_wrote(page, at, room, n, b"");
-            put_touched(page, a, room, n)
+            let a = put_wrote(rt, page, at, room, n, b"")?;
+            put_touched(rt, page, a, room, n)
         }
         Effect::Open(n) => {
-            let a = put_wrote(page, at, room, n, b" open");
-            put_touched(page, a, room, n)
+            let a = put_wrote(rt, page, at, room, n, b" open")?;
+            put_touched(rt, page, a, room, n)
         }
         Effect::Closed(n) => {
-            let a = put_wrote(page, at, room, n, b" closed");
-            put_touched(page, a, room, n)
+            let a = put_wrote(rt, page, at, room, n, b" closed")?;
+            put_touched(rt, page, a, room, n)
         }
         Effect::Refused(why) => {
-            let a = put_refusal(page, at, why, changed);
-            put_touched(page, a, room, 0)
+            let a = put_refusal(rt, page, at, why, changed)?;
+            put_touched(rt, page, a, room, 0)
         }
     }
 }
 
 // The line of a call, which is compared with what is kept from before it.
 pub fn put_effect(
+    rt: &HostRuntime,
     page: &mut [u8],
     called: Called,
     kept: &[u8],
@@ -238,9 +247,9 @@ pub fn put_effect(
     gathered: &[u8; QUERY],
     waits: &[u16; WAITS],
     room: &[u8],
-) {
+) -> io::Result<()> {
     let changed = is_changed(kept, called.conn, store, gathered, waits);
     let e = called.effect;
-    let at = put_call(page, 0, e, changed, room);
-    end_line(page, at);
+    let at = put_call(rt, page, 0, e, changed, room)?;
+    end_line(rt, page, at)
 }

@@ -11,6 +11,7 @@ use script::page::{end_line, put, put_hex, put_number};
 use script::room::fill;
 use script::said::{put_refusal, put_touched};
 use script::words::part;
+use std::io;
 
 // The stream of a number.
 pub fn output_of(n: u64) -> Output {
@@ -71,21 +72,22 @@ fn queue_call(
 }
 
 // What such a call came to.
-fn put_queued(page: &mut [u8], queued: Queued, changed: bool) {
+fn put_queued(rt: &HostRuntime, page: &mut [u8], queued: Queued, changed: bool) -> io::Result<()> {
     match queued {
         Queued::Waits => {
-            let at = put(page, 0, b"waits");
-            end_line(page, at);
+            let at = put(rt, page, 0, b"waits")?;
+            end_line(rt, page, at)
         }
         Queued::Refused(why) => {
-            let at = put_refusal(page, 0, refusal_number(why), changed);
-            end_line(page, at);
+            let at = put_refusal(rt, page, 0, refusal_number(why), changed)?;
+            end_line(rt, page, at)
         }
     }
 }
 
 // The same call; what it finds is kept, and what it came to is told.
 fn queue_turn(
+    rt: &HostRuntime,
     c: Conn,
     f: Form,
     store: &[u8],
@@ -96,35 +98,50 @@ fn queue_turn(
     kept: &mut [u8],
     bytes: &[u8],
     page: &mut [u8],
-) -> Conn {
+) -> io::Result<Conn> {
     let values = f.values;
     keep_all(kept, c, store, gathered, waits, marks, queue);
     let called = queue_call(c, f.kind, values, waits, marks, queue, bytes);
     let queued = called.result;
     let conn = called.conn;
     let changed = is_any_changed(kept, conn, store, gathered, waits, marks, queue);
-    put_queued(page, queued, changed);
-    conn
+    put_queued(rt, page, queued, changed)?;
+    Ok(conn)
 }
 
 // `pumped RECORDS N HEX` and a last word.
-fn put_turn(page: &mut [u8], room: &[u8], records: usize, n: usize, last: &[u8]) -> usize {
-    let a = put(page, 0, b"pumped");
-    let b = put_number(page, a, b" ", records as u64);
-    let d = put_number(page, b, b" ", n as u64);
-    let e = put_hex(page, d, part(room, 0, n));
-    let g = put(page, e, last);
-    put_touched(page, g, room, n)
+fn put_turn(
+    rt: &HostRuntime,
+    page: &mut [u8],
+    room: &[u8],
+    records: usize,
+    n: usize,
+    last: &[u8],
+) -> io::Result<usize> {
+    let a = put(rt, page, 0, b"pumped")?;
+    let b = put_number(rt, page, a, b" ", records as u64)?;
+    let d = put_number(rt, page, b, b" ", n as u64)?;
+    let e = put_hex(rt, page, d, part(room, 0, n))?;
+    let g = put(rt, page, e, last)?;
+    put_touched(rt, page, g, room, n)
 }
 
 // What a turn of the pump came to and left in the room.
-fn put_pumped(page: &mut [u8], res: PumpResult, changed: bool, room: &[u8]) -> usize {
+fn put_pumped(
+    rt: &HostRuntime,
+    page: &mut [u8],
+    res: PumpResult,
+    changed: bool,
+    room: &[u8],
+) -> io::Result<usize> {
     match res {
-        PumpResult::Open { records, bytes } => put_turn(page, room, records, bytes, b" open"),
-        PumpResult::Closed { records, bytes } => put_turn(page, room, records, bytes, b" closed"),
+        PumpResult::Open { records, bytes } => put_turn(rt, page, room, records, bytes, b" open"),
+        PumpResult::Closed { records, bytes } => put_turn(
+            rt, page, room, records, bytes, b" closed",
+        ),
         PumpResult::Refused(why) => {
-            let at = put_refusal(page, 0, refusal_number(why), changed);
-            put_touched(page, at, room, 0)
+            let at = put_refusal(rt, page, 0, refusal_number(why), changed)?;
+            put_touched(rt, page, at, room, 0)
         }
     }
 }
@@ -161,6 +178,7 @@ fn kept_pump(
 
 // The line of a turn.
 fn tell_pumped(
+    rt: &HostRuntime,
     page: &mut [u8],
     pumped: Pumped,
     store: &[u8],
@@ -170,15 +188,16 @@ fn tell_pumped(
     queue: &[u8],
     kept: &[u8],
     room: &[u8],
-) {
+) -> io::Result<()> {
     let changed = is_any_changed(kept, pumped.conn, store, gathered, waits, marks, queue);
     let result = pumped.result;
-    let at = put_pumped(page, result, changed, room);
-    end_line(page, at);
+    let at = put_pumped(rt, page, result, changed, room)?;
+    end_line(rt, page, at)
 }
 
 // A turn of the pump, and its line.
 fn pump_turn(
+    rt: &HostRuntime,
     c: Conn,
     f: Form,
     store: &mut [u8],
@@ -189,20 +208,21 @@ fn pump_turn(
     kept: &mut [u8],
     room: &mut [u8],
     page: &mut [u8],
-) -> Conn {
+) -> io::Result<Conn> {
     let values = f.values;
     let allowance = values[0] as usize;
     let pumped = kept_pump(
         c, allowance, store, gathered, waits, marks, queue, kept, room,
     );
     tell_pumped(
-        page, pumped, store, gathered, waits, marks, queue, kept, room,
-    );
-    pumped.conn
+        rt, page, pumped, store, gathered, waits, marks, queue, kept, room,
+    )?;
+    Ok(pumped.conn)
 }
 
 // A command of the queue, over the lent parts of the store and the queue.
 pub fn queue_command(
+    rt: &HostRuntime,
     c: Conn,
     f: Form,
     store: &mut [u8],
@@ -214,11 +234,13 @@ pub fn queue_command(
     bytes: &[u8],
     room: &mut [u8],
     page: &mut [u8],
-) -> Conn {
+) -> io::Result<Conn> {
     if f.kind == PUMP {
-        return pump_turn(c, f, store, gathered, waits, marks, queue, kept, room, page);
+        return pump_turn(
+            rt, c, f, store, gathered, waits, marks, queue, kept, room, page,
+        );
     }
     queue_turn(
-        c, f, store, gathered, waits, marks, queue, kept, bytes, page,
+        rt, c, f, store, gathered, waits, marks, queue, kept, bytes, page,
     )
 }

@@ -17,21 +17,24 @@ use fastcgi_queue::{
     Conn, Event, QUERY, QUEUE, STORE, StepResult, WAITS, Wrote, next_event, owed_reply,
     queue_finish, start,
 };
-use libc::STDIN_FILENO;
+use host::{large_buffer, read_some};
 use noted::{NOTED, note, strike};
 use say::lines_of;
+use std::io;
 use turn::{OUT, Turned, go_round, send, turn};
 
 // Sends the reply that an event owes, if it owes one.
-fn send_owed(e: Event, out: &mut [u8]) {
+fn send_owed(rt: &HostRuntime, e: Event, out: &mut [u8]) -> io::Result<()> {
     let owed = owed_reply(e, out);
     if let Wrote::Bytes(n) = owed {
-        send(out, n);
+        return send(rt, out, n);
     }
+    Ok(())
 }
 
 // Ends a request to which nothing more is to be said. Between rounds nothing else waits, so one turn writes all of it.
 fn give_up(
+    rt: &HostRuntime,
     c: Conn,
     store: &mut [u8],
     waits: &mut [u16; WAITS],
@@ -40,11 +43,11 @@ fn give_up(
     noted: &mut [usize; NOTED],
     id: u16,
     out: &mut [u8],
-) -> Conn {
+) -> io::Result<Conn> {
     strike(noted, id);
     let over = queue_finish(c, waits, marks, id, 0);
-    let turned = turn(over.conn, store, waits, marks, queue, out);
-    turned.conn
+    let turned = turn(rt, over.conn, store, waits, marks, queue, out)?;
+    Ok(turned.conn)
 }
 
 // The request that an event leaves without anything more to come; 0 for none, since no request has that id.
@@ -60,6 +63,7 @@ fn given_up(e: Event) -> u16 {
 
 // What the station does at an event.
 fn react(
+    rt: &HostRuntime,
     c: Conn,
     store: &mut [u8],
     waits: &mut [u16; WAITS],
@@ -68,16 +72,16 @@ fn react(
     noted: &mut [usize; NOTED],
     e: Event,
     out: &mut [u8],
-) -> Conn {
-    send_owed(e, out);
+) -> io::Result<Conn> {
+    send_owed(rt, e, out)?;
     let over = given_up(e);
     if over != 0 {
-        return give_up(c, store, waits, marks, queue, noted, over, out);
+        return give_up(rt, c, store, waits, marks, queue, noted, over, out);
     }
     if let Event::Ready { id, length: _ } = e {
         note(noted, id, lines_of(c, waits, store, id));
     }
-    c
+    Ok(c)
 }
 
 // The connection after an event, and where the piece goes on.
@@ -112,6 +116,7 @@ fn past(from: usize, used: usize, end: usize) -> usize {
 
 // What the station does at what a step tells.
 fn hear(
+    rt: &HostRuntime,
     c: Conn,
     store: &mut [u8],
     waits: &mut [u16; WAITS],
@@ -120,15 +125,16 @@ fn hear(
     noted: &mut [usize; NOTED],
     told: StepResult,
     out: &mut [u8],
-) -> Conn {
+) -> io::Result<Conn> {
     if let StepResult::Event(e) = told {
-        return react(c, store, waits, marks, queue, noted, e, out);
+        return react(rt, c, store, waits, marks, queue, noted, e, out);
     }
-    c
+    Ok(c)
 }
 
 // Reads on to the next event.
 fn hear_next(
+    rt: &HostRuntime,
     h: Heard,
     store: &mut [u8],
     gathered: &mut [u8; QUERY],
@@ -138,18 +144,19 @@ fn hear_next(
     noted: &mut [usize; NOTED],
     piece: &[u8],
     out: &mut [u8],
-) -> Heard {
+) -> io::Result<Heard> {
     let s = next_event(h.conn, store, gathered, waits, rest(piece, h.from));
     let told = s.result;
-    let conn = hear(s.conn, store, waits, marks, queue, noted, told, out);
-    Heard {
+    let conn = hear(rt, s.conn, store, waits, marks, queue, noted, told, out)?;
+    Ok(Heard {
         conn: conn,
         from: past(h.from, s.used, piece.len()),
-    }
+    })
 }
 
 // Goes through a piece from event to event, to its end or to a close. There are no more events than bytes.
 fn hear_piece(
+    rt: &HostRuntime,
     c: Conn,
     store: &mut [u8],
     gathered: &mut [u8; QUERY],
@@ -159,23 +166,24 @@ fn hear_piece(
     noted: &mut [usize; NOTED],
     piece: &[u8],
     out: &mut [u8],
-) -> Conn {
+) -> io::Result<Conn> {
     let mut heard = Heard { conn: c, from: 0 };
     let mut turns = piece.len();
     while turns > 0 {
         turns -= 1;
         if piece.len() <= heard.from {
-            return heard.conn;
+            return Ok(heard.conn);
         }
         heard = hear_next(
-            heard, store, gathered, waits, marks, queue, noted, piece, out,
-        );
+            rt, heard, store, gathered, waits, marks, queue, noted, piece, out,
+        )?;
     }
-    heard.conn
+    Ok(heard.conn)
 }
 
 // Hears a piece, and answers what it made ready. There is more to come while the connection is open.
 fn exchange_piece(
+    rt: &HostRuntime,
     c: Conn,
     store: &mut [u8],
     gathered: &mut [u8; QUERY],
@@ -185,17 +193,20 @@ fn exchange_piece(
     noted: &mut [usize; NOTED],
     piece: &[u8],
     out: &mut [u8],
-) -> Turned {
-    let heard = hear_piece(c, store, gathered, waits, marks, queue, noted, piece, out);
-    let conn = go_round(heard, store, waits, marks, queue, noted, out);
-    Turned {
+) -> io::Result<Turned> {
+    let heard = hear_piece(
+        rt, c, store, gathered, waits, marks, queue, noted, piece, out,
+    )?;
+    let conn = go_round(rt, heard, store, waits, marks, queue, noted, out)?;
+    Ok(Turned {
         conn: conn,
         more: conn.open,
-    }
+    })
 }
 
 // Reads a piece and answers it; there is no more where the input is over.
 fn exchange_next(
+    rt: &HostRuntime,
     c: Conn,
     store: &mut [u8],
     gathered: &mut [u8; QUERY],
@@ -204,18 +215,18 @@ fn exchange_next(
     queue: &mut [u8],
     noted: &mut [usize; NOTED],
     out: &mut [u8],
-) -> Turned {
-    let mut piece = io::large_buffer();
-    let got = libc::read(STDIN_FILENO, &mut piece);
-    if got <= 0 {
-        return Turned {
+) -> io::Result<Turned> {
+    let mut piece = large_buffer();
+    let n = read_some(rt, &mut piece)?;
+    if n == 0 {
+        return Ok(Turned {
             conn: c,
             more: false,
-        };
+        });
     }
-    let n = io::count(got, &piece);
     let start: usize = 0;
     exchange_piece(
+        rt,
         c,
         store,
         gathered,
@@ -230,6 +241,7 @@ fn exchange_next(
 
 // To the end of the input, or until the connection is closed. It counts its turns down as go_round does.
 fn exchange(
+    rt: &HostRuntime,
     c: Conn,
     store: &mut [u8],
     gathered: &mut [u8; QUERY],
@@ -238,7 +250,7 @@ fn exchange(
     queue: &mut [u8],
     noted: &mut [usize; NOTED],
     out: &mut [u8],
-) -> Conn {
+) -> io::Result<Conn> {
     let mut turned = Turned {
         conn: c,
         more: true,
@@ -247,9 +259,10 @@ fn exchange(
     while turns > 0 {
         turns -= 1;
         if !turned.more {
-            return turned.conn;
+            return Ok(turned.conn);
         }
         turned = exchange_next(
+            rt,
             turned.conn,
             store,
             gathered,
@@ -258,12 +271,12 @@ fn exchange(
             queue,
             noted,
             out,
-        );
+        )?;
     }
-    turned.conn
+    Ok(turned.conn)
 }
 
-fn main() {
+fn main(rt: HostRuntime) -> io::Result<()> {
     let mut store = [0u8; STORE];
     let mut gathered = [0u8; QUERY];
     let mut waits = [0u16; WAITS];
@@ -274,6 +287,7 @@ fn main() {
     let s = start(&mut store, &mut gathered, &mut waits);
     let c = s.conn;
     exchange(
+        &rt,
         c,
         &mut store,
         &mut gathered,
@@ -282,5 +296,6 @@ fn main() {
         &mut queue,
         &mut noted,
         &mut out,
-    );
+    )?;
+    Ok(())
 }

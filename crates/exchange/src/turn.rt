@@ -2,7 +2,8 @@
 use crate::noted::NOTED;
 use crate::say::say_all;
 use fastcgi_queue::{Conn, PUMPED, PumpResult, QUEUE, SLOTS, WAITS, pump};
-use libc::STDOUT_FILENO;
+use host::write_out;
+use std::io;
 
 // The buffer for a turn.
 pub const OUT: usize = SLOTS * PUMPED;
@@ -15,19 +16,20 @@ pub struct Turned {
 }
 
 // Sends the first n bytes.
-pub fn send(out: &[u8], n: usize) {
+pub fn send(rt: &HostRuntime, out: &[u8], n: usize) -> io::Result<()> {
     let start: usize = 0;
     if n <= out.len() {
-        io::write_all(STDOUT_FILENO, &out[start..n]);
+        return write_out(rt, &out[start..n]);
     }
+    Ok(())
 }
 
 // Sends what a turn wrote; a refused one wrote nothing.
-fn send_turn(out: &[u8], res: PumpResult) {
+fn send_turn(rt: &HostRuntime, out: &[u8], res: PumpResult) -> io::Result<()> {
     match res {
-        PumpResult::Open { records: _, bytes } => send(out, bytes),
-        PumpResult::Closed { records: _, bytes } => send(out, bytes),
-        PumpResult::Refused(_) => {}
+        PumpResult::Open { records: _, bytes } => send(rt, out, bytes),
+        PumpResult::Closed { records: _, bytes } => send(rt, out, bytes),
+        PumpResult::Refused(_) => Ok(()),
     }
 }
 
@@ -45,25 +47,27 @@ fn goes_on(res: PumpResult) -> bool {
 
 // One turn: a record for each request for which something waits.
 pub fn turn(
+    rt: &HostRuntime,
     c: Conn,
     store: &mut [u8],
     waits: &mut [u16; WAITS],
     marks: &mut [u8; QUEUE],
     queue: &mut [u8],
     out: &mut [u8],
-) -> Turned {
+) -> io::Result<Turned> {
     let p = pump(c, store, waits, marks, queue, SLOTS, out);
     let result = p.result;
-    send_turn(out, result);
+    send_turn(rt, out, result)?;
     let conn = p.conn;
-    Turned {
+    Ok(Turned {
         conn: conn,
         more: goes_on(result),
-    }
+    })
 }
 
 // One round: to every noted request as much is said as there is room for, and then comes a turn.
 fn round(
+    rt: &HostRuntime,
     c: Conn,
     store: &mut [u8],
     waits: &mut [u16; WAITS],
@@ -71,14 +75,15 @@ fn round(
     queue: &mut [u8],
     noted: &mut [usize; NOTED],
     out: &mut [u8],
-) -> Turned {
+) -> io::Result<Turned> {
     let said = say_all(c, waits, marks, queue, store, noted);
-    turn(said, store, waits, marks, queue, out)
+    turn(rt, said, store, waits, marks, queue, out)
 }
 
 // Goes round until nothing is left to say and nothing waits, or the connection is closed. A proved loop has to end, and
 // how long the answers are is for the requests to say: so it counts its turns down, from a number that no run uses up.
 pub fn go_round(
+    rt: &HostRuntime,
     c: Conn,
     store: &mut [u8],
     waits: &mut [u16; WAITS],
@@ -86,7 +91,7 @@ pub fn go_round(
     queue: &mut [u8],
     noted: &mut [usize; NOTED],
     out: &mut [u8],
-) -> Conn {
+) -> io::Result<Conn> {
     let mut turned = Turned {
         conn: c,
         more: true,
@@ -95,9 +100,9 @@ pub fn go_round(
     while turns > 0 {
         turns -= 1;
         if !turned.more {
-            return turned.conn;
+            return Ok(turned.conn);
         }
-        turned = round(turned.conn, store, waits, marks, queue, noted, out);
+        turned = round(rt, turned.conn, store, waits, marks, queue, noted, out)?;
     }
-    turned.conn
+    Ok(turned.conn)
 }

@@ -8,9 +8,12 @@ use codes::{close_number, refusal_number};
 use connection::answer::{Refusal, StartResult};
 use connection::event::Close;
 use connection::sizes::{QUERY, STORE};
-use libc::{STDERR_FILENO, STDIN_FILENO, STDOUT_FILENO};
+use host::{
+    argument, argument_count, buffer, decimal, large_buffer, read_some, write_error, write_out,
+};
 use lifting::calls::{lift, lift_verdict, start_lift};
 use lifting::{Lift, LiftResult, Verdict};
+use std::io;
 
 // A number that no id is, for what is asked for without one.
 const NO_ID: u32 = 65536;
@@ -38,10 +41,10 @@ fn id_of(text: &[u8]) -> u32 {
 }
 
 // The id that the program is asked for.
-fn asked_id() -> u32 {
-    let mut word = io::buffer();
-    let n = os::arg(1, &mut word);
-    if os::arg_count() != 2 {
+fn asked_id(rt: &HostRuntime) -> u32 {
+    let mut word = buffer();
+    let n = argument(rt, 1, &mut word);
+    if argument_count(rt) != 2 {
         return NO_ID;
     }
     if n == 0 {
@@ -89,7 +92,7 @@ fn place_on(place: usize, n: usize, end: usize) -> usize
 
 // Writes out what the buffer holds, and answers whether the copy is still whole: after a write that fails there are no
 // more.
-fn flush(out: &[u8], at: usize, whole: bool) -> bool {
+fn flush(rt: &HostRuntime, out: &[u8], at: usize, whole: bool) -> bool {
     let z: usize = 0;
     if !whole {
         return false;
@@ -97,13 +100,13 @@ fn flush(out: &[u8], at: usize, whole: bool) -> bool {
     if out.len() < at {
         return false;
     }
-    io::write_all(STDOUT_FILENO, &out[z..at])
+    write_out(rt, &out[z..at]).is_ok()
 }
 
 // A call that moves nothing may have had no room, so the buffer is written out.
-fn flush_after(m: Moves, out: &[u8], at: usize, whole: bool) -> bool {
+fn flush_after(rt: &HostRuntime, m: Moves, out: &[u8], at: usize, whole: bool) -> bool {
     if moves_nothing(m) {
-        return flush(out, at, whole);
+        return flush(rt, out, at, whole);
     }
     whole
 }
@@ -128,6 +131,7 @@ struct Run {
 // Goes through a piece, until a call that has all the room moves nothing. (The turns are counted down because nothing
 // here says that the calls come to an end; no run uses that many.)
 fn lift_piece(
+    rt: &HostRuntime,
     r: Run,
     store: &mut [u8],
     gathered: &mut [u8; QUERY],
@@ -158,7 +162,7 @@ fn lift_piece(
                 whole: whole,
             };
         }
-        whole = flush_after(m, out, at, whole);
+        whole = flush_after(rt, m, out, at, whole);
         at = next_place(m, at, room);
         from = place_on(from, m.used, end);
         turns -= 1;
@@ -177,88 +181,101 @@ struct ReadOn {
 }
 
 // Reads a piece of at most 64 KiB and goes through it. At the end of the input or after a close there is no more.
-fn read_on(r: Run, store: &mut [u8], gathered: &mut [u8; QUERY], out: &mut [u8]) -> ReadOn {
-    let mut piece = io::large_buffer();
-    let got = libc::read(STDIN_FILENO, &mut piece);
-    if got <= 0 {
-        return ReadOn {
+fn read_on(
+    rt: &HostRuntime,
+    r: Run,
+    store: &mut [u8],
+    gathered: &mut [u8; QUERY],
+    out: &mut [u8],
+) -> io::Result<ReadOn> {
+    let mut piece = large_buffer();
+    let n = read_some(rt, &mut piece)?;
+    if n == 0 {
+        return Ok(ReadOn {
             run: r,
             more: false,
-        };
+        });
     }
-    let n = io::count(got, &piece);
     let start: usize = 0;
-    let after = lift_piece(r, store, gathered, &piece[start..n], out);
+    let after = lift_piece(rt, r, store, gathered, &piece[start..n], out);
     let open = after.lift.conn.open;
-    ReadOn {
+    Ok(ReadOn {
         run: after,
         more: open,
-    }
+    })
 }
 
 // Reads to the end, in turns that are counted down.
-fn lift_all(r: Run, store: &mut [u8], gathered: &mut [u8; QUERY], out: &mut [u8]) -> Run {
+fn lift_all(
+    rt: &HostRuntime,
+    r: Run,
+    store: &mut [u8],
+    gathered: &mut [u8; QUERY],
+    out: &mut [u8],
+) -> io::Result<Run> {
     let mut run = r;
     let mut turns = u64::MAX;
     while turns > 0 {
-        let t = read_on(run, store, gathered, out);
+        let t = read_on(rt, run, store, gathered, out)?;
         run = t.run;
         if !t.more {
-            return run;
+            return Ok(run);
         }
         turns -= 1;
     }
-    run
+    Ok(run)
 }
 
-fn tell_close(cause: Close, at: u64) {
-    io::write_all(STDERR_FILENO, b"closed ");
-    io::print_decimal(STDERR_FILENO, close_number(cause) as u64);
-    io::write_all(STDERR_FILENO, b" at ");
-    io::print_decimal(STDERR_FILENO, at);
-    io::write_all(STDERR_FILENO, b"\n");
+// A number in decimal.
+fn tell_number(rt: &HostRuntime, n: u64) -> io::Result<()> {
+    let mut digits = [0u8; 20];
+    let k = decimal(n, &mut digits);
+    write_error(rt, &digits[..k])
+}
+
+fn tell_close(rt: &HostRuntime, cause: Close, at: u64) -> io::Result<()> {
+    write_error(rt, b"closed ")?;
+    tell_number(rt, close_number(cause) as u64)?;
+    write_error(rt, b" at ")?;
+    tell_number(rt, at)?;
+    write_error(rt, b"\n")
 }
 
 // What the capture is, in one line.
-fn tell(v: Verdict) {
+fn tell(rt: &HostRuntime, v: Verdict) -> io::Result<()> {
     match v {
-        Verdict::Clean => {
-            io::write_all(STDERR_FILENO, b"clean\n");
-        }
-        Verdict::Cut => {
-            io::write_all(STDERR_FILENO, b"cut\n");
-        }
-        Verdict::Closed { cause, at } => tell_close(cause, at),
+        Verdict::Clean => write_error(rt, b"clean\n"),
+        Verdict::Cut => write_error(rt, b"cut\n"),
+        Verdict::Closed { cause, at } => tell_close(rt, cause, at),
     }
 }
 
 // Why there is no lift: id 0 is refused by 3.
-fn tell_refused(why: Refusal) {
-    io::write_all(STDERR_FILENO, b"refused ");
-    io::print_decimal(STDERR_FILENO, refusal_number(why) as u64);
-    io::write_all(STDERR_FILENO, b"\n");
+fn tell_refused(rt: &HostRuntime, why: Refusal) -> io::Result<()> {
+    write_error(rt, b"refused ")?;
+    tell_number(rt, refusal_number(why) as u64)?;
+    write_error(rt, b"\n")
 }
 
-fn main() {
-    let id = asked_id();
+fn main(rt: HostRuntime) -> io::Result<()> {
+    let id = asked_id(&rt);
     if 65535 < id {
-        io::write_all(
-            STDERR_FILENO,
+        return write_error(
+            &rt,
             b"usage: lift ID < CAPTURE > COPY, the id from 1 to 65535\n",
         );
-        return;
     }
     let mut store = [0u8; STORE];
     let mut gathered = [0u8; QUERY];
-    let mut out = io::large_buffer();
+    let mut out = large_buffer();
     let s = start_lift(&mut store, &mut gathered, id as u16);
     let started = s.result;
     if let StartResult::Refused(why) = started {
-        tell_refused(why);
-        return;
+        return tell_refused(&rt, why);
     }
     let l = s.lift;
     let last = lift_all(
+        &rt,
         Run {
             lift: l,
             whole: true,
@@ -266,9 +283,9 @@ fn main() {
         &mut store,
         &mut gathered,
         &mut out,
-    );
+    )?;
     if !last.whole {
-        io::write_all(STDERR_FILENO, b"lift: the copy could not be written\n");
+        write_error(&rt, b"lift: the copy could not be written\n")?;
     }
-    tell(lift_verdict(last.lift));
+    tell(&rt, lift_verdict(last.lift))
 }

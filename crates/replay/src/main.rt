@@ -5,37 +5,45 @@ ghost use Rattle.std.specs.Prelude.{◌≡◌, ◌-◌, ◌≤◌};
 
 use event_text::{LONGEST, write_byte_line, write_line};
 use fastcgi::{Conn, Event, QUERY, STORE, StepResult, Stream, next_event, start};
-use libc::{STDIN_FILENO, STDOUT_FILENO};
+use host::{large_buffer, read_some, write_out};
+use std::io;
 
 // Writes out what the buffer holds, and answers where the next line goes: at its start.
-fn flush(out: &[u8], at: usize) -> usize {
+fn flush(rt: &HostRuntime, out: &[u8], at: usize) -> io::Result<usize> {
     let start: usize = 0;
     if at <= out.len() {
-        io::write_all(STDOUT_FILENO, &out[start..at]);
+        write_out(rt, &out[start..at])?;
     }
-    start
+    Ok(start)
 }
 
 // Where the next line goes, with room for it.
-fn with_room(out: &[u8], at: usize) -> usize {
+fn with_room(rt: &HostRuntime, out: &[u8], at: usize) -> io::Result<usize> {
     if at <= out.len() {
         if LONGEST <= out.len() - at {
-            return at;
+            return Ok(at);
         }
     }
-    flush(out, at)
+    flush(rt, out, at)
 }
 
 // A line for each byte.
-fn show_bytes(out: &mut [u8], at: usize, id: u16, stream: Stream, bytes: &[u8]) -> usize {
+fn show_bytes(
+    rt: &HostRuntime,
+    out: &mut [u8],
+    at: usize,
+    id: u16,
+    stream: Stream,
+    bytes: &[u8],
+) -> io::Result<usize> {
     let mut place = at;
     let mut i: usize = 0;
     while i < bytes.len() {
-        let room = with_room(out, place);
+        let room = with_room(rt, out, place)?;
         place = write_byte_line(out, room, id, stream, bytes[i]);
         i += 1;
     }
-    place
+    Ok(place)
 }
 
 // Where the last n of so many bytes begin.
@@ -49,14 +57,14 @@ fn last_from(bytes: usize, n: usize) -> usize
 }
 
 // The lines of an event; of data the bytes are the last of those used.
-fn show(out: &mut [u8], at: usize, e: Event, used: &[u8]) -> usize {
+fn show(rt: &HostRuntime, out: &mut [u8], at: usize, e: Event, used: &[u8]) -> io::Result<usize> {
     if let Event::Data { id, stream, count } = e {
         let first = last_from(used.len(), count);
         let end = used.len();
-        return show_bytes(out, at, id, stream, &used[first..end]);
+        return show_bytes(rt, out, at, id, stream, &used[first..end]);
     }
-    let room = with_room(out, at);
-    write_line(out, room, e)
+    let room = with_room(rt, out, at)?;
+    Ok(write_line(out, room, e))
 }
 
 // A connection, and the place of the next line.
@@ -68,12 +76,13 @@ struct Replay {
 
 // Goes through a piece from event to event, to its end or to a close.
 fn replay_piece(
+    rt: &HostRuntime,
     r: Replay,
     store: &mut [u8],
     gathered: &mut [u8; QUERY],
     piece: &[u8],
     out: &mut [u8],
-) -> Replay {
+) -> io::Result<Replay> {
     let mut conn = r.conn;
     let mut at = r.at;
     let mut from: usize = 0;
@@ -84,33 +93,31 @@ fn replay_piece(
         let told = s.result;
         conn = s.conn;
         if used == 0 {
-            return Replay { conn: conn, at: at };
+            return Ok(Replay { conn: conn, at: at });
         }
         if piece.len() - from < used {
-            return Replay { conn: conn, at: at };
+            return Ok(Replay { conn: conn, at: at });
         }
         let next = from + used;
         if let StepResult::Event(e) = told {
-            at = show(out, at, e, &piece[from..next]);
+            at = show(rt, out, at, e, &piece[from..next])?;
         }
         from = next;
     }
-    Replay { conn: conn, at: at }
+    Ok(Replay { conn: conn, at: at })
 }
 
 // How it stops: closed, cut inside a record, or open between two.
-fn stop(c: Conn) {
+fn stop(rt: &HostRuntime, c: Conn) -> io::Result<()> {
     let f = c.frame;
     let p = f.position;
     if !c.open {
-        io::write_all(STDOUT_FILENO, b"stop closed\n");
-        return;
+        return write_out(rt, b"stop closed\n");
     }
     if p.held == 0 && p.content == 0 && p.padding == 0 {
-        io::write_all(STDOUT_FILENO, b"stop open\n");
-        return;
+        return write_out(rt, b"stop open\n");
     }
-    io::write_all(STDOUT_FILENO, b"stop cut\n");
+    write_out(rt, b"stop cut\n")
 }
 
 // A replay, and whether there may be more to read.
@@ -121,54 +128,66 @@ struct ReadOn {
 }
 
 // Reads a piece of at most 64 KiB and steps through it. At the end of the input or after a close there is no more.
-fn read_on(r: Replay, store: &mut [u8], gathered: &mut [u8; QUERY], out: &mut [u8]) -> ReadOn {
-    let mut piece = io::large_buffer();
-    let got = libc::read(STDIN_FILENO, &mut piece);
-    if got <= 0 {
-        return ReadOn {
+fn read_on(
+    rt: &HostRuntime,
+    r: Replay,
+    store: &mut [u8],
+    gathered: &mut [u8; QUERY],
+    out: &mut [u8],
+) -> io::Result<ReadOn> {
+    let mut piece = large_buffer();
+    let n = read_some(rt, &mut piece)?;
+    if n == 0 {
+        return Ok(ReadOn {
             replay: r,
             more: false,
-        };
+        });
     }
-    let n = io::count(got, &piece);
     let start: usize = 0;
-    let after = replay_piece(r, store, gathered, &piece[start..n], out);
+    let after = replay_piece(rt, r, store, gathered, &piece[start..n], out)?;
     let c = after.conn;
-    ReadOn {
+    Ok(ReadOn {
         replay: after,
         more: c.open,
-    }
+    })
 }
 
 // Reads to the end. A proved loop has to end, and nothing says that the input does: so it counts its turns down, from
 // a number that no run uses up.
-fn replay_all(r: Replay, store: &mut [u8], gathered: &mut [u8; QUERY], out: &mut [u8]) -> Replay {
+fn replay_all(
+    rt: &HostRuntime,
+    r: Replay,
+    store: &mut [u8],
+    gathered: &mut [u8; QUERY],
+    out: &mut [u8],
+) -> io::Result<Replay> {
     let mut replay = r;
     let mut turns = u64::MAX;
     while turns > 0 {
-        let t = read_on(replay, store, gathered, out);
+        let t = read_on(rt, replay, store, gathered, out)?;
         replay = t.replay;
         if !t.more {
-            return replay;
+            return Ok(replay);
         }
         turns -= 1;
     }
-    replay
+    Ok(replay)
 }
 
-fn main() {
+fn main(rt: HostRuntime) -> io::Result<()> {
     let mut store = [0u8; STORE];
     let mut gathered = [0u8; QUERY];
-    let mut out = io::large_buffer();
+    let mut out = large_buffer();
     let s = start(&mut store, &mut gathered);
     let c = s.conn;
     let end = replay_all(
+        &rt,
         Replay { conn: c, at: 0 },
         &mut store,
         &mut gathered,
         &mut out,
-    );
-    flush(&out, end.at);
+    )?;
+    flush(&rt, &out, end.at)?;
     let last = end.conn;
-    stop(last);
+    stop(&rt, last)
 }

@@ -5,6 +5,7 @@ use codes::role_number;
 use connection::request::{Life, Request, RequestState, Turn};
 use connection::sizes::SLOTS;
 use connection::state::Table;
+use host::hex;
 use record_reader::Position;
 use slot_table::request_at;
 
@@ -19,7 +20,7 @@ fn put_digits(out: &mut [u8], at: usize, digits: &[u8; 16]) -> usize {
 // A number in hex, of as many digits whatever it is.
 pub fn put_count(out: &mut [u8], at: usize, n: usize) -> usize {
     let mut digits = [0u8; 16];
-    io::hex(n as u64, 16, &mut digits);
+    hex(n as u64, 16, &mut digits);
     put_digits(out, at, &digits)
 }
 

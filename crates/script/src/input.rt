@@ -1,7 +1,8 @@
 // Lines of standard input.
 ghost use Rattle.std.specs.Prelude.{◌≤◌, length};
 
-use libc::STDIN_FILENO;
+use host::read_some;
+use std::io;
 use wire::{copy_into, least};
 
 // The most characters of a line.
@@ -74,14 +75,18 @@ fn cut(text: &[u8], from: usize, line: &mut [u8], held: usize) -> Input {
 }
 
 // Reads on: how many bytes came, 0 at the end.
-fn read_piece(piece: &mut [u8]) -> usize {
-    let got = libc::read(STDIN_FILENO, piece);
-    io::count(got, piece)
+fn read_piece(rt: &HostRuntime, piece: &mut [u8]) -> io::Result<usize> {
+    read_some(rt, piece)
 }
 
 // The next line, without its newline; the last may lack it. A proved loop has to end, and nothing says that the input
 // does: so it counts its turns down, from a number that no run uses up.
-pub fn next_line(i: Input, piece: &mut [u8], line: &mut [u8]) -> Input {
+pub fn next_line(
+    rt: &HostRuntime,
+    i: Input,
+    piece: &mut [u8],
+    line: &mut [u8],
+) -> io::Result<Input> {
     let z: usize = 0;
     let mut from = i.from;
     let mut to = i.to;
@@ -91,20 +96,20 @@ pub fn next_line(i: Input, piece: &mut [u8], line: &mut [u8]) -> Input {
         let e = least(to, piece.len());
         let c = cut(&piece[z..e], from, line, held);
         if c.more {
-            return c;
+            return Ok(c);
         }
         held = c.held;
         from = z;
-        to = read_piece(piece);
+        to = read_piece(rt, piece)?;
         if to == 0 {
-            return Input {
+            return Ok(Input {
                 from: z,
                 to: z,
                 held: held,
                 more: 0 < held,
-            };
+            });
         }
         turns -= 1;
     }
-    i
+    Ok(i)
 }

@@ -15,9 +15,10 @@ use fastcgi_queue::{
     Conn, Event, QUERY, QUEUE, STORE, StepResult, Stepped, WAITS, Wrote, next_event, owed_reply,
     start,
 };
-use libc::STDIN_FILENO;
+use host::{large_buffer, read_some};
 use station_kept::{KEPT, past, rest};
 use station_work::{CHAINS, POOL, free_all, hear};
+use std::io;
 use turn::{OUT, Turned, go_round, send};
 
 // The connection after an event, and where the piece goes on.
@@ -28,15 +29,17 @@ struct Heard {
 }
 
 // Sends the reply that an event owes, if it owes one.
-fn send_owed(e: Event, out: &mut [u8]) {
+fn send_owed(rt: &HostRuntime, e: Event, out: &mut [u8]) -> io::Result<()> {
     let owed = owed_reply(e, out);
     if let Wrote::Bytes(n) = owed {
-        send(out, n);
+        return send(rt, out, n);
     }
+    Ok(())
 }
 
 // What the station does at what a step tells.
 fn react(
+    rt: &HostRuntime,
     told: StepResult,
     kept: &mut [usize; KEPT],
     chains: &mut [usize; CHAINS],
@@ -44,15 +47,17 @@ fn react(
     piece: &[u8],
     upto: usize,
     out: &mut [u8],
-) {
+) -> io::Result<()> {
     if let StepResult::Event(e) = told {
-        send_owed(e, out);
+        send_owed(rt, e, out)?;
         hear(kept, chains, pool, e, piece, upto);
     }
+    Ok(())
 }
 
 // After a step from a place of the piece on.
 fn after_step(
+    rt: &HostRuntime,
     s: Stepped,
     kept: &mut [usize; KEPT],
     chains: &mut [usize; CHAINS],
@@ -60,19 +65,20 @@ fn after_step(
     piece: &[u8],
     from: usize,
     out: &mut [u8],
-) -> Heard {
+) -> io::Result<Heard> {
     let upto = past(from, s.used, piece.len());
     let told = s.result;
-    react(told, kept, chains, pool, piece, upto, out);
+    react(rt, told, kept, chains, pool, piece, upto, out)?;
     let conn = s.conn;
-    Heard {
+    Ok(Heard {
         conn: conn,
         from: upto,
-    }
+    })
 }
 
 // Goes through a piece from event to event, to its end or to a close. There are no more events than bytes.
 fn hear_piece(
+    rt: &HostRuntime,
     c: Conn,
     store: &mut [u8],
     gathered: &mut [u8; QUERY],
@@ -82,23 +88,24 @@ fn hear_piece(
     pool: &mut [u8; POOL],
     piece: &[u8],
     out: &mut [u8],
-) -> Conn {
+) -> io::Result<Conn> {
     let mut heard = Heard { conn: c, from: 0 };
     let mut turns = piece.len();
     while turns > 0 {
         turns -= 1;
         if piece.len() <= heard.from {
-            return heard.conn;
+            return Ok(heard.conn);
         }
         heard = hear_next(
-            heard, store, gathered, waits, kept, chains, pool, piece, out,
-        );
+            rt, heard, store, gathered, waits, kept, chains, pool, piece, out,
+        )?;
     }
-    heard.conn
+    Ok(heard.conn)
 }
 
 // Reads on to the next event.
 fn hear_next(
+    rt: &HostRuntime,
     h: Heard,
     store: &mut [u8],
     gathered: &mut [u8; QUERY],
@@ -108,8 +115,9 @@ fn hear_next(
     pool: &mut [u8; POOL],
     piece: &[u8],
     out: &mut [u8],
-) -> Heard {
+) -> io::Result<Heard> {
     after_step(
+        rt,
         next_event(h.conn, store, gathered, waits, rest(piece, h.from)),
         kept,
         chains,
@@ -130,6 +138,7 @@ fn while_open(c: Conn) -> Turned {
 
 // Hears a piece, and answers what it made ready.
 fn serve_piece(
+    rt: &HostRuntime,
     c: Conn,
     store: &mut [u8],
     gathered: &mut [u8; QUERY],
@@ -141,13 +150,19 @@ fn serve_piece(
     pool: &mut [u8; POOL],
     piece: &[u8],
     out: &mut [u8],
-) -> Turned {
-    let heard = hear_piece(c, store, gathered, waits, kept, chains, pool, piece, out);
-    while_open(go_round(heard, store, waits, marks, queue, kept, chains, pool, out))
+) -> io::Result<Turned> {
+    let heard = hear_piece(
+        rt, c, store, gathered, waits, kept, chains, pool, piece, out,
+    )?;
+    let conn = go_round(
+        rt, heard, store, waits, marks, queue, kept, chains, pool, out,
+    )?;
+    Ok(while_open(conn))
 }
 
 // Reads a piece and answers it; there is no more where the input is over.
 fn serve_next(
+    rt: &HostRuntime,
     c: Conn,
     store: &mut [u8],
     gathered: &mut [u8; QUERY],
@@ -158,18 +173,18 @@ fn serve_next(
     chains: &mut [usize; CHAINS],
     pool: &mut [u8; POOL],
     out: &mut [u8],
-) -> Turned {
-    let mut piece = io::large_buffer();
-    let got = libc::read(STDIN_FILENO, &mut piece);
-    if got <= 0 {
-        return Turned {
+) -> io::Result<Turned> {
+    let mut piece = large_buffer();
+    let n = read_some(rt, &mut piece)?;
+    if n == 0 {
+        return Ok(Turned {
             conn: c,
             more: false,
-        };
+        });
     }
-    let n = io::count(got, &piece);
     let start: usize = 0;
     serve_piece(
+        rt,
         c,
         store,
         gathered,
@@ -186,6 +201,7 @@ fn serve_next(
 
 // To the end of the input, or until the connection is closed. It counts its turns down as go_round does.
 fn serve(
+    rt: &HostRuntime,
     c: Conn,
     store: &mut [u8],
     gathered: &mut [u8; QUERY],
@@ -196,7 +212,7 @@ fn serve(
     chains: &mut [usize; CHAINS],
     pool: &mut [u8; POOL],
     out: &mut [u8],
-) -> Conn {
+) -> io::Result<Conn> {
     let mut turned = Turned {
         conn: c,
         more: true,
@@ -205,9 +221,10 @@ fn serve(
     while turns > 0 {
         turns -= 1;
         if !turned.more {
-            return turned.conn;
+            return Ok(turned.conn);
         }
         turned = serve_next(
+            rt,
             turned.conn,
             store,
             gathered,
@@ -218,12 +235,12 @@ fn serve(
             chains,
             pool,
             out,
-        );
+        )?;
     }
-    turned.conn
+    Ok(turned.conn)
 }
 
-fn main() {
+fn main(rt: HostRuntime) -> io::Result<()> {
     let mut store = [0u8; STORE];
     let mut gathered = [0u8; QUERY];
     let mut waits = [0u16; WAITS];
@@ -237,6 +254,7 @@ fn main() {
     let s = start(&mut store, &mut gathered, &mut waits);
     let c = s.conn;
     serve(
+        &rt,
         c,
         &mut store,
         &mut gathered,
@@ -247,5 +265,6 @@ fn main() {
         &mut chains,
         &mut pool,
         &mut out,
-    );
+    )?;
+    Ok(())
 }

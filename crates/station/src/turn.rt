@@ -1,9 +1,10 @@
 // Rounds: every request is let say what there is room for, and a turn of the pump writes a record of each.
 use crate::answer::say_all;
 use fastcgi_queue::{Conn, PUMPED, PumpResult, Pumped, QUEUE, SLOTS, WAITS, pump};
-use libc::STDOUT_FILENO;
+use host::write_out;
 use station_kept::KEPT;
 use station_work::{CHAINS, POOL};
+use std::io;
 
 // The buffer for a turn.
 pub const OUT: usize = SLOTS * PUMPED;
@@ -16,19 +17,20 @@ pub struct Turned {
 }
 
 // Sends the first n bytes.
-pub fn send(out: &[u8], n: usize) {
+pub fn send(rt: &HostRuntime, out: &[u8], n: usize) -> io::Result<()> {
     let start: usize = 0;
     if n <= out.len() {
-        io::write_all(STDOUT_FILENO, &out[start..n]);
+        return write_out(rt, &out[start..n]);
     }
+    Ok(())
 }
 
 // Sends what a turn wrote; a refused one wrote nothing.
-fn send_turn(out: &[u8], res: PumpResult) {
+fn send_turn(rt: &HostRuntime, out: &[u8], res: PumpResult) -> io::Result<()> {
     match res {
-        PumpResult::Open { records: _, bytes } => send(out, bytes),
-        PumpResult::Closed { records: _, bytes } => send(out, bytes),
-        PumpResult::Refused(_) => {}
+        PumpResult::Open { records: _, bytes } => send(rt, out, bytes),
+        PumpResult::Closed { records: _, bytes } => send(rt, out, bytes),
+        PumpResult::Refused(_) => Ok(()),
     }
 }
 
@@ -45,18 +47,19 @@ fn goes_on(res: PumpResult) -> bool {
 }
 
 // After a turn of the pump: what it wrote is sent.
-fn after_turn(p: Pumped, out: &[u8]) -> Turned {
+fn after_turn(rt: &HostRuntime, p: Pumped, out: &[u8]) -> io::Result<Turned> {
     let result = p.result;
-    send_turn(out, result);
+    send_turn(rt, out, result)?;
     let conn = p.conn;
-    Turned {
+    Ok(Turned {
         conn: conn,
         more: goes_on(result),
-    }
+    })
 }
 
 // One round: to every request as much is said as there is room for, and then the pump has a turn.
 fn round(
+    rt: &HostRuntime,
     c: Conn,
     store: &mut [u8],
     waits: &mut [u16; WAITS],
@@ -66,14 +69,15 @@ fn round(
     chains: &mut [usize; CHAINS],
     pool: &[u8; POOL],
     out: &mut [u8],
-) -> Turned {
+) -> io::Result<Turned> {
     let said = say_all(c, waits, marks, queue, store, kept, chains, pool);
-    after_turn(pump(said, store, waits, marks, queue, SLOTS, out), out)
+    after_turn(rt, pump(said, store, waits, marks, queue, SLOTS, out), out)
 }
 
 // Goes round until nothing is left to say and nothing waits, or the connection is closed. A proved loop has to end, and
 // how long the answers are is for the requests to say: so it counts its turns down, from a number that no run uses up.
 pub fn go_round(
+    rt: &HostRuntime,
     c: Conn,
     store: &mut [u8],
     waits: &mut [u16; WAITS],
@@ -83,7 +87,7 @@ pub fn go_round(
     chains: &mut [usize; CHAINS],
     pool: &[u8; POOL],
     out: &mut [u8],
-) -> Conn {
+) -> io::Result<Conn> {
     let mut turned = Turned {
         conn: c,
         more: true,
@@ -92,9 +96,10 @@ pub fn go_round(
     while turns > 0 {
         turns -= 1;
         if !turned.more {
-            return turned.conn;
+            return Ok(turned.conn);
         }
         turned = round(
+            rt,
             turned.conn,
             store,
             waits,
@@ -104,7 +109,7 @@ pub fn go_round(
             chains,
             pool,
             out,
-        );
+        )?;
     }
-    turned.conn
+    Ok(turned.conn)
 }
