@@ -5,7 +5,6 @@ use Rattle.call_admit.specs.Admission.{admitted_by}
 use Rattle.call_list.specs.Listing.{listing}
 use Rattle.call_list.proofs.Laws.{Through, admitted_at, refused_at}
 use Rattle.codes.proofs.Laws.{refusal_some}
-use borrow.Author.Rules.{rules}
 use Rattle.call_list.proofs.list_at.Goals as goal
 
 pub offset_bounds-t-i : goal.offset_bounds-t-i

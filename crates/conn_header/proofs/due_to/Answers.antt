@@ -1,3 +1,4 @@
+use borrow.Author.Rules.{rules}
 use Rattle.conn_header.proofs.due_to.Goals as goal
 
 pub returns-in-Params : goal.returns-in-Params

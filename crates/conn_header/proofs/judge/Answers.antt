@@ -13,41 +13,41 @@ use Rattle.conn_header.proofs.judge.Goals as goal
 
 pub returns-then-h-ne-VERSION : goal.returns-then-h-ne-VERSION
 unfolding judged
-returns-then-h-ne-VERSION c = λ fr g. c.closing.ensures c.args.ids fr g c.args.store.now ∙ simp (ne_eqb _ _ c.if-h-ne-VERSION.true)
+returns-then-h-ne-VERSION c = λ fr g. c.closing.ensures c.args.t fr g c.args.store.now ∙ simp (ne_eqb _ _ c.if-h-ne-VERSION.true)
 
 pub returns-then-h-eq0 : goal.returns-then-h-eq0
 unfolding judged
-returns-then-h-eq0 c = λ fr g. c.on_management.ensures c.args.ids fr g c.args.store.now ∙ simp (eq-eqb _ _ c.if-h-eq0.true, eq-eqb _ _ c.if-h-ne-VERSION.false)
+returns-then-h-eq0 c = λ fr g. c.on_management.ensures c.args.t fr g c.args.store.now ∙ simp (eq-eqb _ _ c.if-h-eq0.true, eq-eqb _ _ c.if-h-ne-VERSION.false)
 
 pub returns-in_default : goal.returns-in_default
 unfolding judged
 returns-in_default c =
     λ fr g.
-    c.on_inactive.ensures c.args.ids fr g c.args.store.now
+    c.on_inactive.ensures c.args.t fr g c.args.store.now
     ∙ simp (ne_eqb _ _ c.if-h-eq0.false, eq-eqb _ _ c.if-h-ne-VERSION.false, ← c.find_from-slot.ensures, c.in_default.is)
 
 pub overflow_mul-a : goal.overflow_mul-a
 overflow_mul-a c =
     let low : c.in-At.i < SLOTS =
-        (find_at c.args.ids c.args.h.id c.in-At.i (sym c.find_from-slot.ensures ∙ c.in-At.is)).low in
+        (find_at c.args.t c.args.h.id c.in-At.i (sym c.find_from-slot.ensures ∙ c.in-At.is)).low in
     omega (arith, low)
 
 pub overflow_add-e : goal.overflow_add-e
 overflow_add-e c =
     let low : c.in-At.i < SLOTS =
-        (find_at c.args.ids c.args.h.id c.in-At.i (sym c.find_from-slot.ensures ∙ c.in-At.is)).low in
+        (find_at c.args.t c.args.h.id c.in-At.i (sym c.find_from-slot.ensures ∙ c.in-At.is)).low in
     omega (arith, low)
 
 pub slice_bounds-on_active-end : goal.slice_bounds-on_active-end
 slice_bounds-on_active-end c =
     let low : c.in-At.i < SLOTS =
-        (find_at c.args.ids c.args.h.id c.in-At.i (sym c.find_from-slot.ensures ∙ c.in-At.is)).low in
+        (find_at c.args.t c.args.h.id c.in-At.i (sym c.find_from-slot.ensures ∙ c.in-At.is)).low in
     omega (arith, low)
 
 pub on_active-requires : goal.on_active-requires
 on_active-requires c =
     let low : c.in-At.i < SLOTS =
-        (find_at c.args.ids c.args.h.id c.in-At.i (sym c.find_from-slot.ensures ∙ c.in-At.is)).low in
+        (find_at c.args.t c.args.h.id c.in-At.i (sym c.find_from-slot.ensures ∙ c.in-At.is)).low in
     low
 
 pub returns : goal.returns
@@ -56,7 +56,7 @@ returns c =
     λ fr g.
     let i = c.in-At.i in
     let s = c.args.store.now in
-    let t = c.args.ids in
+    let t = c.args.t in
     ap (applied c.on_active.result t g) (part_back s i c.on_active.new.area)
     ∙ c.on_active.ensures t fr g s (sym c.request_at-r.ensures) (part_lent s i)
     ∙ simp (ne_eqb _ _ c.if-h-eq0.false, eq-eqb _ _ c.if-h-ne-VERSION.false, ← c.find_from-slot.ensures, c.in-At.is)
