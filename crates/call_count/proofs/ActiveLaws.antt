@@ -1,5 +1,5 @@
 -- The active number: how many distinct ids are active.
-use Rattle.std.specs.Prelude.{◌≡◌, refl, ℕ, zero, suc, ◌+◌, ◌/◌, ◌^◌, true, ◌↔◌, length, get_or, eqb}
+use Rattle.std.specs.Prelude.{◌≡◌, refl, ℕ, zero, suc, ◌+◌, ◌/◌, ◌^◌, true, ◌↔◌, length, get_or, eqb, if◌then◌else◌}
 use Rattle.std.proofs.Common.{sym, ap, ◌∙◌, ⊎_elim, arith, pow-suc, div-one, eqb-true}
 use mathlib.Core.List.Memᴰ
 use mathlib.Core.List.{List, [], ◌∷◌, Memᴰ, Nodup, Nodup-nil, Nodup-cons}
@@ -7,7 +7,7 @@ use Rattle.std.proofs.Math.Logic.{∥∥₁_elim}
 use mathlib.Core.HLevel.{⊥_prop}
 use Rattle.std.proofs.Math.Nat.{div-div-eq-div-mul}
 use Rattle.std.proofs.lemmas.Bool.{eqb-false}
-use Rattle.wire.specs.Test.{if◌then◌else◌, byTest}
+use Rattle.wire.specs.Test.{by_test}
 use Rattle.slot_word.specs.Word.{taken, taken_count}
 use Rattle.slot_word.proofs.WordLaws.{taken_is}
 use Rattle.connection.specs.declared.state.Table.{Table}
@@ -37,7 +37,7 @@ count_from (suc n) ids occupied i =
     let next : suc i ≡ i + 1 = omega arith in
     let half : occupied / 2 ^ i / 2 ≡ occupied / 2 ^ (i + 1) = div-div-eq-div-mul occupied (2 ^ i) 2 ∙ ap (λ (m : ℕ). occupied / m) (sym (pow-suc 2 i) ∙ ap (λ (m : ℕ). 2 ^ m) next) in
     let ih : taken_count n (occupied / 2 ^ (i + 1)) ≡ length (active_from n ids occupied (i + 1)) = count_from n ids occupied (i + 1) in
-    rw (half, ih, ← taken_is i occupied) (byTest (taken i occupied) (λ t. simp t (omega arith)) (λ t. simp t (omega arith)))
+    rw (half, ih, ← taken_is i occupied) (by_test (taken i occupied) (λ t. simp t (omega arith)) (λ t. simp t (omega arith)))
 
 -- a slot after the first one is among them all
 wider : (n : ℕ) (ids : List ℕ) (occupied id i k : ℕ) → HoldsFrom n ids occupied id (i + 1) k → HoldsFrom (suc n) ids occupied id i k
@@ -48,7 +48,7 @@ mem_holds : (n : ℕ) (ids : List ℕ) (occupied id i : ℕ) → Memᴰ id (acti
 unfolding active_from
 mem_holds zero ids occupied id i m = absurd (Memᴰ.not-nil m)
 mem_holds (suc n) ids occupied id i m =
-    byTest (taken i occupied)
+    by_test (taken i occupied)
     (λ t. ⊎_elim (first t) (λ r. behind (mem_holds n ids occupied id (i + 1) r)) (Memᴰ.cases_cons (simp t at m)))
     (λ t. behind (mem_holds n ids occupied id (i + 1) (simp t at m)))
   where
@@ -63,7 +63,7 @@ holds_mem : (n : ℕ) (ids : List ℕ) (occupied id i k : ℕ) → HoldsFrom n i
 unfolding active_from
 holds_mem zero ids occupied id i k h = absurd (omega arith)
 holds_mem (suc n) ids occupied id i k h =
-    byTest (eqb i k)
+    by_test (eqb i k)
     (λ q.
     let e : i ≡ k = eqb-true i k q in
     let t : taken i occupied ≡ true = rw e h.slot_taken in
@@ -72,7 +72,7 @@ holds_mem (suc n) ids occupied id i k h =
     (λ q.
     let e = eqb-false i k q in
     let r = holds_mem n ids occupied id (i + 1) k (record { low = omega arith; high = omega arith; slot_taken = h.slot_taken; has_id = h.has_id }) in
-    byTest (taken i occupied) (λ t. simp t (Memᴰ.tail r)) (λ t. simp t r))
+    by_test (taken i occupied) (λ t. simp t (Memᴰ.tail r)) (λ t. simp t r))
 
 -- where no two slots have the same id, the list has no id twice
 nodup_from : (n : ℕ) (ids : List ℕ) (occupied i : ℕ)
@@ -82,7 +82,7 @@ unfolding active_from
 nodup_from zero ids occupied i distinct = Nodup-nil
 nodup_from (suc n) ids occupied i distinct =
     let rest = nodup_from n ids occupied (i + 1) (λ id k l h g. distinct id k l (wider n ids occupied id i k h) (wider n ids occupied id i l g)) in
-    byTest (taken i occupied) (λ t. simp t (Nodup-cons.1 (λ m. ∥∥₁_elim m ⊥_prop (alone t), rest))) (λ t. simp t rest)
+    by_test (taken i occupied) (λ t. simp t (Nodup-cons.1 (λ m. ∥∥₁_elim m ⊥_prop (alone t), rest))) (λ t. simp t rest)
   where
     alone : taken i occupied ≡ true → Memᴰ (get_or ids i 0) (active_from n ids occupied (i + 1)) → ⊥
     alone t m =
@@ -109,7 +109,7 @@ ids_found t id = (there, back)
     there : Memᴰ id (active_ids t) → is_found (find t id) ≡ true
     there m =
         let r = mem_holds SLOTS t.ids t.occupied id 0 m in
-        byTest (is_found (find t id)) (λ e. e) (λ e. absurd (none_from SLOTS t.ids t.occupied id 0 r.0 (found_false (find t id) e) r.1))
+        by_test (is_found (find t id)) (λ e. e) (λ e. absurd (none_from SLOTS t.ids t.occupied id 0 r.0 (found_false (find t id) e) r.1))
 
     back : is_found (find t id) ≡ true → Memᴰ id (active_ids t)
     back e =
@@ -121,7 +121,7 @@ ids_found t id = (there, back)
 pub count_given : (c : Conn) → (active_count c).refusal ≡ 0 → (active_count c).count ≡ length (active_ids c.table)
 unfolding active_count
 count_given c e =
-    byTest (eqb (count_refusal c) 0)
+    by_test (eqb (count_refusal c) 0)
     (λ q. simp q (count_ids c.table))
     (λ q. absurd (eqb-false (count_refusal c) 0 q (simp q at e)))
 

@@ -1,9 +1,9 @@
 -- What finish writes reads back as what was owed.
-use Rattle.std.specs.Prelude.{ℕ, ◌+◌, ◌<◌, refl, Bool, true, false, not, List, [], ◌∷◌, ◌++◌, length, take, drop, ltb}
+use Rattle.std.specs.Prelude.{ℕ, ◌+◌, ◌<◌, refl, Bool, true, false, not, List, [], ◌∷◌, ◌++◌, length, take, drop, ltb, if◌then◌else◌}
 use Rattle.std.proofs.Math.Path.{◌≡◌}
 use Rattle.std.proofs.Common.{sym, ap, ◌∙◌, append-nil, arith, take_at, eqb-true}
 use Rattle.std.proofs.lemmas.Bool.{eqb-false}
-use Rattle.wire.specs.Test.{if◌then◌else◌, ◌=?◌, byTest}
+use Rattle.wire.specs.Test.{◌=?◌, by_test}
 use Rattle.wire.specs.Buffer.{put_at}
 use Rattle.record.specs.Names.{STDOUT, STDERR, END_REQUEST, REQUEST_COMPLETE}
 use Rattle.record.specs.Body.{end_body_of, end_body_bytes}
@@ -13,7 +13,7 @@ use Rattle.connection.specs.declared.request.Request.{Request}
 use Rattle.connection.specs.declared.state.Slot.{Slot}
 use Rattle.connection.specs.declared.state.Conn.{Conn}
 use Rattle.connection.specs.Sizes.{SLOTS, STORE}
-use Rattle.connection.specs.Slots.{request_at, find, onSlot, is_found}
+use Rattle.connection.specs.Slots.{request_at, find, on_slot, is_found}
 use Rattle.connection.specs.Shape.{in_shape}
 use Rattle.connection.proofs.Laws.SlotsLaws.{Holds, find_at, found_true}
 use Rattle.connection.specs.RequestCalls.{owes_out, owes_err, finish_bytes, writes, finish_in}
@@ -71,7 +71,7 @@ unfolding lent_refusal request_at
 named_id c store id e =
     let f = found (length store =? STORE) (in_shape c) c.«open» (is_found (find c.table id)) e in
     let s = found_true (find c.table id) f in
-    let at : slot_of c id ≡ s.0 = ap (λ (x : Slot). onSlot x (λ i. i) SLOTS) s.1 in
+    let at : slot_of c id ≡ s.0 = ap (λ (x : Slot). on_slot x (λ i. i) SLOTS) s.1 in
     let h : Holds c.table id (slot_of c id) = rw at (find_at c.table id s.0 s.1) in
     h.has_id
 
@@ -88,11 +88,11 @@ module _ (c : Conn) (store : List ℕ) (id s : ℕ) (l : List ℕ) where
   pub did : (finish c store id s l).refusal ≡ 0 → Did
   unfolding finish finishes finish_in writes
   did e =
-      byTest (lent_refusal c store id =? 0)
+      by_test (lent_refusal c store id =? 0)
       (λ t. let own = named_id c store id (eqb-true (lent_refusal c store id) 0 t) in
-      byTest (ltb (length l) (length bytes))
+      by_test (ltb (length l) (length bytes))
       (λ u. let z : ◌≡◌ {A = ℕ} 6 0 = simp (t, u) at e in absurd (omega arith))
-      (λ u. byTest (request_of c id).state.keep
+      (λ u. by_test (request_of c id).state.keep
       (λ k. record { has_id = own; written = simp (t, u, k); buffer = simp (t, u, k) })
       (λ k. record { has_id = own; written = simp (t, u, k); buffer = simp (t, u, k) })))
       (λ t. absurd (eqb-false (lent_refusal c store id) 0 t (simp t at e)))

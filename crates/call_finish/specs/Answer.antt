@@ -1,6 +1,6 @@
 -- What finish answers, read in the rules' numbers and values.
-use Rattle.std.specs.Prelude.{ℕ, Bool, true, false, List, []}
-use Rattle.wire.specs.Test.{if◌then◌else◌, ◌=?◌}
+use Rattle.std.specs.Prelude.{ℕ, Bool, true, false, List, [], if◌then◌else◌}
+use Rattle.wire.specs.Test.{◌=?◌}
 use Rattle.record_writer.specs.Written.{record_bytes}
 use Rattle.connection.specs.declared.request.RequestState.{RequestState}
 use Rattle.connection.specs.declared.state.Target.{Target}

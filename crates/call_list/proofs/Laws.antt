@@ -1,9 +1,9 @@
 -- Where the list of a request that a call names lies, and each call that reads as a question to that part of the store.
-use Rattle.std.specs.Prelude.{ℕ, ◌+◌, ◌-◌, ◌*◌, ◌≤◌, ◌<◌, ◌≡◌, refl, true, false, List, [], length, drop}
+use Rattle.std.specs.Prelude.{ℕ, ◌+◌, ◌-◌, ◌*◌, ◌≤◌, ◌<◌, ◌≡◌, refl, true, false, List, [], length, drop, if◌then◌else◌}
 use Rattle.std.proofs.Common.{sym, subst, take-take, eqb-true, eq-eqb}
 use native.Mathlib.Omega.{arith}
 use Rattle.std.proofs.Math.ListN.{get_or}
-use Rattle.wire.specs.Test.{if◌then◌else◌, ◌=?◌, byTest}
+use Rattle.wire.specs.Test.{◌=?◌, by_test}
 use Rattle.pairs.specs.Pair.{value_of}
 use Rattle.pair_list.specs.List.{first_named, pair_number}
 use Rattle.pair_list.specs.declared.Found.{Found}
@@ -37,10 +37,10 @@ through : (c : Conn) (store : List ℕ) (id : ℕ) → (lent_refusal c store id 
 unfolding lent_refusal
 through c store id none =
     let e = eqb-true (lent_refusal c store id) 0 none in
-    byTest (length store =? STORE)
-    (λ t1. byTest (in_shape c)
-    (λ t2. byTest c.«open»
-    (λ t3. byTest (is_found (find c.table id))
+    by_test (length store =? STORE)
+    (λ t1. by_test (in_shape c)
+    (λ t2. by_test c.«open»
+    (λ t3. by_test (is_found (find c.table id))
     (λ t4. facts t1 t2 (found_true (find c.table id) t4))
     (λ t4. let z : ◌≡◌ {A = ℕ} 3 0 = simp (t1, t2, t3, t4) at e in absurd (omega arith)))
     (λ t3. let z : ◌≡◌ {A = ℕ} 1 0 = simp (t1, t2, t3) at e in absurd (omega arith)))
@@ -89,8 +89,8 @@ module _ (c : Conn) (store : List ℕ) (id : ℕ) where
       → P
   unfolding listing
   by_listing first fourth told =
-      byTest (lent_refusal c store id =? 0)
-      (λ t. byTest (Of.no_list (request_at c.table here)) (λ u. fourth t u (simp (t, u))) (λ u. told t u (simp (t, u))))
+      by_test (lent_refusal c store id =? 0)
+      (λ t. by_test (Of.no_list (request_at c.table here)) (λ u. fourth t u (simp (t, u))) (λ u. told t u (simp (t, u))))
       (λ t. first t (simp t))
 
   -- The list of a request that has one is the part of the store from its area's first byte on.
@@ -124,7 +124,7 @@ module _ (c : Conn) (store : List ℕ) (id : ℕ) where
 
   -- Value looks the name up in what is listed: in no bytes, where the call is refused.
   pub value_listed : (name fallback : List ℕ)
-      → value c store id name fallback ≡ Of.onFound (first_named (part_of store (listing c store id)) name) (value_of (part_of store (listing c store id))) fallback
+      → value c store id name fallback ≡ Of.on_found (first_named (part_of store (listing c store id)) name) (value_of (part_of store (listing c store id))) fallback
   unfolding value Of.value_in
   value_listed name fallback =
       by_listing
@@ -134,7 +134,7 @@ module _ (c : Conn) (store : List ℕ) (id : ℕ) where
 
   -- Its sister, and the pair by number, ask whether the call is refused.
   pub source_listed : (name : List ℕ) → source c store id name
-      ≡ (if (listing c store id).refusal =? 0 then Of.onFound (first_named (part_of store (listing c store id)) name) (λ p. Of.FromStore) Of.FromFallback
+      ≡ (if (listing c store id).refusal =? 0 then Of.on_found (first_named (part_of store (listing c store id)) name) (λ p. Of.FromStore) Of.FromFallback
       else Of.SourceRefused (listing c store id).refusal)
   unfolding source Of.source_in
   source_listed name =
@@ -144,7 +144,7 @@ module _ (c : Conn) (store : List ℕ) (id : ℕ) where
       (λ t u e. simp (t, u, e, list_part t))
 
   pub pair_listed : (k : ℕ) → pair_at_number c store id k
-      ≡ (if (listing c store id).refusal =? 0 then Of.onFound (pair_number (part_of store (listing c store id)) k) Of.PairIs (Of.PairRefused 7)
+      ≡ (if (listing c store id).refusal =? 0 then Of.on_found (pair_number (part_of store (listing c store id)) k) Of.PairIs (Of.PairRefused 7)
       else Of.PairRefused (listing c store id).refusal)
   unfolding pair_at_number Of.pair_in
   pair_listed k =

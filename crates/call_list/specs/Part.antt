@@ -6,7 +6,7 @@ use Rattle.std.specs.Borrow.{Bor}
 use Rattle.pair_list.specs.List.{first_named}
 use Rattle.pair_list.specs.declared.Found.{Found}
 use Rattle.connection.specs.declared.state.Conn.{Conn}
-use Rattle.connection.specs.RequestCalls.{onFound}
+use Rattle.connection.specs.RequestCalls.{on_found}
 use Rattle.call_list.specs.Listing.{part_of, listing}
 
 -- A slice that is the part of another from byte k on: the same block of memory, k bytes further on.
@@ -23,7 +23,7 @@ PartOrElse whole other r none = PartAt other r 0
 -- there is no such pair or the call is refused: then the answer is the fallback itself.
 unfoldable pub value_place : Conn → List ℕ → ℕ → List ℕ → Option ℕ
 value_place c store id name =
-    onFound (first_named (part_of store (listing c store id)) name) (λ p. some ((listing c store id).from + p.value)) none
+    on_found (first_named (part_of store (listing c store id)) name) (λ p. some ((listing c store id).from + p.value)) none
 
 -- a part of a part
 pub part_of_part : (whole part r : Bor (List ℕ)) (a k : ℕ) → PartAt whole part a → PartAt part r k → PartAt whole r (a + k)
@@ -31,6 +31,6 @@ part_of_part whole part r a k p q = record { block = q.block ∙ p.block; place 
 
 -- a value found in a part, counted in the whole
 pub part_found : (whole part other r : Bor (List ℕ)) (a : ℕ) (f : Found) → PartAt whole part a
-    → PartOrElse part other r (onFound f (λ p. some p.value) none) → PartOrElse whole other r (onFound f (λ p. some (a + p.value)) none)
+    → PartOrElse part other r (on_found f (λ p. some p.value) none) → PartOrElse whole other r (on_found f (λ p. some (a + p.value)) none)
 part_found whole part other r a (Found.At p) h q = part_of_part whole part r a p.value h q
 part_found whole part other r a Found.Nothing h q = q

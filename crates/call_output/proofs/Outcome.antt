@@ -1,11 +1,11 @@
 -- What say and the end of a stream come to, said once for both: refused they leave everything as it was, else the
 -- bytes are written and the request is put back.
-use Rattle.std.specs.Prelude.{ℕ, ◌+◌, ◌≤◌, ◌<◌, refl, Bool, true, false, not, List, [], take, drop, eqb}
+use Rattle.std.specs.Prelude.{ℕ, ◌+◌, ◌≤◌, ◌<◌, refl, Bool, true, false, not, List, [], take, drop, eqb, if◌then◌else◌}
 use Rattle.std.proofs.Math.Path.{◌≡◌, ap}
 use Rattle.std.proofs.Common.{sym, ◌∙◌, arith, zero-add, take_at, drop_at}
 use Rattle.std.proofs.Math.ListN.{length}
 use borrow.Author.Tests.{ltb-true, ltb-false, eqb-true, eqb-false}
-use Rattle.wire.specs.Test.{if◌then◌else◌, ◌=?◌, byTest}
+use Rattle.wire.specs.Test.{◌=?◌, by_test}
 use Rattle.wire.specs.Buffer.{put_at}
 use Rattle.wire.proofs.BufferLaws.{put_length, put_none}
 use Rattle.connection.specs.declared.request.Request.{Request}
@@ -13,7 +13,7 @@ use Rattle.connection.specs.declared.state.Slot.{Slot}
 use Rattle.connection.specs.declared.state.Conn.{Conn}
 use Rattle.connection.specs.declared.answer.Output.{Output}
 use Rattle.connection.specs.Sizes.{SLOTS}
-use Rattle.connection.specs.Slots.{request_at, find, onSlot, is_found}
+use Rattle.connection.specs.Slots.{request_at, find, on_slot, is_found}
 use Rattle.connection.proofs.Laws.SlotsLaws.{Holds, put_same, find_at, found_true}
 use Rattle.connection.specs.Shape.{in_shape}
 use Rattle.connection.specs.RequestCalls.{no_output, is_ended, output_refusal, say_bytes, end_bytes, said_on, ended_on, writes, say_in, end_in}
@@ -75,7 +75,7 @@ unfolding call_refusal
 named c id e =
     let f = rows (in_shape c) c.«open» (is_found (find c.table id)) e in
     let s = found_true (find c.table id) f.2 in
-    let at : slot_of c id ≡ s.0 = ap (λ (x : Slot). onSlot x (λ i. i) SLOTS) s.1 in
+    let at : slot_of c id ≡ s.0 = ap (λ (x : Slot). on_slot x (λ i. i) SLOTS) s.1 in
     record { shape = f.0; is_open = f.1; holds = rw at (find_at c.table id s.0 s.1) }
 
 -- Its request has that id.
@@ -106,8 +106,8 @@ module _ (c : Conn) (id : ℕ) (output : Output) (bytes : Request → List ℕ) 
   pub did : outcome.refusal ≡ 0 → Did
   unfolding output_call writes
   did e =
-      byTest (eqb (call_refusal c id) 0)
-      (λ t. byTest (eqb own 0)
+      by_test (eqb (call_refusal c id) 0)
+      (λ t. by_test (eqb own 0)
       (λ u. record { called = named c id (eqb-true (call_refusal c id) 0 t); written = free (request_of c id) output (bytes (request_of c id)) buffer (sym (eqb-true own 0 u)); is = simp (t, u) })
       (λ u. absurd (eqb-false own 0 u (simp (t, u) at e))))
       (λ t. absurd (eqb-false (call_refusal c id) 0 t (simp t at e)))
@@ -116,8 +116,8 @@ module _ (c : Conn) (id : ℕ) (output : Output) (bytes : Request → List ℕ) 
   pub did_not : (outcome.refusal ≡ 0 → ⊥) → outcome ≡ unwritten outcome.refusal c buffer
   unfolding output_call writes
   did_not e =
-      byTest (eqb (call_refusal c id) 0)
-      (λ t. byTest (eqb own 0)
+      by_test (eqb (call_refusal c id) 0)
+      (λ t. by_test (eqb own 0)
       (λ u. absurd (e (simp (t, u))))
       (λ u. simp (t, u, put_same c.table (slot_of c id))))
       (λ t. simp t)
@@ -125,7 +125,7 @@ module _ (c : Conn) (id : ℕ) (output : Output) (bytes : Request → List ℕ) 
   -- By the two outcomes.
   pub by_outcome : {P : Type 0} → (Did → P) → (outcome ≡ unwritten outcome.refusal c buffer → P) → P
   by_outcome yes' no' =
-      byTest (eqb outcome.refusal 0) (λ t. yes' (did (eqb-true outcome.refusal 0 t))) (λ t. no' (did_not (eqb-false outcome.refusal 0 t)))
+      by_test (eqb outcome.refusal 0) (λ t. yes' (did (eqb-true outcome.refusal 0 t))) (λ t. no' (did_not (eqb-false outcome.refusal 0 t)))
 
   -- The bytes that are written are the front of the buffer.
   pub front : outcome.refusal ≡ 0 → take outcome.written outcome.buffer ≡ bytes (request_of c id)
@@ -160,8 +160,8 @@ module _ (c : Conn) (id : ℕ) (output : Output) (bytes : Request → List ℕ) 
   pub nothing_never_6 : ((r : Request) → bytes r ≡ []) → outcome.refusal ≡ 6 → ⊥
   unfolding output_call writes
   nothing_never_6 none e =
-      byTest (eqb (call_refusal c id) 0)
-      (λ t. byTest (eqb own 0)
+      by_test (eqb (call_refusal c id) 0)
+      (λ t. by_test (eqb own 0)
       (λ u. let z : ◌≡◌ {A = ℕ} 0 6 = simp (t, u) at e in omega arith)
       (λ u.
       let long : length buffer < length (bytes (request_of c id)) = ltb-true (length buffer) (length (bytes (request_of c id))) (only_room (no_output (request_of c id)) (is_ended output (request_of c id).state) _ (simp (t, u) at e)) in

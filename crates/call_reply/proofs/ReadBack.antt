@@ -1,10 +1,10 @@
 -- The replies read back, which events owe one, and the statuses that are ever sent.
-use Rattle.std.specs.Prelude.{ℕ, ◌+◌, ◌≤◌, ◌<◌, Bool, true, false, List, [], ◌∷◌, ◌++◌, take, ltb}
+use Rattle.std.specs.Prelude.{ℕ, ◌+◌, ◌≤◌, ◌<◌, Bool, true, false, List, [], ◌∷◌, ◌++◌, take, ltb, if◌then◌else◌}
 use Rattle.std.proofs.Math.Path.{◌≡◌, refl, ap}
 use Rattle.std.proofs.Common.{sym, ap₂, ◌∙◌, append-nil, append_assoc, arith, zero-add, take_at, drop_at}
 use Rattle.std.proofs.Math.ListN.{length, drop}
 use borrow.Author.Tests.{ltb-false}
-use Rattle.wire.specs.Test.{if◌then◌else◌, byTest}
+use Rattle.wire.specs.Test.{by_test}
 use Rattle.wire.specs.Buffer.{put_at}
 use Rattle.wire.proofs.BufferLaws.{put_length}
 use Rattle.record.specs.Names.{STDOUT, STDERR, END_REQUEST, GET_VALUES_RESULT, UNKNOWN_TYPE, REQUEST_COMPLETE}
@@ -36,7 +36,7 @@ module _ (e : Event) (buffer : List ℕ) where
   done : reply.refusal ≡ 0 → reply ≡ record { refusal = 0; written = length (owed e); buffer = put_at buffer 0 (owed e) }
   unfolding replied
   done h =
-      byTest (ltb (length buffer) (length (owed e)))
+      by_test (ltb (length buffer) (length (owed e)))
       (λ t. let z : ◌≡◌ {A = ℕ} 6 0 = simp t at h in absurd (omega arith))
       (λ t. simp t)
 
@@ -49,7 +49,7 @@ module _ (e : Event) (buffer : List ℕ) where
   unfolding replied
   reply_behind =
       let x = owed e in
-      byTest (ltb (length buffer) (length x))
+      by_test (ltb (length buffer) (length x))
       (λ t. simp t (refl, refl))
       (λ t. let room = ltb-false (length buffer) (length x) t in simp t (drop_at x (drop (0 + length x) buffer) (length x) refl ∙ ap (λ (n : ℕ). drop n buffer) (zero-add (length x)), put_length buffer 0 x (omega arith)))
 

@@ -1,6 +1,6 @@
 -- What the call that writes an owed reply answers, read in the rules' numbers.
-use Rattle.std.specs.Prelude.{Bool, List, [], length, ℕ}
-use Rattle.wire.specs.Test.{if◌then◌else◌, ◌<?◌}
+use Rattle.std.specs.Prelude.{Bool, List, [], length, ℕ, if◌then◌else◌}
+use Rattle.wire.specs.Test.{◌<?◌}
 use Rattle.wire.specs.Buffer.{put_at}
 use Rattle.pairs.specs.Pair.{pair_bytes}
 use Rattle.connection.specs.declared.answer.Wrote.{Wrote}

@@ -1,9 +1,9 @@
 -- What holds of the calls that read with what waits lent beside the state.
-use Rattle.std.specs.Prelude.{ℕ, ◌≡◌, refl, Bool, List, length}
+use Rattle.std.specs.Prelude.{ℕ, ◌≡◌, refl, Bool, List, length, if◌then◌else◌}
 use Rattle.std.proofs.Common.{sym, ◌∙◌, arith, le-ltb}
 use Rattle.std.proofs.Math.Path.{ap}
 use Rattle.std.proofs.Math.Bool.{true, false}
-use Rattle.wire.specs.Test.{if◌then◌else◌, ◌=?◌, byTest}
+use Rattle.wire.specs.Test.{◌=?◌, by_test}
 use Rattle.connection.specs.declared.state.Conn.{Conn}
 use Rattle.connection.specs.declared.answer.Refusal.{Refusal}
 use Rattle.connection.specs.Sizes.{SLOTS, STORE}
@@ -55,7 +55,7 @@ module _ (on : Bool) (c : Conn) (gathered store piece : List ℕ) where
   unfolding steps_beside checked_step
   beside_refused true why e = alone why e
   beside_refused false why e =
-      byTest (length store =? STORE)
+      by_test (length store =? STORE)
       (λ t.
       let n : 9 ≡ refusal_number why = ap number_of (simp t at e) in
       simp t (ap (λ (k : ℕ). stays k (state_of c gathered) store) (sym n)))
@@ -72,7 +72,7 @@ module _ (on : Bool) (c : Conn) (gathered store piece : List ℕ) where
       (ap (λ (k : StepCheck). by_check k c gathered store piece) (sym e) ∙ by_check_lem c gathered store piece)
       (le-ltb 0 (length piece) (omega arith))
   beside_idle false e =
-      byTest (length store =? STORE)
+      by_test (length store =? STORE)
       (λ t. let n : 9 ≡ 0 = ap number_of (simp t at e) in absurd (omega arith))
       (λ t. let n : 2 ≡ 0 = ap number_of (simp t at e) in absurd (omega arith))
 

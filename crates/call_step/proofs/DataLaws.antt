@@ -3,7 +3,7 @@ use Rattle.std.specs.Prelude.{◌≡◌, refl, ℕ, Bool, true, length, take, eq
 use Rattle.std.proofs.Common.{sym, ap, ◌∙◌, arith, length-take-le}
 use Rattle.std.proofs.Math.Bool.{false}
 use mathlib.Core.List.{List, []}
-use Rattle.wire.specs.Test.{byTest}
+use Rattle.wire.specs.Test.{by_test}
 use Rattle.record.specs.Names.{VERSION, BEGIN_REQUEST, GET_VALUES, RESPONDER, AUTHORIZER, FILTER}
 use Rattle.record.specs.declared.body.BeginBody.{BeginBody}
 use Rattle.record.specs.declared.header.Header.{Header}
@@ -18,7 +18,7 @@ use Rattle.connection.specs.declared.state.Frame.{Frame}
 use Rattle.connection.specs.Sizes.{SLOTS, QUERY}
 use Rattle.connection.specs.Event.{Event}
 use Rattle.connection.specs.Request.{Held, Ruled, faulted, aborted, turned, on_header}
-use Rattle.connection.specs.Slots.{held_at, find, onSlot, free_slot_of}
+use Rattle.connection.specs.Slots.{held_at, find, on_slot, free_slot_of}
 use Rattle.connection.specs.Step.{State, closes, query_of, queried, on_management, on_inactive, on_active, judged, opens, begun, of_begin, of_query, of_request, on_target, on_phase, advances, step_refusal, stepped}
 use Rattle.connection.proofs.Laws.Rules.{by_rule}
 use Rattle.connection.proofs.Laws.Progress.{step_uses_no_more}
@@ -44,48 +44,48 @@ header_no_data kind n h = by_rule (λ (r : Ruled). is_data r.event ≡ false) h 
 module _ (st : State) (store : List ℕ) where
   queried_no_data : (list : List ℕ) (f : Frame) → is_data (queried st store list f).event ≡ false
   unfolding queried query_of closes
-  queried_no_data list f = byTest (well_formed list) (λ t. simp t) (λ t. simp t)
+  queried_no_data list f = by_test (well_formed list) (λ t. simp t) (λ t. simp t)
 
   judged_no_data : (h : Header) → is_data (judged st store h).event ≡ false
   unfolding judged on_management on_inactive on_active closes
   judged_no_data h =
-      byTest (eqb h.version VERSION)
+      by_test (eqb h.version VERSION)
       (λ v.
-      byTest (eqb h.id 0)
+      by_test (eqb h.id 0)
       (λ z.
-      byTest (eqb h.kind GET_VALUES)
+      by_test (eqb h.kind GET_VALUES)
       (λ k.
-      byTest (ltb QUERY h.content)
+      by_test (ltb QUERY h.content)
       (λ l. simp (v, z, k, l))
-      (λ l. byTest (eqb h.content 0) (λ m. simp (v, z, k, l, m) (queried_no_data [] _)) (λ m. simp (v, z, k, l, m))))
+      (λ l. by_test (eqb h.content 0) (λ m. simp (v, z, k, l, m) (queried_no_data [] _)) (λ m. simp (v, z, k, l, m))))
       (λ k. simp (v, z, k)))
       (λ z. simp (v, z) (placed (find st.conn.table h.id))))
       (λ v. simp v)
     where
-      placed : (k : Slot) → is_data (onSlot k (on_active st store h) (on_inactive st store h)).event ≡ false
+      placed : (k : Slot) → is_data (on_slot k (on_active st store h) (on_inactive st store h)).event ≡ false
       placed (Slot.At i) = header_no_data h.kind h.content (held_at st.conn.table store i)
       placed Slot.Nowhere =
-          byTest (eqb h.kind BEGIN_REQUEST) (λ k. byTest (eqb h.content 8) (λ m. simp (k, m)) (λ m. simp (k, m))) (λ k. simp k)
+          by_test (eqb h.kind BEGIN_REQUEST) (λ k. by_test (eqb h.content 8) (λ m. simp (k, m)) (λ m. simp (k, m))) (λ k. simp k)
 
   opens_no_data : (id : ℕ) (b : BeginBody) (role : Role) (f : Frame) → is_data (opens st store id b role f).event ≡ false
   unfolding opens
-  opens_no_data id b role f = byTest (ltb (free_slot_of st.conn.table) SLOTS) (λ t. simp t) (λ t. simp t)
+  opens_no_data id b role f = by_test (ltb (free_slot_of st.conn.table) SLOTS) (λ t. simp t) (λ t. simp t)
 
   begun_no_data : (id : ℕ) (b : BeginBody) (f : Frame) → is_data (begun st store id b f).event ≡ false
   unfolding begun
   begun_no_data id b f =
-      byTest (eqb b.role RESPONDER) (λ t. simp t (opens_no_data id b Role.Responder f))
+      by_test (eqb b.role RESPONDER) (λ t. simp t (opens_no_data id b Role.Responder f))
       (λ t.
-      byTest (eqb b.role AUTHORIZER) (λ q. simp (t, q) (opens_no_data id b Role.Authorizer f))
-      (λ q. byTest (eqb b.role FILTER) (λ r. simp (t, q, r) (opens_no_data id b Role.Filter f)) (λ r. simp (t, q, r))))
+      by_test (eqb b.role AUTHORIZER) (λ q. simp (t, q) (opens_no_data id b Role.Authorizer f))
+      (λ q. by_test (eqb b.role FILTER) (λ r. simp (t, q, r) (opens_no_data id b Role.Filter f)) (λ r. simp (t, q, r))))
 
   begin_no_data : (id : ℕ) (bytes : List ℕ) (p : Position) → is_data (of_begin st store id bytes p).event ≡ false
   unfolding of_begin
-  begin_no_data id bytes p = byTest (eqb p.content 0) (λ t. simp t (begun_no_data id _ _)) (λ t. simp t)
+  begin_no_data id bytes p = by_test (eqb p.content 0) (λ t. simp t (begun_no_data id _ _)) (λ t. simp t)
 
 query_no_data : (st : State) (store bytes : List ℕ) (p : Position) → is_data (of_query st store bytes p).event ≡ false
 unfolding of_query
-query_no_data st store bytes p = byTest (eqb p.content 0) (λ t. simp t (queried_no_data _ store _ _)) (λ t. simp t)
+query_no_data st store bytes p = by_test (eqb p.content 0) (λ t. simp t (queried_no_data _ store _ _)) (λ t. simp t)
 
 -- ---- content
 never : {A : Type 0} {id stream n : ℕ} (e : Event) → is_data e ≡ false → e ≡ Event.Data id stream n → A
@@ -113,9 +113,9 @@ pub data_used : (st : State) (store piece : List ℕ) (id stream n : ℕ) → (s
     → (stepped st store piece).used ≡ n
 unfolding stepped advances
 data_used st store piece id stream n e =
-    byTest (eqb (step_refusal st.conn store) 0)
+    by_test (eqb (step_refusal st.conn store) 0)
     (λ t.
-    byTest (eqb (length piece) 0) (λ z. never Event.None refl (simp (t, z) at e))
+    by_test (eqb (length piece) 0) (λ z. never Event.None refl (simp (t, z) at e))
     (λ z.
     let a = advanced st.conn.frame.position piece in
     let low = step_uses_no_more st store piece in

@@ -1,9 +1,9 @@
 -- What holds of the steps up to the next event. The bound of the definition is seen in the proofs of `enough` and
 -- `next_step` only.
-use Rattle.std.specs.Prelude.{◌≡◌, refl, ℕ, zero, suc, ◌+◌, ◌-◌, ◌≤◌, ◌<◌, true, false, List, [], ◌∷◌, ◌++◌, map, length, take, drop, eqb, ltb}
+use Rattle.std.specs.Prelude.{◌≡◌, refl, ℕ, zero, suc, ◌+◌, ◌-◌, ◌≤◌, ◌<◌, true, false, List, [], ◌∷◌, ◌++◌, map, length, take, drop, eqb, ltb, if◌then◌else◌}
 use Rattle.std.proofs.Common.{sym, ap, ◌∙◌, arith, append-nil, length-drop, drop-drop, take-add, eq-eqb, eqb-true, ltb-true, ltb-false}
 use Rattle.std.proofs.lemmas.Bool.{eqb-false}
-use Rattle.wire.specs.Test.{if◌then◌else◌, byTest}
+use Rattle.wire.specs.Test.{by_test}
 use Rattle.connection.specs.Event.{Event}
 use Rattle.connection.specs.Sizes.{QUERY}
 use Rattle.connection.proofs.Laws.Closing.{closes_by_cause}
@@ -45,9 +45,9 @@ none_is (Event.Closed cause) h = let z : ◌≡◌ {A = ℕ} 0 1 = cc in absurd 
 
 pub goes_on_lem : (s : Stepped) (n : ℕ) → goes_on s n ≡ true → GoesOn s n
 goes_on_lem s n h =
-    byTest (eqb s.refusal 0)
+    by_test (eqb s.refusal 0)
     (λ r.
-    byTest (is_none s.event)
+    by_test (is_none s.event)
     (λ e. record { taken = eqb-true s.refusal 0 r; silent = none_is s.event e; left = ltb-true s.used n (simp (r, e) at h) })
     (λ e. let z : ◌≡◌ {A = ℕ} 0 1 = cc (simp (r, e) at h) in absurd (omega arith)))
     (λ r. let z : ◌≡◌ {A = ℕ} 0 1 = cc (simp r at h) in absurd (omega arith))
@@ -56,7 +56,7 @@ goes_on_lem s n h =
 -- a step after which another follows uses a byte
 pub uses_some : (st : State) (store piece : List ℕ) → GoesOn (stepped st store piece) (length piece) → 1 ≤ (stepped st store piece).used
 uses_some st store piece g =
-    byTest (eqb (step_refusal st.conn store) 0)
+    by_test (eqb (step_refusal st.conn store) 0)
     (λ t.
     let f = admitted_fits st.conn store (eqb-true (step_refusal st.conn store) 0 t) in
     (step_uses_some st store piece f.shape f.is_open f.size (omega (arith, g.left))).0)
@@ -67,7 +67,7 @@ uses_some st store piece g =
 -- an empty piece takes one step
 stops : (st : State) (store piece : List ℕ) → length piece ≤ 0 → goes_on (stepped st store piece) (length piece) ≡ false
 stops st store piece h =
-    byTest (goes_on (stepped st store piece) (length piece))
+    by_test (goes_on (stepped st store piece) (length piece))
     (λ t. absurd (omega (arith, (goes_on_lem (stepped st store piece) (length piece) t).left)))
     (λ t. t)
 
@@ -79,7 +79,7 @@ enough zero (suc k') st store piece h h' = simp (stops st store piece h)
 enough (suc k) zero st store piece h h' = simp (stops st store piece h')
 enough (suc k) (suc k') st store piece h h' =
     let s = stepped st store piece in
-    byTest (goes_on s (length piece))
+    by_test (goes_on s (length piece))
     (λ t.
     let g = goes_on_lem s (length piece) t in
     let n : length (drop s.used piece) < length piece = omega (arith, length-drop s.used piece, uses_some st store piece g, g.left) in
@@ -95,7 +95,7 @@ unfolding next_event next_in
 next_step st store piece =
     let s = stepped st store piece in
     enough (length piece) (suc (length piece)) st store piece (omega arith) (omega arith)
-    ∙ byTest (goes_on s (length piece))
+    ∙ by_test (goes_on s (length piece))
     (λ t.
     let g = goes_on_lem s (length piece) t in
     let rest = drop s.used piece in
@@ -109,7 +109,7 @@ unfolding next_in
 inside zero st store piece = step_uses_no_more st store piece
 inside (suc k) st store piece =
     let s = stepped st store piece in
-    byTest (goes_on s (length piece))
+    by_test (goes_on s (length piece))
     (λ t. simp t (omega (arith, inside k s.state s.store (drop s.used piece), length-drop s.used piece, (goes_on_lem s (length piece) t).left)))
     (λ t. simp t (step_uses_no_more st store piece))
 
@@ -124,7 +124,7 @@ unfolding next_in
 to_end zero st store piece h r e = omega (arith, step_uses_no_more st store piece)
 to_end (suc k) st store piece h r e =
     let s = stepped st store piece in
-    byTest (goes_on s (length piece))
+    by_test (goes_on s (length piece))
     (λ t.
     let g = goes_on_lem s (length piece) t in
     let rest = drop s.used piece in
@@ -147,7 +147,7 @@ next_to_end st store piece r e = to_end (length piece) st store piece (omega ari
 -- A silent step leaves an open connection open.
 pub stays_open : (st : State) (store piece : List ℕ) → st.conn.«open» ≡ true → (stepped st store piece).event ≡ Event.None → (stepped st store piece).state.conn.«open» ≡ true
 stays_open st store piece is silent =
-    byTest (stepped st store piece).state.conn.«open»
+    by_test (stepped st store piece).state.conn.«open»
     (λ t. t)
     (λ t.
     let told = (closes_by_cause st store piece is t).2 in
@@ -159,7 +159,7 @@ reads_on_lem : (st : State) (store piece : List ℕ) → Fits st.conn store → 
 unfolding advances stepped
 reads_on_lem st store piece fits =
     let t = eq-eqb (step_refusal st.conn store) 0 (fits_admitted st.conn store fits) in
-    byTest (eqb (length piece) 0) (λ z. simp (t, z)) (λ z. simp (t, z))
+    by_test (eqb (length piece) 0) (λ z. simp (t, z)) (λ z. simp (t, z))
 
 -- a call whose first step is not refused is not refused later on
 never_refused : (k : ℕ) (st : State) (store piece : List ℕ) → Arrays st.conn → length st.gathered ≡ QUERY → AllBytes piece → Fits st.conn store
@@ -170,7 +170,7 @@ never_refused (suc k) st store piece arrays room all fits =
     let s = stepped st store piece in
     let sizes : Sizes st store = record { table = arrays.table; header = arrays.header; body = arrays.body; gathered = room; full = fits.size } in
     let after = sizes_stay st store piece sizes in
-    byTest (goes_on s (length piece))
+    by_test (goes_on s (length piece))
     (λ t.
     let g = goes_on_lem s (length piece) t in
     let next : Fits s.state.conn s.store =
@@ -186,7 +186,7 @@ next_taken st store piece arrays room all fits = never_refused (length piece) st
 pub next_refused : (st : State) (store piece : List ℕ) → Arrays st.conn → length st.gathered ≡ QUERY → AllBytes piece → ((next_event st store piece).refusal ≡ 0 → ⊥)
     → next_event st store piece ≡ stays (step_refusal st.conn store) st store
 next_refused st store piece arrays room all not =
-    byTest (eqb (step_refusal st.conn store) 0)
+    by_test (eqb (step_refusal st.conn store) 0)
     (λ t. absurd (not (next_taken st store piece arrays room all (admitted_fits st.conn store (eqb-true (step_refusal st.conn store) 0 t)))))
     (λ t.
     let n = eqb-false (step_refusal st.conn store) 0 t in
@@ -198,7 +198,7 @@ next_refused st store piece arrays room all not =
 pub next_rows : (st : State) (store piece : List ℕ) → Arrays st.conn → length st.gathered ≡ QUERY → AllBytes piece
     → (next_event st store piece).refusal ≡ refusal (store_row store ∷ shape_row st.conn ∷ closed_row st.conn ∷ [])
 next_rows st store piece arrays room all =
-    byTest (eqb (step_refusal st.conn store) 0)
+    by_test (eqb (step_refusal st.conn store) 0)
     (λ t.
     let f = admitted_fits st.conn store (eqb-true (step_refusal st.conn store) 0 t) in
     next_taken st store piece arrays room all f ∙ sym (reads_on_lem st store piece f) ∙ step_rows_lem st store piece)
@@ -216,7 +216,7 @@ unfolding next_in steps_in final_memory memory_after
 steps_leave zero m piece = refl
 steps_leave (suc k) m piece =
     let s = stepped m.state m.store piece in
-    byTest (goes_on s (length piece))
+    by_test (goes_on s (length piece))
     (λ t. simp t (steps_leave k (memory_of s) (drop s.used piece)))
     (λ t. simp t)
 
@@ -246,7 +246,7 @@ unfolding next_in
 next_count zero st store piece = count_used st store piece
 next_count (suc k) st store piece =
     let s = stepped st store piece in
-    byTest (goes_on s (length piece))
+    by_test (goes_on s (length piece))
     (λ t. simp t (omega (arith, next_count k s.state s.store (drop s.used piece))))
     (λ t. simp t (count_used st store piece))
 
@@ -283,7 +283,7 @@ unfolding next_in steps_in all_seen seen_in memory_after
 steps_seen zero m piece = append-nil _ ∙ ap (map Heard) (shows m.state m.store piece)
 steps_seen (suc k) m piece =
     let s = stepped m.state m.store piece in
-    byTest (goes_on s (length piece))
+    by_test (goes_on s (length piece))
     (λ t.
     let g = goes_on_lem s (length piece) t in
     let rest = drop s.used piece in
@@ -307,7 +307,7 @@ unfolding next_in steps_in timeline items_of memory_after
 steps_items zero m piece = append-nil _
 steps_items (suc k) m piece =
     let s = stepped m.state m.store piece in
-    byTest (goes_on s (length piece))
+    by_test (goes_on s (length piece))
     (λ t.
     let rest = drop s.used piece in
     let r = next_in k s.state s.store rest in
@@ -326,7 +326,7 @@ unfolding steps_in
 pieces_ok zero st store piece all = (all, tt)
 pieces_ok (suc k) st store piece all =
     let s = stepped st store piece in
-    byTest (goes_on s (length piece))
+    by_test (goes_on s (length piece))
     (λ t. simp t (all, pieces_ok k s.state s.store (drop s.used piece) (drop_bytes s.used piece all)))
     (λ t. simp t (all, tt))
 

@@ -1,7 +1,7 @@
 -- One round of the loop over a piece, and what it leaves of the piece to come to.
-use Rattle.std.specs.Prelude.{◌≡◌, refl, ℕ, suc, ◌+◌, ◌-◌, ◌≤◌, ◌<◌, Bool, true, false, List, length, take, drop, ltb}
+use Rattle.std.specs.Prelude.{◌≡◌, refl, ℕ, suc, ◌+◌, ◌-◌, ◌≤◌, ◌<◌, Bool, true, false, List, length, take, drop, ltb, if◌then◌else◌}
 use Rattle.std.proofs.Common.{sym, ap, ◌∙◌, subst, arith, length-drop, drop-drop, take_all, ltb-true, ltb-false, lt-ltb, le-ltb}
-use Rattle.wire.specs.Test.{if◌then◌else◌, ◌<?◌, byTest}
+use Rattle.wire.specs.Test.{◌<?◌, by_test}
 use Rattle.connection.specs.Event.{Event}
 use Rattle.record_reader.specs.Position.{advanced}
 use Rattle.connection.specs.declared.state.Table.{Table}
@@ -71,7 +71,7 @@ reached_start on refusal event st store piece =
 left_same : (on : Bool) (refusal : ℕ) (event : Event) (used m n : ℕ) → used ≤ n → is_due on refusal event m (n - used) ≡ is_due on refusal event (used + m) n
 left_same on refusal event used m n h =
     ap (λ (b : Bool). if on then (if is_silent refusal event then b else false) else false)
-    (byTest (ltb m (n - used))
+    (by_test (ltb m (n - used))
     (λ t. t ∙ sym (lt-ltb (used + m) n (omega (arith, ltb-true m (n - used) t))))
     (λ t. t ∙ sym (le-ltb (used + m) n (omega (arith, ltb-false m (n - used) t)))))
 
@@ -89,7 +89,7 @@ reached_next on refusal event used st store piece {s} low e =
     let same : is_due on s.refusal s.event s.used (length rest) ≡ is_due on s.refusal s.event (used + s.used) (length piece) =
     ap (λ (n : ℕ). is_due on s.refusal s.event s.used n) (length-drop used piece) ∙ left_same on s.refusal s.event used s.used (length piece) low in
     ap (after used) (steps_first on st store rest e)
-    ∙ byTest (is_due on s.refusal s.event s.used (length rest))
+    ∙ by_test (is_due on s.refusal s.event s.used (length rest))
     (λ g. simp (g, sym same ∙ g) (after_both used s.used _ ∙ ap (λ (l : List ℕ). after (used + s.used) (steps_by on s.state s.store l)) (drop-drop s.used used piece)))
     (λ g. simp (g, sym same ∙ g))
 
@@ -147,7 +147,7 @@ round on used st store piece refusal event used' st' store' due took =
           inside = omega (arith, length-drop used piece, due.left);
           same = λ r x. reached_next on r x used st store piece (omega (arith, due.left)) e;
           less =
-              byTest (is_due on refusal event (used + took.count) (length piece))
+              by_test (is_due on refusal event (used + took.count) (length piece))
               (λ g. simp g (omega (arith, (due_silent on s (used + took.count) (length piece) g).2)))
               (λ g. simp g (omega arith));
           next = λ kept g.

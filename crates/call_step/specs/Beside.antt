@@ -1,6 +1,6 @@
 -- The calls that read with what waits lent beside the state, and their check.
-use Rattle.std.specs.Prelude.{ℕ, Bool, List, length}
-use Rattle.wire.specs.Test.{if◌then◌else◌, ◌=?◌}
+use Rattle.std.specs.Prelude.{ℕ, Bool, List, length, if◌then◌else◌}
+use Rattle.wire.specs.Test.{◌=?◌}
 use Rattle.connection.specs.Sizes.{STORE}
 use Rattle.connection.specs.Step.{State, Stepped, stays}
 use Rattle.call_step.specs.Next.{steps_by}

@@ -1,8 +1,8 @@
 -- The check before the first step: rows 2, 9 and 1, and the empty piece.
-use Rattle.std.specs.Prelude.{ℕ, ◌<◌, ◌≡◌, refl, Bool, true, false, List, length, eqb}
+use Rattle.std.specs.Prelude.{ℕ, ◌<◌, ◌≡◌, refl, Bool, true, false, List, length, eqb, if◌then◌else◌}
 use Rattle.std.proofs.Common.{sym, ap, ◌∙◌, arith, eqb-true}
 use Rattle.std.proofs.lemmas.Bool.{eqb-false}
-use Rattle.wire.specs.Test.{if◌then◌else◌, ◌=?◌, byTest}
+use Rattle.wire.specs.Test.{◌=?◌, by_test}
 use Rattle.record_reader.specs.Position.{advanced}
 use Rattle.connection.specs.declared.state.Conn.{Conn}
 use Rattle.connection.specs.declared.answer.Refusal.{Refusal}
@@ -37,10 +37,10 @@ never q f = let z : ◌≡◌ {A = ℕ} 0 1 = cc (sym f ∙ ap is_refused (sym q
 pub check_read : (size : ℕ) (fits is_open : Bool) (bytes : ℕ) → checked_step size fits is_open bytes ≡ StepCheck.Read → Reads size fits is_open bytes
 unfolding checked_step
 check_read size fits is_open bytes e =
-    byTest (eqb size STORE)
-    (λ a. byTest fits
-    (λ b. byTest is_open
-    (λ d. byTest (eqb bytes 0)
+    by_test (eqb size STORE)
+    (λ a. by_test fits
+    (λ b. by_test is_open
+    (λ d. by_test (eqb bytes 0)
     (λ z. let y : ◌≡◌ {A = ℕ} 0 1 = cc (simp (a, b, d, z) at e) in absurd (omega arith))
     (λ z. let some = eqb-false bytes 0 z in record { whole = eqb-true size STORE a; shape = b; reads = d; some = omega arith }))
     (λ d. never (simp (a, b, d) at e) refl))
@@ -51,10 +51,10 @@ check_read size fits is_open bytes e =
 pub check_idle : (size : ℕ) (fits is_open : Bool) (bytes : ℕ) → checked_step size fits is_open bytes ≡ StepCheck.Idle → bytes ≡ 0
 unfolding checked_step
 check_idle size fits is_open bytes e =
-    byTest (eqb size STORE)
-    (λ a. byTest fits
-    (λ b. byTest is_open
-    (λ d. byTest (eqb bytes 0)
+    by_test (eqb size STORE)
+    (λ a. by_test fits
+    (λ b. by_test is_open
+    (λ d. by_test (eqb bytes 0)
     (λ z. eqb-true bytes 0 z)
     (λ z. let y : ◌≡◌ {A = ℕ} 0 1 = cc (simp (a, b, d, z) at e) in absurd (omega arith)))
     (λ d. never (simp (a, b, d) at e) refl))
@@ -70,8 +70,8 @@ by_check StepCheck.Read c gathered store piece = advances (state_of c gathered) 
 pub by_check_lem : (c : Conn) (gathered store piece : List ℕ) → by_check (checked_step (length store) (in_shape c) c.«open» (length piece)) c gathered store piece ≡ stepped (state_of c gathered) store piece
 unfolding checked_step stepped step_refusal
 by_check_lem c gathered store piece =
-    byTest (eqb (length store) STORE)
-    (λ a. byTest (in_shape c)
-    (λ b. byTest c.«open» (λ d. byTest (eqb (length piece) 0) (λ e. simp (a, b, d, e)) (λ e. simp (a, b, d, e))) (λ d. simp (a, b, d)))
+    by_test (eqb (length store) STORE)
+    (λ a. by_test (in_shape c)
+    (λ b. by_test c.«open» (λ d. by_test (eqb (length piece) 0) (λ e. simp (a, b, d, e)) (λ e. simp (a, b, d, e))) (λ d. simp (a, b, d)))
     (λ b. simp (a, b)))
     (λ a. simp a)

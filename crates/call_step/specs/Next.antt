@@ -1,7 +1,7 @@
 -- Steps over a piece, one after another, until something is told, a step is refused, or the piece is used up. These are
 -- the steps of the rules; nothing is new but that each is lent what the one before left of the piece.
-use Rattle.std.specs.Prelude.{ℕ, zero, suc, ◌+◌, ◌-◌, Bool, true, false, List, [], ◌∷◌, length, take, drop}
-use Rattle.wire.specs.Test.{if◌then◌else◌, ◌<?◌, ◌=?◌}
+use Rattle.std.specs.Prelude.{ℕ, zero, suc, ◌+◌, ◌-◌, Bool, true, false, List, [], ◌∷◌, length, take, drop, if◌then◌else◌}
+use Rattle.wire.specs.Test.{◌<?◌, ◌=?◌}
 use Rattle.connection.specs.Event.{Event}
 use Rattle.connection.specs.Step.{State, Stepped, stepped}
 use Rattle.connection.specs.Run.{Operation, StepOver}

@@ -1,11 +1,11 @@
 -- What holds of the calls that read parameters, for every state, store, id, name, fallback and number.
-use Rattle.std.specs.Prelude.{ℕ, ◌+◌, ◌≤◌, not, ◌↔◌, length}
+use Rattle.std.specs.Prelude.{ℕ, ◌+◌, ◌≤◌, not, ◌↔◌, length, if◌then◌else◌}
 use Rattle.std.proofs.Math.Path.{◌≡◌, refl, subst}
 use Rattle.std.proofs.Common.{sym, ◌∙◌, arith, length-take, ne_eqb}
 use Rattle.std.proofs.Math.Bool.{true, false}
 use mathlib.Core.List.{List, [], ◌∷◌}
 use Rattle.std.proofs.lemmas.Bool.{eqb-false}
-use Rattle.wire.specs.Test.{if◌then◌else◌, ◌=?◌, byTest}
+use Rattle.wire.specs.Test.{◌=?◌, by_test}
 use Rattle.pairs.specs.Pair.{value_of}
 use Rattle.pair_list.specs.List.{first_named, pair_number}
 use Rattle.pair_list.proofs.ListLaws.{LiesIn, number_within}
@@ -38,9 +38,9 @@ module _ (c : Conn) (store : List ℕ) (id : ℕ) (name : List ℕ) where
   Says (Of.SourceRefused n) = (fallback : List ℕ) → value c store id name fallback ≡ fallback
 
   says : Says (source c store id name)
-  says = rw (source_listed c store id name) (byTest ((listing c store id).refusal =? 0) (λ t. rw t (found (first_named part name) refl)) (λ t. rw t (refused t)))
+  says = rw (source_listed c store id name) (by_test ((listing c store id).refusal =? 0) (λ t. rw t (found (first_named part name) refl)) (λ t. rw t (refused t)))
     where
-      found : (f : Found) → first_named part name ≡ f → Says (Of.onFound f (λ p. Of.FromStore) Of.FromFallback)
+      found : (f : Found) → first_named part name ≡ f → Says (Of.on_found f (λ p. Of.FromStore) Of.FromFallback)
       found (Found.At p) e = λ f g. value_listed c store id name f ∙ simp e (sym (value_listed c store id name g ∙ simp e))
       found Found.Nothing e = λ fallback. value_listed c store id name fallback ∙ simp e
 
@@ -70,14 +70,14 @@ module _ (c : Conn) (store : List ℕ) (id : ℕ) (name : List ℕ) where
       → (p : Pair) × (first_named (list_in c store id) name ≡ Found.At p) × ((fallback : List ℕ) → value c store id name fallback ≡ value_of (list_in c store id) p)
   unfolding source Of.source_in value Of.value_in
   found_value e =
-      byTest (lent_refusal c store id =? 0)
-      (λ t. byTest (Of.no_list (request_at c.table (slot_of c id)))
+      by_test (lent_refusal c store id =? 0)
+      (λ t. by_test (Of.no_list (request_at c.table (slot_of c id)))
       (λ u. let z : ◌≡◌ {A = ℕ} 0 1 = cc (simp (t, u) at e) in absurd (omega arith))
       (λ u. at_pair t u (first_named (list_in c store id) name) refl (simp (t, u) at e)))
       (λ t. let z : ◌≡◌ {A = ℕ} 0 1 = cc (simp t at e) in absurd (omega arith))
     where
       at_pair : (lent_refusal c store id =? 0) ≡ true → Of.no_list (request_at c.table (slot_of c id)) ≡ false
-          → (f : Found) → first_named (list_in c store id) name ≡ f → Of.onFound f (λ p. Of.FromStore) Of.FromFallback ≡ Of.FromStore
+          → (f : Found) → first_named (list_in c store id) name ≡ f → Of.on_found f (λ p. Of.FromStore) Of.FromFallback ≡ Of.FromStore
           → (p : Pair) × (first_named (list_in c store id) name ≡ Found.At p) × ((fallback : List ℕ) → value c store id name fallback ≡ value_of (list_in c store id) p)
       at_pair t u (Found.At p) h w = (p, h, λ fallback. simp (t, u, h))
       at_pair t u Found.Nothing h w = let z : ◌≡◌ {A = ℕ} 0 1 = cc in absurd (omega arith)
@@ -105,17 +105,17 @@ module _ (c : Conn) (store : List ℕ) (id : ℕ) where
   -- what the sister answers, by what is listed
   abbrev answer : List ℕ → Of.Source
   answer name =
-      if (listing c store id).refusal =? 0 then Of.onFound (first_named (part_of store (listing c store id)) name) (λ p. Of.FromStore) Of.FromFallback
+      if (listing c store id).refusal =? 0 then Of.on_found (first_named (part_of store (listing c store id)) name) (λ p. Of.FromStore) Of.FromFallback
       else Of.SourceRefused (listing c store id).refusal
 
   -- where rows 2, 9, 1 and 3 do not hold, row 4 is the one left
   read_refusal_lem : read_refusal c store id ≡ (if lent_refusal c store id =? 0 then (if Of.no_list (request_at c.table (slot_of c id)) then 4 else 0) else lent_refusal c store id)
   unfolding read_refusal lent_refusal
   read_refusal_lem =
-      byTest (length store =? STORE)
-      (λ t1. byTest (in_shape c)
-      (λ t2. byTest c.«open»
-      (λ t3. byTest (is_found (find c.table id)) (λ t4. simp (t1, t2, t3, t4)) (λ t4. simp (t1, t2, t3, t4)))
+      by_test (length store =? STORE)
+      (λ t1. by_test (in_shape c)
+      (λ t2. by_test c.«open»
+      (λ t3. by_test (is_found (find c.table id)) (λ t4. simp (t1, t2, t3, t4)) (λ t4. simp (t1, t2, t3, t4)))
       (λ t3. simp (t1, t2, t3)))
       (λ t2. simp (t1, t2)))
       (λ t1. simp t1)
@@ -124,21 +124,21 @@ module _ (c : Conn) (store : List ℕ) (id : ℕ) where
   listing_refusal : (listing c store id).refusal ≡ read_refusal c store id
   unfolding listing
   listing_refusal =
-      byTest (lent_refusal c store id =? 0)
-      (λ t. byTest (Of.no_list (request_at c.table (slot_of c id))) (λ u. simp (t, u) (sym (read_refusal_lem ∙ simp (t, u)))) (λ u. simp (t, u) (sym (read_refusal_lem ∙ simp (t, u)))))
+      by_test (lent_refusal c store id =? 0)
+      (λ t. by_test (Of.no_list (request_at c.table (slot_of c id))) (λ u. simp (t, u) (sym (read_refusal_lem ∙ simp (t, u)))) (λ u. simp (t, u) (sym (read_refusal_lem ∙ simp (t, u)))))
       (λ t. simp t (sym (read_refusal_lem ∙ simp t)))
 
   -- the sister is refused by the first of rows 2, 9, 1, 3 and 4 that holds.
   pub sister_refusal : (name : List ℕ) (n : ℕ) → (source c store id name ≡ Of.SourceRefused n) ↔ ((n ≡ read_refusal c store id) × (n ≡ 0 → ⊥))
   sister_refusal name n = (λ e. told (sym (source_listed c store id name) ∙ e), λ r. source_listed c store id name ∙ refuses r.0 r.1)
     where
-      found : (f : Found) → Of.onFound f (λ p. Of.FromStore) Of.FromFallback ≡ Of.SourceRefused n → (n ≡ read_refusal c store id) × (n ≡ 0 → ⊥)
+      found : (f : Found) → Of.on_found f (λ p. Of.FromStore) Of.FromFallback ≡ Of.SourceRefused n → (n ≡ read_refusal c store id) × (n ≡ 0 → ⊥)
       found (Found.At p) w = let z : ◌≡◌ {A = ℕ} 0 1 = cc in absurd (omega arith)
       found Found.Nothing w = let z : ◌≡◌ {A = ℕ} 0 1 = cc in absurd (omega arith)
 
       told : answer name ≡ Of.SourceRefused n → (n ≡ read_refusal c store id) × (n ≡ 0 → ⊥)
       told q =
-          byTest ((listing c store id).refusal =? 0)
+          by_test ((listing c store id).refusal =? 0)
           (λ t. found (first_named (part_of store (listing c store id)) name) (simp t at q))
           (λ t. let m : n ≡ (listing c store id).refusal = cc (simp t at q) in (m ∙ listing_refusal, λ z. eqb-false (listing c store id).refusal 0 t (sym m ∙ z)))
 
@@ -149,8 +149,8 @@ module _ (c : Conn) (store : List ℕ) (id : ℕ) where
   pub sister_refusal_by : (name : List ℕ) (n : ℕ) → source c store id name ≡ Of.SourceRefused n → n ≡ (if lent_refusal c store id =? 0 then 4 else lent_refusal c store id)
   sister_refusal_by name n e =
       let r = (sister_refusal name n).0 e in
-      byTest (lent_refusal c store id =? 0)
-      (λ t. byTest (Of.no_list (request_at c.table (slot_of c id)))
+      by_test (lent_refusal c store id =? 0)
+      (λ t. by_test (Of.no_list (request_at c.table (slot_of c id)))
       (λ u. simp t (r.0 ∙ read_refusal_lem ∙ simp (t, u)))
       (λ u. absurd (r.1 (r.0 ∙ read_refusal_lem ∙ simp (t, u)))))
       (λ t. simp t (r.0 ∙ read_refusal_lem ∙ simp t))
@@ -159,13 +159,13 @@ module _ (c : Conn) (store : List ℕ) (id : ℕ) where
   pub pair_lies : (k : ℕ) (p : Pair) → pair_at_number c store id k ≡ Of.PairIs p → LiesIn (list_in c store id) p
   unfolding pair_at_number Of.pair_in
   pair_lies k p e =
-      byTest (lent_refusal c store id =? 0)
-      (λ t. byTest (Of.no_list (request_at c.table (slot_of c id)))
+      by_test (lent_refusal c store id =? 0)
+      (λ t. by_test (Of.no_list (request_at c.table (slot_of c id)))
       (λ u. let z : ◌≡◌ {A = ℕ} 0 1 = cc (simp (t, u) at e) in absurd (omega arith))
       (λ u. found (pair_number (list_in c store id) k) refl (simp (t, u) at e)))
       (λ t. let z : ◌≡◌ {A = ℕ} 0 1 = cc (simp t at e) in absurd (omega arith))
     where
-      found : (f : Found) → pair_number (list_in c store id) k ≡ f → Of.onFound f Of.PairIs (Of.PairRefused 7) ≡ Of.PairIs p → LiesIn (list_in c store id) p
+      found : (f : Found) → pair_number (list_in c store id) k ≡ f → Of.on_found f Of.PairIs (Of.PairRefused 7) ≡ Of.PairIs p → LiesIn (list_in c store id) p
       found (Found.At q) h w = let z : q ≡ p = cc in subst (LiesIn (list_in c store id)) z (number_within (list_in c store id) k q h)
       found Found.Nothing h w = let z : ◌≡◌ {A = ℕ} 0 1 = cc in absurd (omega arith)
 

@@ -1,7 +1,7 @@
 -- Value's answer lies in the store exactly when the sister says Store.
 use Rattle.std.specs.Prelude.{ℕ, ◌+◌, ◌≡◌, refl, Bool, true, false, List}
 use Rattle.std.proofs.Math.Option.{Option, none, some}
-use Rattle.wire.specs.Test.{◌=?◌, byTest}
+use Rattle.wire.specs.Test.{◌=?◌, by_test}
 use Rattle.pair_list.specs.List.{first_named}
 use Rattle.pair_list.specs.declared.Found.{Found}
 use Rattle.connection.specs.declared.state.Conn.{Conn}
@@ -23,10 +23,10 @@ is_store (Of.SourceRefused n) = false
 pub place_is_stores : (c : Conn) (store : List ℕ) (id : ℕ) (name : List ℕ) → has_place (value_place c store id name) ≡ is_store (source c store id name)
 unfolding value_place
 place_is_stores c store id name =
-    byTest ((listing c store id).refusal =? 0)
+    by_test ((listing c store id).refusal =? 0)
     (λ e. rw (source_listed c store id name, e) (by_found (first_named (part_of store (listing c store id)) name)))
     (λ e. rw (source_listed c store id name, e, refused_empty c store id e, first_in_none name) refl)
   where
-    by_found : (f : Found) → has_place (Of.onFound f (λ p. some ((listing c store id).from + p.value)) none) ≡ is_store (Of.onFound f (λ p. Of.FromStore) Of.FromFallback)
+    by_found : (f : Found) → has_place (Of.on_found f (λ p. some ((listing c store id).from + p.value)) none) ≡ is_store (Of.on_found f (λ p. Of.FromStore) Of.FromFallback)
     by_found (Found.At p) = refl
     by_found Found.Nothing = refl

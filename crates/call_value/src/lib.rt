@@ -4,7 +4,7 @@
 ghost use Rattle.std.specs.Prelude.{◌≡◌};
 ghost use Rattle.std.proofs.Math.Option.{none, some};
 ghost use Rattle.connection.specs.Calls.{value, source, pair_at_number};
-ghost use Rattle.connection.specs.RequestCalls.{onFound, FromStore, FromFallback};
+ghost use Rattle.connection.specs.RequestCalls.{on_found, FromStore, FromFallback};
 ghost use Rattle.pairs.specs.Pair.{value_of};
 ghost use Rattle.pair_list.specs.List.{first_named};
 ghost use Rattle.call_list.specs.Part.{PartOrElse, value_place};
@@ -34,10 +34,10 @@ pub enum Numbered {
 // The first value of that name in a list, or the fallback.
 fn value_in<'a>(list: &'a [u8], name: &[u8], fallback: &'a [u8]) -> &'a [u8]
     ensures { (result.now
-        ≡ onFound (first_named list.now name.now) (value_of list.now)
+        ≡ on_found (first_named list.now name.now) (value_of list.now)
         fallback.now)
         × PartOrElse list.entry fallback.entry result
-        (onFound (first_named list.now name.now) (λ p. some p.value) none) }
+        (on_found (first_named list.now name.now) (λ p. some p.value) none) }
 {
     let found = first_named(list, name);
     let Found::At(p) = found else {
@@ -64,7 +64,7 @@ pub fn value<'a>(c: Conn, store: &'a [u8], id: u16, name: &[u8], fallback: &'a [
 
 // A pair found is the store's, also where its value is empty.
 fn source_of(found: Found) -> Source
-    ensures { source_by result ≡ onFound found (λ p. FromStore) FromFallback }
+    ensures { source_by result ≡ on_found found (λ p. FromStore) FromFallback }
 {
     match found {
         Found::At(_) => Source::Store,

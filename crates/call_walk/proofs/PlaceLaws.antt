@@ -1,11 +1,11 @@
 -- What holds of reading on: it goes through the pairs that have a number, in their order, and stays where there is
 -- none.
-use Rattle.std.specs.Prelude.{ℕ, zero, suc, ◌-◌, ◌≤◌, ◌<◌, ◌≡◌, refl, List, [], length}
+use Rattle.std.specs.Prelude.{ℕ, zero, suc, ◌-◌, ◌≤◌, ◌<◌, ◌≡◌, refl, List, [], length, if◌then◌else◌}
 use Rattle.std.proofs.Common.{sym, ap, ◌∙◌, arith, ne_eqb}
-use Rattle.wire.specs.Test.{if◌then◌else◌, ◌=?◌}
+use Rattle.wire.specs.Test.{◌=?◌}
 use Rattle.pairs.specs.Pair.{pair_at}
 use Rattle.pairs.proofs.PairLaws.{pair_in_lem, pair_end}
-use Rattle.pair_list.specs.List.{onRead, and_pairs, pairs_from, number_in, pair_number}
+use Rattle.pair_list.specs.List.{on_read, and_pairs, pairs_from, number_in, pair_number}
 use Rattle.pair_list.proofs.ListLaws.{ended, pairs_step, number_next}
 use Rattle.pairs.specs.declared.pair.Pair.{Pair}
 use Rattle.pairs.specs.declared.pair.Read.{Read}
@@ -43,7 +43,7 @@ after_from : (s : List ℕ) (k place : ℕ) → found_by (pair_at s (place_after
 unfolding place_after number_in
 after_from s zero place = rw (pairs_step s place) (go (pair_at s place))
   where
-    go : (r : Read) → found_by r ≡ number_in (onRead r (λ p next. and_pairs p (pairs_from s next)) ended).pairs 0
+    go : (r : Read) → found_by r ≡ number_in (on_read r (λ p next. and_pairs p (pairs_from s next)) ended).pairs 0
     go (Read.Pair p next) = refl
     go Read.End = refl
     go (Read.Malformed m) = refl
@@ -89,7 +89,7 @@ walk_stays w e = ap (λ (n : ℕ). record { list = w.list; place = n; refusal = 
 module _ (c : Conn) (store : List ℕ) (id : ℕ) where
   -- Of a request: the walk and pair by number give the same pairs, and are refused alike.
   pub walk_is_number : (k : ℕ) → pair_at_number c store id k
-      ≡ (if (walk c store id).refusal =? 0 then Of.onFound (found_by (pair_at (walk c store id).list (place_after (walk c store id).list k 0))) Of.PairIs (Of.PairRefused 7)
+      ≡ (if (walk c store id).refusal =? 0 then Of.on_found (found_by (pair_at (walk c store id).list (place_after (walk c store id).list k 0))) Of.PairIs (Of.PairRefused 7)
       else Of.PairRefused (walk c store id).refusal)
   walk_is_number k = pair_listed c store id k ∙ simp (walk_listed c store id, read_on_number)
 

@@ -1,10 +1,10 @@
 -- A place in a list of pairs, and the place past the pair there.
-use Rattle.std.specs.Prelude.{ℕ, zero, suc, ◌+◌, List}
+use Rattle.std.specs.Prelude.{ℕ, zero, suc, ◌+◌, List, if◌then◌else◌}
 use Rattle.pairs.specs.Pair.{pair_at}
-use Rattle.pair_list.specs.List.{onRead}
+use Rattle.pair_list.specs.List.{on_read}
 use Rattle.pairs.specs.declared.pair.Read.{Read}
 use Rattle.pair_list.specs.declared.Found.{Found}
-use Rattle.wire.specs.Test.{if◌then◌else◌, ◌=?◌}
+use Rattle.wire.specs.Test.{◌=?◌}
 use Rattle.connection.specs.declared.state.Conn.{Conn}
 use Rattle.connection.specs.Codes.{refusal_number}
 use Rattle.connection.specs.Calls.{walk}
@@ -13,7 +13,7 @@ use Rattle.call_walk.specs.declared.ReadFrom.{ReadFrom}
 
 -- The place past the pair at a place; the same place at the end and before a malformed pair.
 unfoldable pub past_at : List ℕ → ℕ → ℕ
-past_at s place = onRead (pair_at s place) (λ p next. next) (λ e. place)
+past_at s place = on_read (pair_at s place) (λ p next. next) (λ e. place)
 
 -- The place after k pairs, from a place on.
 unfoldable pub place_after : List ℕ → ℕ → ℕ → ℕ
@@ -22,7 +22,7 @@ place_after s (suc k) place = place_after s k (past_at s place)
 
 -- the pair that was read, if one was
 abbrev pub found_by : Read → Found
-found_by r = onRead r (λ p next. Found.At p) (λ e. Found.Nothing)
+found_by r = on_read r (λ p next. Found.At p) (λ e. Found.Nothing)
 
 -- The walk past the pair at its place.
 abbrev pub past_pair : Walk → Walk

@@ -1,7 +1,7 @@
 -- What the proofs of this crate share, and what a shape depends on.
 use Rattle.std.specs.Prelude.{ℕ, ◌+◌, ◌-◌, ◌≤◌, ◌<◌, ◌≡◌, refl, Bool, true, false, ltb, eqb}
 use Rattle.std.proofs.Common.{ap, arith, ltb-true, eq-eqb, ne_eqb}
-use Rattle.wire.specs.Test.{byTest}
+use Rattle.wire.specs.Test.{by_test}
 use Rattle.connection.specs.Sizes.{SLOTS}
 use Rattle.connection.specs.declared.state.Target.{Target}
 use Rattle.connection.specs.declared.state.Conn.{Conn}
@@ -11,7 +11,7 @@ use Rattle.conn_check.specs.Fits.{due_of, target_of, shape_of}
 -- content that fits is due to one of the slots
 pub due_slot : (occupied i : ℕ) → due_of occupied i ≡ true → i < SLOTS
 due_slot occupied i e =
-    byTest (ltb i SLOTS) (λ t. ltb-true i SLOTS t) (λ t. let z : ◌≡◌ {A = ℕ} 0 1 = cc (simp t at e) in absurd (omega arith))
+    by_test (ltb i SLOTS) (λ t. ltb-true i SLOTS t) (λ t. let z : ◌≡◌ {A = ℕ} 0 1 = cc (simp t at e) in absurd (omega arith))
 
 -- eight bytes, some of them gathered and some left
 pub eight : (gathered left : ℕ) → gathered ≤ 8 → left ≡ 8 - gathered → eqb (gathered + left) 8 ≡ true

@@ -1,7 +1,7 @@
 -- What the proofs of this crate share.
 use Rattle.std.specs.Prelude.{ℕ, ◌-◌, ◌≤◌, ◌<◌, min, ◌≡◌, List, length, take, ltb}
 use Rattle.std.proofs.Common.{sym, ap, subst, ◌∙◌, arith, take_all, ltb-true, ltb-false}
-use Rattle.wire.specs.Test.{byTest}
+use Rattle.wire.specs.Test.{by_test}
 use Rattle.record_reader.specs.declared.Position.{Position}
 use Rattle.connection.specs.declared.event.Stream.{Stream}
 use Rattle.connection.specs.declared.state.Table.{Table}
@@ -19,7 +19,7 @@ use Rattle.connection.specs.Decision.{open_state}
 -- a part of a list that ends where the list ends
 pub take_least : (n : ℕ) (l : List ℕ) (e : ℕ) → e ≡ min n (length l) → take (e - 0) l ≡ take n l
 take_least n l e h =
-    byTest (ltb (length l) n)
+    by_test (ltb (length l) n)
     (λ t.
     let k : length l < n = ltb-true (length l) n t in
     take_all (e - 0) l (omega arith) ∙ sym (take_all n l (omega arith)))

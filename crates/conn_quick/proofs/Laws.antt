@@ -3,7 +3,7 @@ use Rattle.std.specs.Prelude.{ℕ, ◌+◌, ◌≤◌, ◌<◌, min, ◌≡◌, 
 use Rattle.std.proofs.Common.{sym, ap, ◌∙◌, arith, length-take-le, get_or-take, ltb-true, leb-true, eqb-true, ne_eqb, eq-eqb}
 use Rattle.std.proofs.Math.ListN.{get_or-append}
 use Rattle.std.proofs.lemmas.List.{set-get_or}
-use Rattle.wire.specs.Test.{byTest}
+use Rattle.wire.specs.Test.{by_test}
 use Rattle.record.specs.Names.{VERSION}
 use Rattle.record.specs.Header.{header_of}
 use Rattle.record.specs.declared.header.Header.{Header}
@@ -23,7 +23,7 @@ use Rattle.connection.specs.Event.{Event}
 use Rattle.connection.specs.Decision.{open_state}
 use Rattle.connection.specs.Codes.{stream_type, stream_due}
 use Rattle.connection.specs.Request.{counts_on, is_spent, turn_type, on_stdin, on_data, on_input, on_live, on_header, Held, ruled}
-use Rattle.connection.specs.Slots.{no_standing, standing_of, request_at, put_request, held_at, find, onSlot}
+use Rattle.connection.specs.Slots.{no_standing, standing_of, request_at, put_request, held_at, find, on_slot}
 use Rattle.connection.proofs.Laws.SlotsLaws.{put_same, area_put_same, find_at}
 use Rattle.connection.specs.Fits.{InUse, Aimed}
 use Rattle.connection.specs.Fits.{HeaderFits}
@@ -89,7 +89,7 @@ pub content_shown : (t : Table) (f : Frame) (g s piece : List ℕ) → is_shown 
     leaves a.used (shows_of (stream_of f.target) (slot_of f.target) a.used t f g s a.position) ≡ advances (open_state t f g) s piece a)
 unfolding advances
 content_shown t f g s piece e =
-    byTest (ltb 0 f.position.content)
+    by_test (ltb 0 f.position.content)
     (λ l.
     let n = min f.position.content (length piece) in
     let q = less_content f.position n in
@@ -103,9 +103,9 @@ content_shown t f g s piece e =
 -- a piece that begins with a header
 pub headed : (p : Position) (n : ℕ) → is_headed p n ≡ true → (p.content ≡ 0) × (p.padding ≡ 0) × (p.held ≡ 0) × (8 ≤ n)
 headed p n e =
-    byTest (eqb p.content 0)
-    (λ a. byTest (eqb p.padding 0)
-    (λ b. byTest (eqb p.held 0)
+    by_test (eqb p.content 0)
+    (λ a. by_test (eqb p.padding 0)
+    (λ b. by_test (eqb p.held 0)
     (λ c. (eqb-true p.content 0 a, eqb-true p.padding 0 b, eqb-true p.held 0 c, leb-true 8 n (simp (a, b, c) at e)))
     (λ c. let z : ◌≡◌ {A = ℕ} 0 1 = cc (simp (a, b, c) at e) in absurd (omega arith)))
     (λ b. let z : ◌≡◌ {A = ℕ} 0 1 = cc (simp (a, b) at e) in absurd (omega arith)))
@@ -168,23 +168,23 @@ record Streams (t : Table) (h : Header) (i : ℕ) : Type 0 where
 streams : (t : Table) (h : Header) → is_stream (headed_to t h) ≡ true → (i : ℕ) × Streams t h i
 unfolding headed_to
 streams t h e =
-    byTest (eqb h.version VERSION)
-    (λ a. byTest (eqb h.id 0)
+    by_test (eqb h.version VERSION)
+    (λ a. by_test (eqb h.id 0)
     (λ b. let z : ◌≡◌ {A = ℕ} 0 1 = cc (simp (a, b) at e) in absurd (omega arith))
-    (λ b. byTest (eqb h.content 0)
+    (λ b. by_test (eqb h.content 0)
     (λ c. let z : ◌≡◌ {A = ℕ} 0 1 = cc (simp (a, b, c) at e) in absurd (omega arith))
     (λ c. found a b c (find t h.id) refl (simp (a, b, c) at e))))
     (λ a. let z : ◌≡◌ {A = ℕ} 0 1 = cc (simp a at e) in absurd (omega arith))
   where
     found : eqb h.version VERSION ≡ true → eqb h.id 0 ≡ false → eqb h.content 0 ≡ false
-        → (w : Slot) → find t h.id ≡ w → is_stream (onSlot w (λ i. goes_to (standing_of (request_at t i).state) h.kind i) Target.Skip) ≡ true
+        → (w : Slot) → find t h.id ≡ w → is_stream (on_slot w (λ i. goes_to (standing_of (request_at t i).state) h.kind i) Target.Skip) ≡ true
         → (i : ℕ) × Streams t h i
     found a b c Slot.Nowhere s e' = let z : ◌≡◌ {A = ℕ} 0 1 = cc in absurd (omega arith)
     found a b c (Slot.At i) s e' =
         let m = (request_at t i).state in
-        byTest (is_spent m.life)
+        by_test (is_spent m.life)
         (λ l. let z : ◌≡◌ {A = ℕ} 0 1 = cc (simp l at e') in absurd (omega arith))
-        (λ l. byTest (eqb h.kind (turn_type m.turn))
+        (λ l. by_test (eqb h.kind (turn_type m.turn))
         (λ k. (
           i,
           record {

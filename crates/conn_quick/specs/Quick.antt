@@ -1,7 +1,7 @@
 -- Steps that change the frame and at most a count: content of STDIN or DATA, and a header that goes on with such a
 -- stream. Nothing in this file is a rule: `Laws` shows that these are steps of the rules. Here `Target.Skip` means that there is no quick way.
-use Rattle.std.specs.Prelude.{ℕ, Bool, true, false}
-use Rattle.wire.specs.Test.{if◌then◌else◌, ◌<?◌, ◌≤?◌, ◌=?◌}
+use Rattle.std.specs.Prelude.{ℕ, Bool, true, false, if◌then◌else◌}
+use Rattle.wire.specs.Test.{◌<?◌, ◌≤?◌, ◌=?◌}
 use Rattle.record.specs.Names.{VERSION}
 use Rattle.record.specs.declared.header.Header.{Header}
 use Rattle.record_reader.specs.declared.Position.{Position}
@@ -11,7 +11,7 @@ use Rattle.connection.specs.declared.request.Standing.{Standing}
 use Rattle.connection.specs.declared.state.Table.{Table}
 use Rattle.connection.specs.declared.state.Target.{Target}
 use Rattle.connection.specs.Request.{is_spent, turn_type}
-use Rattle.connection.specs.Slots.{standing_of, request_at, find, onSlot}
+use Rattle.connection.specs.Slots.{standing_of, request_at, find, on_slot}
 
 abbrev pub is_stream : Target → Bool
 is_stream Target.Skip = false
@@ -63,7 +63,7 @@ headed_to t h =
     if h.version =? VERSION then
     (if h.id =? 0 then Target.Skip
     else if h.content =? 0 then Target.Skip
-    else onSlot (find t h.id) (λ i. goes_to (standing_of (request_at t i).state) h.kind i) Target.Skip)
+    else on_slot (find t h.id) (λ i. goes_to (standing_of (request_at t i).state) h.kind i) Target.Skip)
     else Target.Skip
 
 -- between two records, a piece of so many bytes begins with a whole header

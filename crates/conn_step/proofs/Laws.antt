@@ -1,7 +1,7 @@
 -- What the proofs of this crate share.
 use Rattle.std.specs.Prelude.{ℕ, ◌+◌, ◌-◌, ◌≤◌, min, ◌≡◌, Bool, true, List, length, ltb, leb}
 use Rattle.std.proofs.Common.{sym, ap, arith}
-use Rattle.wire.specs.Test.{byTest}
+use Rattle.wire.specs.Test.{by_test}
 use Rattle.record_reader.specs.declared.Position.{Position}
 use Rattle.record_reader.specs.Position.{in_header, advanced}
 use Rattle.connection.specs.declared.state.Conn.{Conn}
@@ -12,13 +12,13 @@ use Rattle.connection.specs.Step.{open_with}
 pub used_fits : (p : Position) (x : List ℕ) → Placed p → ((advanced p x).used ≤ length x) × ((advanced p x).used ≤ 65535)
 unfolding advanced in_header
 used_fits p x h =
-    byTest (ltb 0 p.content)
+    by_test (ltb 0 p.content)
     (λ t. simp t (omega (arith, h), omega (arith, h)))
-    (λ t. byTest (ltb 0 p.padding)
+    (λ t. by_test (ltb 0 p.padding)
     (λ u. simp (t, u) (omega (arith, h), omega (arith, h)))
-    (λ u. byTest (leb 8 p.held)
+    (λ u. by_test (leb 8 p.held)
     (λ v. simp (t, u, v) (omega arith, omega arith))
-    (λ v. byTest (ltb (p.held + min (8 - p.held) (length x)) 8)
+    (λ v. by_test (ltb (p.held + min (8 - p.held) (length x)) 8)
     (λ w. simp (t, u, v, w) (omega arith, omega arith))
     (λ w. simp (t, u, v, w) (omega arith, omega arith)))))
 

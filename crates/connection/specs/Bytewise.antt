@@ -1,6 +1,6 @@
 -- What bytes come to when they are fed one at a time, and what they come to in steps.
-use Rattle.std.specs.Prelude.{ℕ, zero, suc, List, [], ◌∷◌, ◌++◌, length, take, drop}
-use Rattle.wire.specs.Test.{if◌then◌else◌, ◌=?◌}
+use Rattle.std.specs.Prelude.{ℕ, zero, suc, List, [], ◌∷◌, ◌++◌, length, take, drop, if◌then◌else◌}
+use Rattle.wire.specs.Test.{◌=?◌}
 use Rattle.connection.specs.Event.{Event}
 use Rattle.connection.specs.Step.{State, Stepped, step_refusal, stepped}
 

@@ -1,6 +1,6 @@
 -- The calls from the station program: refusals, then the request that is named answers.
-use Rattle.std.specs.Prelude.{ℕ, Bool, true, false, not, List, [], ◌∷◌, ◌++◌, length}
-use Rattle.wire.specs.Test.{if◌then◌else◌, ◌<?◌, ◌=?◌}
+use Rattle.std.specs.Prelude.{ℕ, Bool, true, false, not, List, [], ◌∷◌, ◌++◌, length, if◌then◌else◌}
+use Rattle.wire.specs.Test.{◌<?◌, ◌=?◌}
 use Rattle.wire.specs.Buffer.{put_at, zeros}
 use Rattle.slot_word.specs.Word.{taken_count}
 use Rattle.record.specs.Names.{END_REQUEST, GET_VALUES_RESULT, UNKNOWN_TYPE}
@@ -15,7 +15,7 @@ use Rattle.connection.specs.Sizes.{SLOTS, STORE}
 use Rattle.connection.specs.Event.{Event}
 use Rattle.connection.specs.Refusal.{◌when◌, refusal}
 use Rattle.connection.specs.RequestCalls as Of
-use Rattle.connection.specs.Slots.{request_at, area_at, held_at, put_request, put_area, free_slot, find, onSlot, is_found}
+use Rattle.connection.specs.Slots.{request_at, area_at, held_at, put_request, put_area, free_slot, find, on_slot, is_found}
 use Rattle.connection.specs.Shape.{in_shape}
 use Rattle.connection.specs.Step.{MAX_CONNS, MAX_REQS, MPXS_CONNS, closed_conn}
 
@@ -39,7 +39,7 @@ count_refusal c = refusal ((9 when not (in_shape c)) ∷ (1 when not c.«open»)
 
 -- The slot of an id that is active.
 abbrev pub slot_of : Conn → ℕ → ℕ
-slot_of c id = onSlot (find c.table id) (λ i. i) SLOTS
+slot_of c id = on_slot (find c.table id) (λ i. i) SLOTS
 
 -- ---- calls that read: value, its sister, pair by number, walk, and what the request is
 unfoldable pub value : Conn → List ℕ → ℕ → List ℕ → List ℕ → List ℕ

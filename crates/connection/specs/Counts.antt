@@ -1,7 +1,7 @@
 -- How much of R's input was shown, told from what is observed of a run.
-use Rattle.std.specs.Prelude.{ℕ, ◌≡◌, List, [], ◌∷◌}
+use Rattle.std.specs.Prelude.{ℕ, ◌≡◌, List, [], ◌∷◌, if◌then◌else◌}
 use Rattle.std.proofs.Math.Option.{some}
-use Rattle.wire.specs.Test.{if◌then◌else◌, ◌=?◌}
+use Rattle.wire.specs.Test.{◌=?◌}
 use Rattle.record.specs.Names.{STDIN, DATA}
 use Rattle.connection.specs.Event.{Event}
 use Rattle.connection.specs.Request.{Held, counted}

@@ -6,9 +6,9 @@
 --
 -- Content is skipped while R takes no PARAMS. R takes them from its opening on, until it is ready, is aborted, faults
 -- or is finished, or the connection closes.
-use Rattle.std.specs.Prelude.{List, [], ◌∷◌, ◌++◌, Bool, true, false, ℕ, zero, suc, length}
+use Rattle.std.specs.Prelude.{List, [], ◌∷◌, ◌++◌, Bool, true, false, ℕ, zero, suc, length, if◌then◌else◌}
 use Rattle.std.proofs.Math.Option.{Option, none, some}
-use Rattle.wire.specs.Test.{if◌then◌else◌, ◌=?◌, ◌<?◌}
+use Rattle.wire.specs.Test.{◌=?◌, ◌<?◌}
 use Rattle.record.specs.Names.{PARAMS}
 use Rattle.machine.specs.Timeline.{header_type, header_id, header_content, header_padding, Scan, ScanHeader, ScanRest, scan_left}
 use Rattle.connection.specs.Event.{Event}

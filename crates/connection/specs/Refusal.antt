@@ -1,7 +1,7 @@
 -- When the station says no: the table's numbers in their one order. A call names its own rows and takes the first
 -- that holds.
-use Rattle.std.specs.Prelude.{ℕ, Bool, false, List, [], ◌∷◌}
-use Rattle.wire.specs.Test.{if◌then◌else◌, ◌=?◌}
+use Rattle.std.specs.Prelude.{ℕ, Bool, false, List, [], ◌∷◌, if◌then◌else◌}
+use Rattle.wire.specs.Test.{◌=?◌}
 
 abbrev pub refusal_order : List ℕ
 refusal_order = 2 ∷ 9 ∷ 1 ∷ 3 ∷ 4 ∷ 5 ∷ 7 ∷ 8 ∷ 6 ∷ 10 ∷ []

@@ -1,8 +1,8 @@
 -- The rules for one request. They see the request's record and its own area, and nothing else: no slot, no other
 -- request.
-use Rattle.std.specs.Prelude.{ℕ, ◌+◌, Bool, true, false, not, List, [], ◌∷◌, length, take}
+use Rattle.std.specs.Prelude.{ℕ, ◌+◌, Bool, true, false, not, List, [], ◌∷◌, length, take, if◌then◌else◌}
 use Rattle.std.proofs.Math.Option.{Option, none, some}
-use Rattle.wire.specs.Test.{if◌then◌else◌, ◌<?◌, ◌≤?◌, ◌=?◌}
+use Rattle.wire.specs.Test.{◌<?◌, ◌≤?◌, ◌=?◌}
 use Rattle.wire.specs.Buffer.{copied, zeros}
 use Rattle.record.specs.Names.{BEGIN_REQUEST, ABORT_REQUEST, PARAMS, STDIN, DATA}
 use Rattle.pair_list.specs.List.{well_formed, broken_at}

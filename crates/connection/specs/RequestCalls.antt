@@ -1,6 +1,6 @@
 -- What a call answers for one request: from its record, its own area and the call's arguments, and nothing else.
-use Rattle.std.specs.Prelude.{ℕ, Bool, true, false, not, List, [], ◌∷◌, ◌++◌, length}
-use Rattle.wire.specs.Test.{if◌then◌else◌, ◌<?◌, ◌=?◌}
+use Rattle.std.specs.Prelude.{ℕ, Bool, true, false, not, List, [], ◌∷◌, ◌++◌, length, if◌then◌else◌}
+use Rattle.wire.specs.Test.{◌<?◌, ◌=?◌}
 use Rattle.wire.specs.Buffer.{put_at}
 use Rattle.record.specs.Names.{STDOUT, STDERR, END_REQUEST, REQUEST_COMPLETE}
 use Rattle.record.specs.Body.{end_body_bytes}
@@ -36,15 +36,15 @@ abbrev pub no_list : Request → Bool
 no_list r = if in_params r.state.turn then true else is_faulted r.state.life
 
 -- with the pair found, or else
-abbrev pub onFound {ℓ} : {A : Type ℓ} → Found → (Pair → A) → A → A
-onFound (Found.At p) f other = f p
-onFound Found.Nothing f other = other
+abbrev pub on_found {ℓ} : {A : Type ℓ} → Found → (Pair → A) → A → A
+on_found (Found.At p) f other = f p
+on_found Found.Nothing f other = other
 
 -- Value by name: the first matching pair's value, or else the fallback, also when refused.
 unfoldable pub value_in : Held → List ℕ → List ℕ → List ℕ
 value_in h name fallback =
     if no_list h.request then fallback
-    else onFound (first_named (list_of h) name) (value_of (list_of h)) fallback
+    else on_found (first_named (list_of h) name) (value_of (list_of h)) fallback
 
 -- Its sister call: the refusal's number, or whether the value is the store's.
 pub data Source : Type 0 where
@@ -55,7 +55,7 @@ pub data Source : Type 0 where
 unfoldable pub source_in : Held → List ℕ → Source
 source_in h name =
     if no_list h.request then SourceRefused 4
-    else onFound (first_named (list_of h) name) (λ p. FromStore) FromFallback
+    else on_found (first_named (list_of h) name) (λ p. FromStore) FromFallback
 
 -- The pair of number k, its offsets counted in the request's area. Row 7: there is none.
 pub data Numbered : Type 0 where
@@ -63,7 +63,7 @@ pub data Numbered : Type 0 where
   PairRefused : ℕ → Numbered
 
 unfoldable pub pair_in : Held → ℕ → Numbered
-pair_in h k = if no_list h.request then PairRefused 4 else onFound (pair_number (list_of h) k) PairIs (PairRefused 7)
+pair_in h k = if no_list h.request then PairRefused 4 else on_found (pair_number (list_of h) k) PairIs (PairRefused 7)
 
 -- The walk: the request's list, and the place 0; refused, no bytes and the number.
 pub record Walk : Type 0 where

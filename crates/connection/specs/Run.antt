@@ -1,12 +1,12 @@
 -- Runs of the receiver: from a start, steps over pieces of any length and calls, in any order. Definitions only.
-use Rattle.std.specs.Prelude.{◌≡◌, List, [], ◌∷◌, ◌++◌, map, ℕ, zero, suc, length, take, drop}
+use Rattle.std.specs.Prelude.{◌≡◌, List, [], ◌∷◌, ◌++◌, map, ℕ, zero, suc, length, take, drop, if◌then◌else◌}
 use Rattle.std.proofs.Math.Option.{Option, none, some}
-use Rattle.wire.specs.Test.{if◌then◌else◌, ◌=?◌}
+use Rattle.wire.specs.Test.{◌=?◌}
 use Rattle.machine.specs.Timeline.{RequestCall, CountCall, Item, CallItem, byte_items}
 use Rattle.connection.specs.declared.state.Conn.{Conn}
 use Rattle.connection.specs.Event.{Event}
 use Rattle.connection.specs.Request.{Held}
-use Rattle.connection.specs.Slots.{held_at, find, onSlot}
+use Rattle.connection.specs.Slots.{held_at, find, on_slot}
 use Rattle.connection.specs.Step.{State, Stepped, stepped, started}
 use Rattle.connection.specs.Calls as C
 use Rattle.connection.specs.Bytewise.{Note, notes}
@@ -34,7 +34,7 @@ pub data Observed : Type 0 where
 -- the request of an id with its whole area, if the connection is open and the id is active
 unfoldable pub request_of : ℕ → Memory → Option Held
 request_of id m =
-    if m.state.conn.«open» then onSlot (find m.state.conn.table id) (λ i. some (held_at m.state.conn.table m.store i)) none
+    if m.state.conn.«open» then on_slot (find m.state.conn.table id) (λ i. some (held_at m.state.conn.table m.store i)) none
     else none
 
 -- ---- one operation

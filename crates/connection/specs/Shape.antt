@@ -1,6 +1,6 @@
 -- Row 9: a state out of shape, condition by condition.
-use Rattle.std.specs.Prelude.{ℕ, zero, suc, ◌+◌, Bool, true, false, not, List, get_or}
-use Rattle.wire.specs.Test.{if◌then◌else◌, ◌<?◌, ◌≤?◌, ◌=?◌}
+use Rattle.std.specs.Prelude.{ℕ, zero, suc, ◌+◌, Bool, true, false, not, List, get_or, if◌then◌else◌}
+use Rattle.wire.specs.Test.{◌<?◌, ◌≤?◌, ◌=?◌}
 use Rattle.slot_word.specs.Word.{taken}
 use Rattle.record_reader.specs.declared.Position.{Position}
 use Rattle.connection.specs.declared.state.Table.{Table}

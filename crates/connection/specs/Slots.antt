@@ -1,6 +1,6 @@
 -- The slots: the request and the area of each, the slot of an id, the slots that are taken.
-use Rattle.std.specs.Prelude.{ℕ, zero, suc, ◌+◌, ◌*◌, Bool, true, false, List, ◌++◌, take, drop, get_or, set, replicate}
-use Rattle.wire.specs.Test.{if◌then◌else◌, ◌=?◌}
+use Rattle.std.specs.Prelude.{ℕ, zero, suc, ◌+◌, ◌*◌, Bool, true, false, List, ◌++◌, take, drop, get_or, set, replicate, if◌then◌else◌}
+use Rattle.wire.specs.Test.{◌=?◌}
 use Rattle.slot_word.specs.Word.{taken, lowest_free, with_slot, without_slot, marked}
 use Rattle.connection.specs.declared.request.Role.{Role}
 use Rattle.connection.specs.declared.request.Turn.{Turn}
@@ -126,9 +126,9 @@ find_from (suc n) ids occupied id i = if holds_id ids occupied id i then Slot.At
 abbrev pub find : Table → ℕ → Slot
 find t id = find_from SLOTS t.ids t.occupied id 0
 
-abbrev pub onSlot {ℓ} : {A : Type ℓ} → Slot → (ℕ → A) → A → A
-onSlot (Slot.At i) f other = f i
-onSlot Slot.Nowhere f other = other
+abbrev pub on_slot {ℓ} : {A : Type ℓ} → Slot → (ℕ → A) → A → A
+on_slot (Slot.At i) f other = f i
+on_slot Slot.Nowhere f other = other
 
 abbrev pub is_found : Slot → Bool
 is_found (Slot.At i) = true

@@ -1,6 +1,6 @@
 -- Start, and one step.
-use Rattle.std.specs.Prelude.{ℕ, ◌+◌, Bool, true, false, not, List, [], ◌∷◌, length, take}
-use Rattle.wire.specs.Test.{if◌then◌else◌, ◌<?◌, ◌=?◌}
+use Rattle.std.specs.Prelude.{ℕ, ◌+◌, Bool, true, false, not, List, [], ◌∷◌, length, take, if◌then◌else◌}
+use Rattle.wire.specs.Test.{◌<?◌, ◌=?◌}
 use Rattle.wire.specs.Buffer.{zeros, copied}
 use Rattle.record.specs.Names.{VERSION, BEGIN_REQUEST, GET_VALUES, RESPONDER, AUTHORIZER, FILTER, OVERLOADED, UNKNOWN_ROLE}
 use Rattle.record.specs.Body.{begin_body_of}
@@ -23,7 +23,7 @@ use Rattle.connection.specs.Event.{Event}
 use Rattle.connection.specs.Codes.{role_number}
 use Rattle.connection.specs.Refusal.{◌when◌, refusal}
 use Rattle.connection.specs.Request.{Held, Ruled, on_header, on_content, opened}
-use Rattle.connection.specs.Slots.{held_at, put_request, put_area, take_slot, free_slot_of, no_requests, find, onSlot}
+use Rattle.connection.specs.Slots.{held_at, put_request, put_area, take_slot, free_slot_of, no_requests, find, on_slot}
 use Rattle.connection.specs.Shape.{in_shape}
 
 -- The state: the connection's value, and the gathered bytes of a query, which are lent beside it.
@@ -149,14 +149,14 @@ unfoldable pub judged : State → List ℕ → Header → Left
 judged st store h =
     if h.version =? VERSION then
     (if h.id =? 0 then on_management st store h
-    else onSlot (find st.conn.table h.id) (on_active st store h) (on_inactive st store h))
+    else on_slot (find st.conn.table h.id) (on_active st store h) (on_inactive st store h))
     else closes st store (Plain 11)
 
 -- ---- content bytes; p is the position after them
 -- A BEGIN body's eighth byte: an unknown role is refused by 3, else no free slot by 2 (house rule); else the request is
 -- opened in the lowest-numbered free slot. A refused opening never closes the connection (house rule).
-abbrev pub onRole {ℓ} : {A : Type ℓ} → ℕ → (Role → A) → A → A
-onRole n f other =
+abbrev pub on_role : {A : Type 0} → ℕ → (Role → A) → A → A
+on_role n f other =
     if n =? RESPONDER then f Role.Responder
     else if n =? AUTHORIZER then f Role.Authorizer
     else if n =? FILTER then f Role.Filter
@@ -174,7 +174,7 @@ opens st store id b role f =
 
 unfoldable pub begun : State → List ℕ → ℕ → BeginBody → Frame → Left
 begun st store id b f =
-    onRole b.role (λ role. opens st store id b role f) (reads st store f (Event.Refuse id UNKNOWN_ROLE))
+    on_role b.role (λ role. opens st store id b role f) (reads st store f (Event.Refuse id UNKNOWN_ROLE))
 
 -- A BEGIN body is gathered in the frame.
 unfoldable pub of_begin : State → List ℕ → ℕ → List ℕ → Position → Left

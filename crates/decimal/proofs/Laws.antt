@@ -2,13 +2,13 @@
 use Rattle.std.specs.Prelude.{ℕ, zero, suc, ◌+◌, ◌*◌, ◌≤◌, ◌<◌, ◌≡◌, refl, true, false, List, length, drop, get_or, ltb}
 use Rattle.std.proofs.Common.{arith, drop_of_length-le, drop-cons, ltb-false, leb-true}
 use Rattle.std.proofs.Math.Option.{none, some}
-use Rattle.wire.specs.Test.{byTest}
+use Rattle.wire.specs.Test.{by_test}
 use Rattle.decimal.specs.Decimal.{is_digit, digit_value, digits_after}
 
 -- A digit's byte.
 pub digit_byte : (byte : ℕ) → is_digit byte ≡ true → (48 ≤ byte) × (byte ≤ 57)
 digit_byte byte h =
-    byTest (ltb byte 48)
+    by_test (ltb byte 48)
     (λ t. let z : ◌≡◌ {A = ℕ} 0 1 = cc (simp t at h) in absurd (omega arith))
     (λ t. (ltb-false byte 48 t, leb-true byte 57 (simp t at h)))
 

@@ -3,7 +3,7 @@ use Rattle.std.specs.Prelude.{ℕ, zero, suc, ◌+◌, ◌*◌, ◌/◌, ◌%◌
 use Rattle.std.proofs.Common.{ap, ◌∙◌, arith, length-append, lt-ltb, le-ltb, ltb-true, ltb-false, le-leb}
 use mathlib.Core.List.{List, [], ◌∷◌, ◌++◌, flatten}
 use Rattle.std.proofs.lemmas.Bool.{lt-leb}
-use Rattle.wire.specs.Test.{byTest, ◌<?◌}
+use Rattle.wire.specs.Test.{by_test, ◌<?◌}
 use Rattle.wire.specs.Buffer.{copied}
 use Rattle.wire.proofs.BufferLaws.{copied_room}
 use Rattle.record_writer.specs.Written.{Placed}
@@ -16,7 +16,7 @@ unfolding decimal_in
 enough zero j n h g = absurd (omega arith)
 enough (suc k) zero n h g = absurd (omega arith)
 enough (suc k) (suc j) n h g =
-    byTest (n <? 10) (λ t. simp t)
+    by_test (n <? 10) (λ t. simp t)
     (λ t. let m : 10 ≤ n = ltb-false n 10 t in
     simp t (ap (λ (l : List ℕ). l ++ (digit (n % 10) ∷ [])) (enough k j (n / 10) (omega arith) (omega arith))))
 
@@ -37,7 +37,7 @@ decimal_size n h = ap length (decimal_more n h) ∙ simp length-append
 -- ten times the number is one digit more
 longer : (m k : ℕ) → ((n : ℕ) → n < m → length (decimal n) ≤ k) → 1 ≤ k → (n : ℕ) → n < m * 10 → length (decimal n) ≤ k + 1
 longer m k short h n less =
-    byTest (n <? 10)
+    by_test (n <? 10)
     (λ t. omega (arith, ap length (decimal_one n (ltb-true n 10 t))))
     (λ t. omega (arith, short (n / 10) (omega arith), decimal_size n (ltb-false n 10 t)))
 

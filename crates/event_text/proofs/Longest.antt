@@ -1,7 +1,7 @@
 -- A line is at most LONGEST bytes long.
 use Rattle.std.specs.Prelude.{ℕ, ◌+◌, ◌≤◌, ◌<◌, ◌≡◌, Bool, true, false, List, [], ◌∷◌, length}
 use Rattle.std.proofs.Common.{arith, length-append, le-leb}
-use Rattle.wire.specs.Test.{byTest, ◌=?◌}
+use Rattle.wire.specs.Test.{by_test, ◌=?◌}
 use Rattle.wire.specs.Buffer.{put_at}
 use Rattle.record_writer.specs.Written.{Placed}
 use Rattle.record.specs.Names.{RESPONDER, AUTHORIZER, STDIN}
@@ -43,10 +43,10 @@ three_fields w x y z h = simp length-append (omega arith)
 -- words
 role_short : (role : ℕ) → length (role_word role) ≤ 10
 role_short role =
-    byTest (role =? RESPONDER) (λ t. simp t (omega arith)) (λ t. byTest (role =? AUTHORIZER) (λ u. simp (t, u) (omega arith)) (λ u. simp (t, u) (omega arith)))
+    by_test (role =? RESPONDER) (λ t. simp t (omega arith)) (λ t. by_test (role =? AUTHORIZER) (λ u. simp (t, u) (omega arith)) (λ u. simp (t, u) (omega arith)))
 
 stream_short : (stream : ℕ) → length (stream_word stream) ≤ 5
-stream_short stream = byTest (stream =? STDIN) (λ t. simp t (omega arith)) (λ t. simp t (omega arith))
+stream_short stream = by_test (stream =? STDIN) (λ t. simp t (omega arith)) (λ t. simp t (omega arith))
 
 kept_short : (keep : Bool) → length (kept_word keep) ≤ 4
 kept_short true = omega arith

@@ -1,7 +1,7 @@
 -- The text of events: one line for an event, and one for each byte of a data event.
-use Rattle.std.specs.Prelude.{ℕ, zero, suc, ◌+◌, ◌-◌, ◌/◌, ◌%◌, Bool, true, false, length}
+use Rattle.std.specs.Prelude.{ℕ, zero, suc, ◌+◌, ◌-◌, ◌/◌, ◌%◌, Bool, true, false, length, if◌then◌else◌}
 use mathlib.Core.List.{List, [], ◌∷◌, ◌++◌, map, flatten}
-use Rattle.wire.specs.Test.{if◌then◌else◌, ◌<?◌, ◌=?◌}
+use Rattle.wire.specs.Test.{◌<?◌, ◌=?◌}
 use Rattle.wire.specs.Buffer.{has_room}
 use Rattle.record_writer.specs.Written.{Placed, placed}
 use Rattle.record.specs.Names.{RESPONDER, AUTHORIZER, STDIN}

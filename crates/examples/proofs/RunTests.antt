@@ -1,8 +1,8 @@
 -- Tests of the premises of isolation and of any shuffle, for runs that are written out.
-use Rattle.std.specs.Prelude.{◌≡◌, refl, Bool, true, false, ℕ, zero, suc, ◌≤◌, length, drop, eqb, ltb}
+use Rattle.std.specs.Prelude.{◌≡◌, refl, Bool, true, false, ℕ, zero, suc, ◌≤◌, length, drop, eqb, ltb, if◌then◌else◌}
 use Rattle.std.proofs.Common.{ap, ◌∙◌, arith, drop_of_length-le, eq-eqb, eqb-true, ltb-true}
 use mathlib.Core.List.{List, [], ◌∷◌, Memᴰ}
-use Rattle.wire.specs.Test.{if◌then◌else◌, ◌<?◌, ◌=?◌}
+use Rattle.wire.specs.Test.{◌<?◌, ◌=?◌}
 use Rattle.record.specs.Split.{front_length, whole_front, front, ◌then-split◌, split_in, split}
 use Rattle.record.proofs.SplitLaws.{split_whole}
 use Rattle.machine.specs.Timeline.{Item, ByteItem, CallItem, item_bytes, is_own_call}

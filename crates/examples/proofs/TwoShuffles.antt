@@ -5,7 +5,7 @@ use Rattle.std.proofs.Common.{ap, sym, ◌∙◌, subst, eqb-true}
 use mathlib.Core.List.{List, [], ◌∷◌, ◌++◌, flatten}
 use Rattle.std.proofs.Math.Option.{Option, none, some}
 use Rattle.std.proofs.lemmas.List.{length-replicate}
-use Rattle.wire.specs.Test.{byTest}
+use Rattle.wire.specs.Test.{by_test}
 use Rattle.wire.specs.Number.{number4}
 use Rattle.wire.specs.Buffer.{copied, zeros}
 use Rattle.slot_word.specs.Word.{taken, lowest_free, with_bit, with_slot, without_bit, without_slot}
@@ -352,9 +352,9 @@ whole_b = whole_parts_lem parts_b refl
 same_own : (R : ℕ) → own_of R parts_a ≡ own_of R parts_b
 unfolding own_of own_in byte_items is_own_call names names_in
 same_own R =
-    byTest (eqb 1 R) (λ e. same 1 e refl)
-    (λ e. byTest (eqb 2 R) (λ f. same 2 f refl)
-    (λ f. byTest (eqb 3 R) (λ g. same 3 g refl)
+    by_test (eqb 1 R) (λ e. same 1 e refl)
+    (λ e. by_test (eqb 2 R) (λ f. same 2 f refl)
+    (λ f. by_test (eqb 3 R) (λ g. same 3 g refl)
     (λ g. nothing_of R parts_a (simp (e, f, g)) ∙ sym (nothing_of R parts_b (simp (e, f, g))))))
   where
     same : (id : ℕ) → eqb id R ≡ true → own_of id parts_a ≡ own_of id parts_b → own_of R parts_a ≡ own_of R parts_b

@@ -2,7 +2,7 @@
 use Rattle.std.specs.Prelude.{ℕ, zero, suc, ◌+◌, ◌-◌, ◌≤◌, ◌<◌, ◌≡◌, refl, List, length, take, drop, eqb, leb}
 use Rattle.std.proofs.Common.{sym, ap, ◌∙◌, subst, arith, length-take, leb-false, eq-eqb, ne_eqb, le-leb}
 use Rattle.std.proofs.lemmas.Bool.{eqb-false, lt-leb}
-use Rattle.wire.specs.Test.{byTest}
+use Rattle.wire.specs.Test.{by_test}
 use Rattle.connection.specs.Step.{State, Stepped, stepped}
 use Rattle.connection.proofs.Laws.Progress.{step_uses_no_more}
 use Rattle.digest.specs.Digest.{mixed, next_end}
@@ -16,13 +16,13 @@ enough zero zero st store input piece at end sum h g = refl
 enough zero (suc j) st store input piece at end sum h g = simp (le-leb (length input) at (omega arith))
 enough (suc k) zero st store input piece at end sum h g = simp (le-leb (length input) at (omega arith))
 enough (suc k) (suc j) st store input piece at end sum h g =
-    byTest (leb (length input) at)
+    by_test (leb (length input) at)
     (λ t. simp t)
     (λ t.
     let l = leb-false (length input) at t in
     let e = next_end at end piece (length input) in
     let s = stepped st store (take (e - at) (drop at input)) in
-    byTest (eqb s.used 0)
+    by_test (eqb s.used 0)
     (λ u. simp (t, u))
     (λ u.
     let some = eqb-false s.used 0 u in

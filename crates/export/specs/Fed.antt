@@ -1,6 +1,6 @@
 -- A whole input fed to a fresh connection in pieces of one size, and one number of all that its steps told.
-use Rattle.std.specs.Prelude.{ℕ, zero, suc, ◌+◌, ◌-◌, List, length, take, drop}
-use Rattle.wire.specs.Test.{if◌then◌else◌, ◌≤?◌, ◌=?◌}
+use Rattle.std.specs.Prelude.{ℕ, zero, suc, ◌+◌, ◌-◌, List, length, take, drop, if◌then◌else◌}
+use Rattle.wire.specs.Test.{◌≤?◌, ◌=?◌}
 use Rattle.wire.specs.Buffer.{zeros}
 use Rattle.connection.specs.Step.{State, state_of, stepped, started}
 use Rattle.digest.specs.Digest.{mixed, next_end}

@@ -1,7 +1,7 @@
 -- What the code leaves is what the exported call leaves, by the equations of what it calls.
-use Rattle.std.specs.Prelude.{ℕ, ◌≡◌, true, false, List, [], length}
+use Rattle.std.specs.Prelude.{ℕ, ◌≡◌, true, false, List, [], length, if◌then◌else◌}
 use Rattle.std.proofs.Common.{sym, ap, ◌∙◌}
-use Rattle.wire.specs.Test.{if◌then◌else◌, ◌=?◌}
+use Rattle.wire.specs.Test.{◌=?◌}
 use Rattle.connection.specs.declared.state.Conn.{Conn}
 use Rattle.connection.specs.declared.answer.Started.{Started as Began}
 use Rattle.connection.specs.declared.answer.Stepped.{Stepped as Step}

@@ -1,7 +1,6 @@
 -- The exported calls that ask for a request's parameters, for what a request is, and for how many are active. A state
 -- with an unknown code is refused by 9.
-use Rattle.std.specs.Prelude.{ℕ, List, []}
-use Rattle.wire.specs.Test.{if◌then◌else◌}
+use Rattle.std.specs.Prelude.{ℕ, List, [], if◌then◌else◌}
 use Rattle.queue.specs.Calls.{QueueMemory, lent, queue_pair, queue_request, queue_count}
 use Rattle.queue_list.specs.Places.{queue_read_from}
 use Rattle.queue_place.specs.Lies.{value_lies, list_lies}

@@ -1,7 +1,6 @@
 -- The exported calls of readings in a body and of their correction. A reader with an unknown code is refused by 9, and
 -- stays as it came; a card of an unknown kind is refused by 43.
-use Rattle.std.specs.Prelude.{ℕ, List, ℤ}
-use Rattle.wire.specs.Test.{if◌then◌else◌}
+use Rattle.std.specs.Prelude.{ℕ, List, ℤ, if◌then◌else◌}
 use Rattle.reading_reader.specs.Reader.{fresh_reader, read_on, body_end}
 use Rattle.reading_writer.specs.Written.{Written, reading_written}
 use Rattle.ice_correction.specs.Correction.{corrected}

@@ -1,7 +1,7 @@
 -- The exported calls that read the connection, each with all that it leaves. A state with an unknown code is refused by
 -- 9, and everything stays as it came.
-use Rattle.std.specs.Prelude.{ℕ, List, [], length}
-use Rattle.wire.specs.Test.{if◌then◌else◌, ◌=?◌}
+use Rattle.std.specs.Prelude.{ℕ, List, [], length, if◌then◌else◌}
+use Rattle.wire.specs.Test.{◌=?◌}
 use Rattle.connection.specs.declared.state.Conn.{Conn}
 use Rattle.connection.specs.Sizes.{STORE}
 use Rattle.connection.specs.Step.{Stepped, started}

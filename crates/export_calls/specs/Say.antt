@@ -1,8 +1,7 @@
 -- The exported calls that write straight out, and those that take no connection, each with all that it leaves. A state
 -- or an event with an unknown code, and a number that is no output stream's, are refused by 9, and everything stays as
 -- it came.
-use Rattle.std.specs.Prelude.{ℕ, List, []}
-use Rattle.wire.specs.Test.{if◌then◌else◌}
+use Rattle.std.specs.Prelude.{ℕ, List, [], if◌then◌else◌}
 use Rattle.pair_writer.specs.Write as Pair
 use Rattle.connection.specs.declared.state.Conn.{Conn}
 use Rattle.connection.specs.Codes.{event_of}

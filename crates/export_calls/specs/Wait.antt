@@ -1,7 +1,6 @@
 -- The exported calls by which output comes to wait, and the pump, each with all that it leaves. A state with an unknown
 -- code, and a number that is no output stream's, are refused by 9, and everything stays as it came.
-use Rattle.std.specs.Prelude.{ℕ, Bool, ◌&&◌, List, []}
-use Rattle.wire.specs.Test.{if◌then◌else◌}
+use Rattle.std.specs.Prelude.{ℕ, Bool, ◌&&◌, List, [], if◌then◌else◌}
 use Rattle.queue.specs.Calls.{Queueing, Pumped, lent, queue_say, queue_end, queue_finish, pump}
 use Rattle.flat_state.specs.declared.FlatState.{FlatState}
 use Rattle.flat_state.specs.Flat.{conn_of, known}

@@ -1,6 +1,6 @@
 -- The answers of the calls that write, as numbers, and the number of an output stream.
-use Rattle.std.specs.Prelude.{ℕ, Bool, ◌||◌}
-use Rattle.wire.specs.Test.{if◌then◌else◌, ◌=?◌}
+use Rattle.std.specs.Prelude.{ℕ, Bool, ◌||◌, if◌then◌else◌}
+use Rattle.wire.specs.Test.{◌=?◌}
 use Rattle.record.specs.Names.{STDOUT, STDERR}
 use Rattle.pair_writer.specs.Write as Pair
 use Rattle.connection.specs.declared.answer.Output.{Output}

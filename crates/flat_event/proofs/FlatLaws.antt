@@ -3,7 +3,7 @@
 use Rattle.std.specs.Prelude.{ℕ, ◌%◌, ◌<◌, ◌≡◌, refl, Bool, true, false, ◌&&◌, eqb}
 use Rattle.std.proofs.Common.{ap, ap₂, arith, mod-eq_of_lt, eqb-true, eq-eqb}
 use Rattle.std.proofs.Math.Bool.{and-eq-true_iff}
-use Rattle.wire.specs.Test.{byTest, ◌=?◌}
+use Rattle.wire.specs.Test.{by_test, ◌=?◌}
 use Rattle.connection.specs.declared.request.Role.{Role}
 use Rattle.connection.specs.declared.event.Stream.{Stream}
 use Rattle.connection.specs.declared.event.Measure.{Measure}
@@ -86,16 +86,16 @@ unfolding read_event
 length_of_back f =
     let n = f.kind in
     let two : f.count % 65536 < 65536 = omega arith in
-    byTest (eqb n 0) (λ t. simp t (omega arith)) (λ a.
-    byTest (eqb n 1) (λ t. simp (a, t) (omega arith)) (λ b.
-    byTest (eqb n 2) (λ t. simp (a, b, t) two) (λ c.
-    byTest (eqb n 3) (λ t. simp (a, b, c, t) (omega arith)) (λ d.
-    byTest (eqb n 4) (λ t. simp (a, b, c, d, t) (omega arith)) (λ e.
-    byTest (eqb n 5) (λ t. simp (a, b, c, d, e, t) (omega arith)) (λ g.
-    byTest (eqb n 6) (λ t. simp (a, b, c, d, e, g, t) (omega arith)) (λ h.
-    byTest (eqb n 7) (λ t. simp (a, b, c, d, e, g, h, t) (omega arith)) (λ i.
-    byTest (eqb n 8) (λ t. simp (a, b, c, d, e, g, h, i, t) (omega arith)) (λ j.
-    byTest (eqb n 9)
+    by_test (eqb n 0) (λ t. simp t (omega arith)) (λ a.
+    by_test (eqb n 1) (λ t. simp (a, t) (omega arith)) (λ b.
+    by_test (eqb n 2) (λ t. simp (a, b, t) two) (λ c.
+    by_test (eqb n 3) (λ t. simp (a, b, c, t) (omega arith)) (λ d.
+    by_test (eqb n 4) (λ t. simp (a, b, c, d, t) (omega arith)) (λ e.
+    by_test (eqb n 5) (λ t. simp (a, b, c, d, e, t) (omega arith)) (λ g.
+    by_test (eqb n 6) (λ t. simp (a, b, c, d, e, g, t) (omega arith)) (λ h.
+    by_test (eqb n 7) (λ t. simp (a, b, c, d, e, g, h, t) (omega arith)) (λ i.
+    by_test (eqb n 8) (λ t. simp (a, b, c, d, e, g, h, i, t) (omega arith)) (λ j.
+    by_test (eqb n 9)
     (λ t. simp (a, b, c, d, e, g, h, i, j, t) (omega arith))
     (λ k. simp (a, b, c, d, e, g, h, i, j, k) (omega arith)))))))))))
 

@@ -1,6 +1,6 @@
 -- An event as numbers, which other languages are told: its flat form, and back.
-use Rattle.std.specs.Prelude.{ℕ, ◌+◌, ◌/◌, ◌%◌, Bool, ◌&&◌}
-use Rattle.wire.specs.Test.{if◌then◌else◌, ◌=?◌}
+use Rattle.std.specs.Prelude.{ℕ, ◌+◌, ◌/◌, ◌%◌, Bool, ◌&&◌, if◌then◌else◌}
+use Rattle.wire.specs.Test.{◌=?◌}
 use Rattle.machine.specs.Cause.{Cause, Plain, At, cause_number}
 use Rattle.connection.specs.declared.event.Stream.{Stream}
 use Rattle.connection.specs.declared.event.Measure.{Measure}

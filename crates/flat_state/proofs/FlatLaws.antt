@@ -3,7 +3,7 @@
 use Rattle.std.specs.Prelude.{◌%◌, ◌<◌, ◌≡◌, refl, Bool, true, false, ◌&&◌, length, eqb, leb}
 use Rattle.std.proofs.Common.{sym, ◌∙◌, arith}
 use Rattle.std.proofs.Math.Bool.{and-eq-true_iff}
-use Rattle.wire.specs.Test.{byTest}
+use Rattle.wire.specs.Test.{by_test}
 use Rattle.connection.specs.declared.request.Standing.{Standing}
 use Rattle.connection.specs.declared.state.Target.{Target}
 use Rattle.connection.specs.declared.state.Conn.{Conn}
@@ -38,15 +38,15 @@ slot_of_back f =
     let kind = f.target in
     let slot = f.target_number % 256 in
     let low : slot < 256 = omega arith in
-    byTest (eqb kind 0)
+    by_test (eqb kind 0)
     (λ skip. simp skip (omega arith))
-    (λ a. byTest (eqb kind 1)
+    (λ a. by_test (eqb kind 1)
     (λ begin. simp (a, begin) (omega arith))
-    (λ b. byTest (eqb kind 2)
+    (λ b. by_test (eqb kind 2)
     (λ query. simp (a, b, query) (omega arith))
-    (λ c. byTest (eqb kind 3)
+    (λ c. by_test (eqb kind 3)
     (λ params. simp (a, b, c, params) low)
-    (λ d. byTest (eqb kind 4) (λ stdin. simp (a, b, c, d, stdin) low) (λ e. simp (a, b, c, d, e) low)))))
+    (λ d. by_test (eqb kind 4) (λ stdin. simp (a, b, c, d, stdin) low) (λ e. simp (a, b, c, d, e) low)))))
 
 -- A state is read back.
 pub back_of_flat : (c : Conn) → target_slot c.frame.target < 256 → conn_of (flat_of c) ≡ c

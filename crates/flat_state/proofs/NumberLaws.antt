@@ -3,7 +3,7 @@ use Rattle.std.specs.Prelude.{ℕ, ◌%◌, ◌≤◌, ◌<◌, ◌≡◌, refl,
 use Rattle.std.proofs.Common.{sym, ap, ap₂, arith, mod-eq_of_lt, eqb-true, leb-true, ltb-true, lt-ltb}
 use Rattle.std.proofs.Math.Bool.{and-eq-true_iff}
 use Rattle.std.proofs.lemmas.Bool.{eqb-false}
-use Rattle.wire.specs.Test.{byTest, ◌=?◌}
+use Rattle.wire.specs.Test.{by_test, ◌=?◌}
 use Rattle.connection.specs.declared.request.Role.{Role}
 use Rattle.connection.specs.declared.request.Turn.{Turn}
 use Rattle.connection.specs.declared.request.Life.{Life}
@@ -92,9 +92,9 @@ role_same : (n : ℕ) → within 1 3 n ≡ true → role_number (role_of n) ≡ 
 unfolding role_of
 role_same n e =
     let w = between 1 3 n e in
-    byTest (eqb n 1)
+    by_test (eqb n 1)
     (λ one. simp one (sym (eqb-true n 1 one)))
-    (λ notOne. byTest (eqb n 2)
+    (λ notOne. by_test (eqb n 2)
     (λ two. simp (notOne, two) (sym (eqb-true n 2 two)))
     (λ notTwo. simp (notOne, notTwo) (omega (arith, eqb-false n 1 notOne, eqb-false n 2 notTwo))))
 
@@ -102,11 +102,11 @@ turn_same : (n : ℕ) → within 0 3 n ≡ true → turn_number (turn_of n) ≡ 
 unfolding turn_of
 turn_same n e =
     let w = between 0 3 n e in
-    byTest (eqb n 0)
+    by_test (eqb n 0)
     (λ none. simp none (sym (eqb-true n 0 none)))
-    (λ notNone. byTest (eqb n 1)
+    (λ notNone. by_test (eqb n 1)
     (λ one. simp (notNone, one) (sym (eqb-true n 1 one)))
-    (λ notOne. byTest (eqb n 2)
+    (λ notOne. by_test (eqb n 2)
     (λ two. simp (notNone, notOne, two) (sym (eqb-true n 2 two)))
     (λ notTwo.
     let last : 3 ≡ n = omega (arith, eqb-false n 0 notNone, eqb-false n 1 notOne, eqb-false n 2 notTwo) in
@@ -116,15 +116,15 @@ life_same : (n : ℕ) → within 0 2 n ≡ true → life_number (life_of n) ≡ 
 unfolding life_of
 life_same n e =
     let w = between 0 2 n e in
-    byTest (eqb n 0)
+    by_test (eqb n 0)
     (λ none. simp none (sym (eqb-true n 0 none)))
-    (λ notNone. byTest (eqb n 1)
+    (λ notNone. by_test (eqb n 1)
     (λ one. simp (notNone, one) (sym (eqb-true n 1 one)))
     (λ notOne. simp (notNone, notOne) (omega (arith, eqb-false n 0 notNone, eqb-false n 1 notOne))))
 
 pub open_same : (n : ℕ) → leb n 1 ≡ true → open_number (n =? open_number true) ≡ n
 open_same n e =
-    byTest (eqb n 1)
+    by_test (eqb n 1)
     (λ one. simp one (sym (eqb-true n 1 one)))
     (λ notOne. simp notOne (omega (arith, eqb-false n 1 notOne, leb-true n 1 e)))
 
@@ -135,14 +135,14 @@ pub record SameTarget (kind number : ℕ) : Type 0 where
 pub target_same : (kind number : ℕ) → known_target kind number ≡ true → SameTarget kind number
 unfolding target_of known_target
 target_same kind number e =
-    byTest (eqb kind 0)
+    by_test (eqb kind 0)
     (λ skip. record {
       same_kind = simp skip (sym (eqb-true kind 0 skip));
       same_number = simp skip (sym (eqb-true number 0 (simp skip at e)));
     })
-    (λ a. byTest (eqb kind 1)
+    (λ a. by_test (eqb kind 1)
     (λ begin. record { same_kind = simp (a, begin) (sym (eqb-true kind 1 begin)); same_number = simp (a, begin) })
-    (λ b. byTest (eqb kind 2)
+    (λ b. by_test (eqb kind 2)
     (λ query. record {
       same_kind = simp (a, b, query) (sym (eqb-true kind 2 query));
       same_number = simp (a, b, query) (sym (eqb-true number 0 (simp (a, b, query) at e)));
@@ -150,12 +150,12 @@ target_same kind number e =
     (λ c.
     let both = (and-eq-true_iff (leb kind 5) (ltb number 256)).0 (simp (a, b, c) at e) in
     let slot : number % 256 ≡ number = mod-eq_of_lt (ltb-true number 256 both.1) in
-    byTest (eqb kind 3)
+    by_test (eqb kind 3)
     (λ params. record {
       same_kind = simp (a, b, c, params) (sym (eqb-true kind 3 params));
       same_number = simp (a, b, c, params) slot;
     })
-    (λ d. byTest (eqb kind 4)
+    (λ d. by_test (eqb kind 4)
     (λ stdin. record {
       same_kind = simp (a, b, c, d, stdin) (sym (eqb-true kind 4 stdin));
       same_number = simp (a, b, c, d, stdin) slot;

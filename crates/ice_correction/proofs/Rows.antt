@@ -5,7 +5,7 @@ use Rattle.std.proofs.lemmas.Bool.{lt-leb, eqb-false}
 use Rattle.std.specs.Float.{nan, inf, fin, binary64}
 use Rattle.std.specs.Float.Ieee.{up, down, of_bits, of_int, neg, le, lt, eq}
 use Rattle.std.specs.Float.Ieee.Fits.{down_pos}
-use Rattle.wire.specs.Test.{byTest, ◌<?◌}
+use Rattle.wire.specs.Test.{by_test, ◌<?◌}
 use Rattle.reading.specs.Temperature.{sent_of, sent_fits}
 use Rattle.ice_correction.specs.declared.Calibration.{Calibration}
 use Rattle.ice_correction.specs.Correction.{Count, Refused, allowed, is_thawed, is_frozen, floats_allowed, by_curve, curve_at, corrected}
@@ -45,14 +45,14 @@ row_count c t raw e f g h = simp (e, f, g, h)
 -- less, or equal
 less_or_equal : (a b : ℕ) → (ltb a b || (eqb a b && true)) ≡ leb a b
 less_or_equal a b =
-    byTest (ltb a b) (λ t. simp (t, le-leb a b (omega (arith, ltb-true a b t))))
-    (λ t. byTest (eqb a b) (λ q. simp (t, q, le-leb a b (omega (arith, eqb-true a b q))))
+    by_test (ltb a b) (λ t. simp (t, le-leb a b (omega (arith, ltb-true a b t))))
+    (λ t. by_test (eqb a b) (λ q. simp (t, q, le-leb a b (omega (arith, eqb-true a b q))))
     (λ q. simp (t, q, lt-leb a b (omega (arith, ltb-false a b t, eqb-false a b q)))))
 
 equal_or_less : (a b : ℕ) → (ltb a b || (eqb b a && true)) ≡ leb a b
 equal_or_less a b =
-    byTest (ltb a b) (λ t. simp (t, le-leb a b (omega (arith, ltb-true a b t))))
-    (λ t. byTest (eqb b a) (λ q. simp (t, q, le-leb a b (omega (arith, eqb-true b a q))))
+    by_test (ltb a b) (λ t. simp (t, le-leb a b (omega (arith, ltb-true a b t))))
+    (λ t. by_test (eqb b a) (λ q. simp (t, q, le-leb a b (omega (arith, eqb-true b a q))))
     (λ q. simp (t, q, lt-leb a b (omega (arith, ltb-false a b t, eqb-false b a q)))))
 
 -- u / d is the size of a float

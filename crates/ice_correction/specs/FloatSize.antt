@@ -11,7 +11,7 @@ use Rattle.std.specs.Float.Ieee.Back.{round_whole}
 use Rattle.std.specs.Float.Ieee.Fits.{down_pos}
 use Rattle.std.specs.Float.Ieee.Order.{round_mono}
 use Rattle.std.specs.Float.Ieee.Scale.{finite}
-use Rattle.wire.specs.Test.{byTest}
+use Rattle.wire.specs.Test.{by_test}
 
 -- at most B in size
 abbrev pub AtMost : Float → ℕ → Type 0
@@ -59,8 +59,8 @@ sized_sign s (fin t m e) B h = h
 
 -- ---- what is no larger than a float that is B has the bound B
 not_above : (a b : ℕ) (x : Bool) → T (ltb a b || (eqb a b && x)) → a ≤ b
-not_above a b x h = byTest (ltb a b) (λ t. omega (arith, ltb-true a b t))
-    (λ t. byTest (eqb a b) (λ q. omega (arith, eqb-true a b q)) (λ q. absurd (simp (t, q) at h)))
+not_above a b x h = by_test (ltb a b) (λ t. omega (arith, ltb-true a b t))
+    (λ t. by_test (eqb a b) (λ q. omega (arith, eqb-true a b q)) (λ q. absurd (simp (t, q) at h)))
 
 below_whole : (x y : Float) (B : ℕ) → T (le (with_sign false x) y) → HasValue y false B 1 → AtMost x B
 unfolding le lt eq

@@ -1,8 +1,8 @@
 -- What the code does is the call: one step of the receiver, over what it is offered, and then the way.
-use Rattle.std.specs.Prelude.{ℕ, ◌≤◌, ◌≡◌, refl, Bool, true, false, List, ◌⊎◌, length, take, ltb, eqb}
+use Rattle.std.specs.Prelude.{ℕ, ◌≤◌, ◌≡◌, refl, Bool, true, false, List, ◌⊎◌, length, take, ltb, eqb, if◌then◌else◌}
 use Rattle.std.proofs.Common.{sym, ap, ◌∙◌, inl, inr, arith, length-take, take_all, take-take, eq-eqb}
 use Rattle.std.proofs.lemmas.Bool.{eqb-false}
-use Rattle.wire.specs.Test.{if◌then◌else◌, byTest}
+use Rattle.wire.specs.Test.{by_test}
 use Rattle.wire.specs.Buffer.{put_at}
 use Rattle.connection.specs.declared.answer.StepResult.{StepResult}
 use Rattle.connection.specs.Sizes.{STORE}
@@ -23,20 +23,20 @@ use Rattle.lifting.proofs.HeaderLaws.{take_short}
 pub offer_within : (waiting id : ℕ) (copies : Bool) (bytes room : ℕ) → offer_of waiting id copies bytes room ≤ bytes
 unfolding offer_of
 offer_within waiting id copies bytes room =
-    byTest (ltb 0 waiting)
+    by_test (ltb 0 waiting)
     (λ w. simp w (omega arith))
     (λ w.
-    byTest (eqb id 0)
+    by_test (eqb id 0)
     (λ i. simp (w, i) (omega arith))
-    (λ i. byTest copies (λ t. simp (w, i, t) (omega arith)) (λ t. simp (w, i, t) (omega arith))))
+    (λ i. by_test copies (λ t. simp (w, i, t) (omega arith)) (λ t. simp (w, i, t) (omega arith))))
 
 offer_room : (waiting id : ℕ) (copies : Bool) (bytes room : ℕ) → copies ≡ true
     → offer_of waiting id copies bytes room ≤ room
 unfolding offer_of
 offer_room waiting id copies bytes room t =
-    byTest (ltb 0 waiting)
+    by_test (ltb 0 waiting)
     (λ w. simp w (omega arith))
-    (λ w. byTest (eqb id 0) (λ i. simp (w, i) (omega arith)) (λ i. simp (w, i, t) (omega arith)))
+    (λ w. by_test (eqb id 0) (λ i. simp (w, i) (omega arith)) (λ i. simp (w, i, t) (omega arith)))
 
 -- so many bytes of the piece the receiver is offered
 abbrev pub offer_to : Lifting → List ℕ → List ℕ → ℕ
@@ -46,7 +46,7 @@ offer_all : (l : Lifting) (piece buffer : List ℕ) → eqb l.id 0 ≡ false →
     → take (offer_to l piece buffer) piece ≡ offered l piece (length buffer)
 unfolding offer_of
 offer_all l piece buffer i w =
-    byTest (copies_content l)
+    by_test (copies_content l)
     (λ t. simp (w, i, t) (take_short (length buffer) piece))
     (λ t. simp (w, i, t) (take_all (length piece) piece (omega arith)))
 
@@ -139,7 +139,7 @@ offer_none : (l : Lifting) (piece buffer : List ℕ) → (ltb 0 l.waiting ≡ tr
     → offer_to l piece buffer ≡ 0
 unfolding offer_of
 offer_none l piece buffer (inl w) = simp w
-offer_none l piece buffer (inr i) = byTest (ltb 0 l.waiting) (λ w. simp w) (λ w. simp (w, i))
+offer_none l piece buffer (inr i) = by_test (ltb 0 l.waiting) (λ w. simp w) (λ w. simp (w, i))
 
 -- a refused step, and one that is not
 stays_by : (st : State) (store x : List ℕ) (n : ℕ) → step_refusal st.conn store ≡ n → eqb n 0 ≡ false
@@ -151,7 +151,7 @@ step_told : (st : State) (store x : List ℕ) → step_refusal st.conn store ≡
 unfolding stepped advances
 step_told st store x r =
     let t = eq-eqb (step_refusal st.conn store) 0 r in
-    byTest (eqb (length x) 0) (λ z. simp (t, z)) (λ z. simp (t, z))
+    by_test (eqb (length x) 0) (λ z. simp (t, z)) (λ z. simp (t, z))
 
 -- the call, row by row
 lifted_refused : (l : Lifting) (store piece buffer : List ℕ) (n : ℕ) → lift_refusal l store ≡ n → eqb n 0 ≡ false
@@ -203,12 +203,12 @@ goes_closed l store piece buffer result s f d se told =
     let st = se ∙ stays_by l.state store (take (offer_to l piece buffer) piece) 1 r refl in
     let way = closed_way result l.id l.waiting (told ∙ ap (λ (y : Stepped). y.refusal) st) in
     ap (λ (w : Way). goes w l s x buffer) way
-    ∙ byTest (eqb l.id 0)
+    ∙ by_test (eqb l.id 0)
     (λ i.
     refuses_zero l store x buffer 1 Way.Stands s st i
     ∙ sym (lifted_refused l store piece buffer 3 (zero_row l store f i) refl))
     (λ i.
-    byTest (ltb 0 l.waiting)
+    by_test (ltb 0 l.waiting)
     (λ w.
     writes_header l store x buffer 1 Way.Stands s st i w
     ∙ sym (lifted_waits l store piece buffer (no_row l store f i) w))
@@ -234,12 +234,12 @@ goes_open l store piece buffer result s f d se told =
     let told' = ap (λ (y : Stepped). y.refusal) se ∙ step_told l.state store bytes r in
     let way = reading_way result l.id l.waiting (told ∙ told') in
     ap (λ (w : Way). goes w l s x buffer) way
-    ∙ byTest (eqb l.id 0)
+    ∙ by_test (eqb l.id 0)
     (λ i.
     refuses_zero l store x buffer 0 Way.Reads s (none (inr i)) i
     ∙ sym (lifted_refused l store piece buffer 3 (zero_row l store f i) refl))
     (λ i.
-    byTest (ltb 0 l.waiting)
+    by_test (ltb 0 l.waiting)
     (λ w.
     writes_header l store x buffer 0 Way.Reads s (none (inl w)) i w
     ∙ sym (lifted_waits l store piece buffer (no_row l store f i) w))
@@ -260,11 +260,11 @@ goes_lifted l store piece buffer result s se told =
     let st = se ∙ stays_by l.state store bytes n r some in
     refuses l store x buffer result n s st (told ∙ ap (λ (y : Stepped). y.refusal) st) some other
     ∙ sym (lifted_refused l store piece buffer n k some) in
-    byTest (eqb (length store) STORE)
+    by_test (eqb (length store) STORE)
     (λ a.
-    byTest (in_shape l.state.conn)
+    by_test (in_shape l.state.conn)
     (λ b.
-    byTest l.state.conn.«open»
+    by_test l.state.conn.«open»
     (λ d. goes_open l store piece buffer result s (record { size = a; shape = b }) d se told)
     (λ d. goes_closed l store piece buffer result s (record { size = a; shape = b }) d se told))
     (λ b. by_row 9 (simp (a, b)) (simp (a, b)) refl refl))
@@ -287,4 +287,4 @@ pub started_lift : (gathered store : List ℕ) (id : ℕ)
     → lift_started_from (started_for gathered store id) id ≡ lift_started gathered store id
 unfolding started_for lift_started start_refusal started
 started_lift gathered store id =
-    byTest (eqb (length store) STORE) (λ a. byTest (eqb id 0) (λ i. simp (a, i)) (λ i. simp (a, i))) (λ a. simp a)
+    by_test (eqb (length store) STORE) (λ a. by_test (eqb id 0) (λ i. simp (a, i)) (λ i. simp (a, i))) (λ a. simp a)

@@ -2,7 +2,7 @@
 use Rattle.std.specs.Prelude.{ℕ, ◌+◌, ◌-◌, min, ◌≡◌, refl, true, List, [], ◌++◌, length, take, drop, eqb, leb}
 use Rattle.std.proofs.Common.{sym, ap, ◌∙◌, append-nil, arith, length-append, length-take, length-drop, drop_of_length-le, take_all, eqb-true, eq-eqb, ne_eqb, leb-true, leb-false}
 use Rattle.std.proofs.lemmas.Bool.{eqb-false}
-use Rattle.wire.specs.Test.{byTest}
+use Rattle.wire.specs.Test.{by_test}
 use Rattle.wire.specs.Buffer.{copied, put_at}
 use Rattle.wire.proofs.BufferLaws.{copied_room}
 use Rattle.record_reader.specs.declared.Position.{Position}
@@ -11,7 +11,7 @@ use Rattle.lifting.specs.Call.{Lifting, Lifted, header_with, completes, waiting_
 -- the first n, where there may be fewer
 pub take_short : (n : ℕ) (l : List ℕ) → take (min n (length l)) l ≡ take n l
 take_short n l =
-    byTest (leb n (length l))
+    by_test (leb n (length l))
     (λ t. let h = leb-true n (length l) t in let m : min n (length l) ≡ n = omega arith in ap (λ (k : ℕ). take k l) m)
     (λ t.
     let h = leb-false n (length l) t in
@@ -28,7 +28,7 @@ pub whole_test : (p : Position) (x : List ℕ) → length p.header ≡ 8
     → eqb (8 - min p.held 8) (length x) ≡ eqb (length (header_with p x)) 8
 whole_test p x l =
     let n = header_length p x l in
-    byTest (eqb (8 - min p.held 8) (length x))
+    by_test (eqb (8 - min p.held 8) (length x))
     (λ t. t ∙ sym (eq-eqb (length (header_with p x)) 8 (omega (arith, n, eqb-true (8 - min p.held 8) (length x) t))))
     (λ t.
     let other = eqb-false (8 - min p.held 8) (length x) t in
@@ -36,9 +36,9 @@ whole_test p x l =
 
 completed : (p : Position) (x : List ℕ) → completes p x ≡ true → length (header_with p x) ≡ 8
 completed p x e =
-    byTest (eqb p.content 0)
+    by_test (eqb p.content 0)
     (λ a.
-    byTest (eqb p.padding 0)
+    by_test (eqb p.padding 0)
     (λ b. eqb-true (length (header_with p x)) 8 (simp (a, b) at e))
     (λ b. let z : ◌≡◌ {A = ℕ} 0 1 = cc (simp (a, b) at e) in absurd (omega arith)))
     (λ a. let z : ◌≡◌ {A = ℕ} 0 1 = cc (simp a at e) in absurd (omega arith))

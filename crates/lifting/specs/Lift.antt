@@ -1,8 +1,8 @@
 -- Lifting one request out of a capture (request [13]): the copy and the verdict of a whole capture, record by record.
 -- A replay without calls is what the plain receiver hears (`plain/Plain`), which is proved to be what the stepping
 -- receiver tells in any cutting (`plain_agrees/Agreement`).
-use Rattle.std.specs.Prelude.{ℕ, zero, suc, ◌+◌, min, Bool, true, false, ◌||◌, List, [], ◌∷◌, ◌++◌, length, take, drop, get_or, set}
-use Rattle.wire.specs.Test.{if◌then◌else◌, ◌<?◌, ◌≤?◌, ◌=?◌}
+use Rattle.std.specs.Prelude.{ℕ, zero, suc, ◌+◌, min, Bool, true, false, ◌||◌, List, [], ◌∷◌, ◌++◌, length, take, drop, get_or, set, if◌then◌else◌}
+use Rattle.wire.specs.Test.{◌<?◌, ◌≤?◌, ◌=?◌}
 use Rattle.machine.specs.Cause.{Cause}
 use Rattle.connection.specs.Bytewise.{Note}
 use Rattle.plain.specs.Plain.{BEGIN, Request, Said, says, two, record_size}
@@ -46,9 +46,9 @@ ends v = record { copy = []; verdict = v }
 abbrev pub copies : List ℕ → Lifted → Lifted
 copies bytes l = record { copy = bytes ++ l.copy; verdict = l.verdict }
 
-abbrev pub onSaid {ℓ} : {A : Type ℓ} → Said → (List Request → A) → (Cause → A) → A
-onSaid (Said.Goes events rs) f g = f rs
-onSaid (Said.Closes cause) f g = g cause
+abbrev pub on_said {ℓ} : {A : Type ℓ} → Said → (List Request → A) → (Cause → A) → A
+on_said (Said.Goes events rs) f g = f rs
+on_said (Said.Closes cause) f g = g cause
 
 -- (The first argument bounds the number of records.) `at` is the place of the first byte, `begun` says whether R's first
 -- BEGIN record has come, and rs are the requests that are active. A record that closes is not copied.
@@ -57,7 +57,7 @@ lift_in zero R at begun rs b = ends Clean
 lift_in (suc k) R at begun rs b =
     if length b =? 0 then ends Clean
     else if length b <? 8 then ends Cut
-    else onSaid (says rs (get_or b 0 0) (get_or b 1 0) (two b 2) (two b 4) (content_of b))
+    else on_said (says rs (get_or b 0 0) (get_or b 1 0) (two b 2) (two b 4) (content_of b))
     (λ rs'. copies (copy_of_record (is_copied R begun b) b)
     (if record_size b ≤? length b then lift_in k R (at + record_size b) (begun || is_copied R begun b) rs' (drop (record_size b) b)
     else ends Cut))

@@ -1,7 +1,7 @@
 -- How the code makes a call: one step of the receiver, and then a way that the step's answer, the id and a header that
 -- waits decide. `CallLaws.goes_lifted` says that this is the call.
-use Rattle.std.specs.Prelude.{ℕ, ◌≤◌, min, ◌≡◌, Bool, true, List, length}
-use Rattle.wire.specs.Test.{if◌then◌else◌, ◌<?◌, ◌=?◌}
+use Rattle.std.specs.Prelude.{ℕ, ◌≤◌, min, ◌≡◌, Bool, true, List, length, if◌then◌else◌}
+use Rattle.wire.specs.Test.{◌<?◌, ◌=?◌}
 use Rattle.record_reader.specs.declared.Position.{Position}
 use Rattle.connection.specs.declared.state.Conn.{Conn}
 use Rattle.connection.specs.declared.answer.Refusal.{Refusal}

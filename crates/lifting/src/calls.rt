@@ -1,6 +1,6 @@
 // The calls: a start, a call that goes on over a piece and into a buffer that may be short, and the verdict.
-ghost use Rattle.std.specs.Prelude.{◌≡◌, ◌&&◌, List, ℕ, length};
-ghost use Rattle.wire.specs.Test.{if◌then◌else◌, ◌<?◌};
+ghost use Rattle.std.specs.Prelude.{◌≡◌, ◌&&◌, List, ℕ, length, if◌then◌else◌};
+ghost use Rattle.wire.specs.Test.{◌<?◌};
 ghost use Rattle.wire.specs.Buffer.{put_at};
 ghost use Rattle.connection.specs.Step.{State, Stepped};
 ghost use Rattle.conn_step.specs.Answer.{told_event};

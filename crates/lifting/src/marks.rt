@@ -1,6 +1,6 @@
 // What a lift keeps beside its receiver, and what bytes make of it.
-ghost use Rattle.std.specs.Prelude.{◌≡◌, Bool, true, ◌&&◌, ℕ, ◌+◌, min};
-ghost use Rattle.wire.specs.Test.{if◌then◌else◌, ◌<?◌};
+ghost use Rattle.std.specs.Prelude.{◌≡◌, Bool, true, ◌&&◌, ℕ, ◌+◌, min, if◌then◌else◌};
+ghost use Rattle.wire.specs.Test.{◌<?◌};
 ghost use Rattle.connection.specs.Codes.{event_of};
 ghost use Rattle.connection.specs.Step.{State, Stepped};
 ghost use Rattle.conn_step.specs.Answer.{told_event};

@@ -1,11 +1,11 @@
 -- Any calls, with pieces and buffers of any length: what was written and what waits is the copy of what was used, and
 -- the verdict is that of what was used.
-use Rattle.std.specs.Prelude.{ℕ, ◌+◌, ◌-◌, ◌≤◌, ◌<◌, ◌≡◌, refl, Bool, true, false, ltb, leb}
+use Rattle.std.specs.Prelude.{ℕ, ◌+◌, ◌-◌, ◌≤◌, ◌<◌, ◌≡◌, refl, Bool, true, false, ltb, leb, if◌then◌else◌}
 use Rattle.std.proofs.Math.Path.{sym, ap, ap₂, subst, subst₂}
 use Rattle.std.proofs.Common.{◌∙◌, inl, arith, take-append-drop, take_all, take_at, take-take, drop-drop, length-take-le, ltb-true, ltb-false, leb-true, leb-false, eq-eqb, ne_eqb}
 use mathlib.Core.List.{List, [], ◌∷◌, ◌++◌, append-nil, append_assoc}
 use Rattle.std.proofs.Math.ListN.{length, take, drop, length-take}
-use Rattle.wire.specs.Test.{if◌then◌else◌, byTest}
+use Rattle.wire.specs.Test.{by_test}
 use Rattle.wire.specs.Buffer.{put_at}
 use Rattle.connection.specs.Sizes.{QUERY, STORE}
 use Rattle.connection.specs.Step.{stepped, started}
@@ -27,7 +27,7 @@ use Rattle.lifting_agrees.proofs.ReadStep.{read_step}
 -- the first ones, by their number
 first_by_length : (n : ℕ) (u : List ℕ) → take (length (take n u)) u ≡ take n u
 first_by_length n u =
-    byTest (leb n (length u)) (λ t. ap (λ (k : ℕ). take k u) (length-take-le n u (leb-true n (length u) t)))
+    by_test (leb n (length u)) (λ t. ap (λ (k : ℕ). take k u) (length-take-le n u (leb-true n (length u) t)))
     (λ t.
     let all = take_all n u (omega (arith, leb-false n (length u) t)) in
     ap (λ (v : List ℕ). take (length v) u) all ∙ take_all (length u) u (omega arith) ∙ sym all)
@@ -182,12 +182,12 @@ module _ (gathered store : List ℕ) (R : ℕ) (o : Outcome) (a : Known gathered
       let z = a.replayed.steady in
       let admits = admitted l o.store
       (record { size = z.sizes.full; shape = z.shape; some_id = λ e. omega (arith, a.id) }) in
-      byTest (ltb 0 l.waiting)
+      by_test (ltb 0 l.waiting)
       (λ t.
       rw (call_writes l o.store piece buffer admits (ltb-true 0 l.waiting t)) (after_writes piece buffer))
       (λ t.
       let idle : l.waiting ≡ 0 = omega (arith, ltb-false 0 l.waiting t) in
-      byTest l.state.conn.«open»
+      by_test l.state.conn.«open»
       (λ still.
       rw (call_reads l o.store piece buffer admits idle still)
       (after_reads piece buffer g full positive still idle all))

@@ -2,7 +2,7 @@
 use Rattle.std.specs.Prelude.{ℕ, ◌+◌, ◌-◌, ◌<◌, ◌≡◌, true, false, List, ◌⊎◌, length, ltb, eqb}
 use Rattle.std.proofs.Common.{ap, ◌∙◌, inl, inr, arith, length-take, length-drop}
 use borrow.Author.Tests.{lt-ltb, le-ltb, ltb-true, ltb-false, eqb-true, eqb-false, eq-eqb, ne_eqb}
-use Rattle.wire.specs.Test.{byTest}
+use Rattle.wire.specs.Test.{by_test}
 use Rattle.connection.specs.Sizes.{STORE}
 use Rattle.connection.specs.Shape.{in_shape}
 use Rattle.connection.specs.Step.{stepped}
@@ -23,11 +23,11 @@ admitted l store a = simp (eq-eqb (length store) STORE a.size, a.shape, ne_eqb l
 pub is_admitted : (l : Lifting) (store : List ℕ) → lift_refusal l store ≡ 0 → Admitted l store
 unfolding lift_refusal
 is_admitted l store e =
-    byTest (eqb (length store) STORE)
+    by_test (eqb (length store) STORE)
     (λ s.
-    byTest (in_shape l.state.conn)
+    by_test (in_shape l.state.conn)
     (λ i.
-    byTest (eqb l.id 0) (λ z. let no : ◌≡◌ {A = ℕ} 3 0 = simp (s, i, z) at e in absurd (omega arith))
+    by_test (eqb l.id 0) (λ z. let no : ◌≡◌ {A = ℕ} 3 0 = simp (s, i, z) at e in absurd (omega arith))
     (λ z. record { size = eqb-true (length store) STORE s; shape = i; some_id = eqb-false l.id 0 z }))
     (λ i. let no : ◌≡◌ {A = ℕ} 9 0 = simp (s, i) at e in absurd (omega arith)))
     (λ s. let no : ◌≡◌ {A = ℕ} 2 0 = simp s at e in absurd (omega arith))
@@ -62,7 +62,7 @@ writes_some l store buffer eight w room =
 offers_some : (l : Lifting) (piece : List ℕ) (room : ℕ) → 0 < room → 0 < length piece
     → 0 < length (offered l piece room)
 offers_some l piece room r some =
-    byTest (copies_content l) (λ c. simp c (omega (arith, length-take room piece))) (λ c. simp c some)
+    by_test (copies_content l) (λ c. simp c (omega (arith, length-take room piece))) (λ c. simp c some)
 
 reads_some : (l : Lifting) (store piece buffer : List ℕ) → Admitted l store → l.state.conn.«open» ≡ true
     → 0 < length piece → 0 < length buffer → 0 < (reads_on l store piece buffer).used
@@ -77,7 +77,7 @@ pub goes_on_lem : (l : Lifting) (store piece buffer : List ℕ) → length l.hea
     → 0 < length buffer → (0 < length (waiting_bytes l)) ⊎ ((l.state.conn.«open» ≡ true) × (0 < length piece))
     → 0 < (lifted l store piece buffer).used + (lifted l store piece buffer).written
 goes_on_lem l store piece buffer eight a room more =
-    byTest (ltb 0 l.waiting)
+    by_test (ltb 0 l.waiting)
     (λ t.
     let w = ltb-true 0 l.waiting t in
     rw (call_writes l store piece buffer a w) (omega (arith, writes_some l store buffer eight w room)))
@@ -95,6 +95,6 @@ pub closed_uses_none : (l : Lifting) (store piece buffer : List ℕ) → l.state
     → (lifted l store piece buffer).used ≡ 0
 unfolding lifted header_written
 closed_uses_none l store piece buffer o =
-    byTest (eqb (lift_refusal l store) 0)
-    (λ r. byTest (ltb 0 l.waiting) (λ w. simp (r, w)) (λ w. simp (r, w, o)))
+    by_test (eqb (lift_refusal l store) 0)
+    (λ r. by_test (ltb 0 l.waiting) (λ w. simp (r, w)) (λ w. simp (r, w, o)))
     (λ r. simp r)

@@ -1,11 +1,11 @@
 -- Which records close, by how much of their content is there. A record of an id that is not 0 closes by its header or
 -- not at all. One of id 0 may close by its content, when all of it is there.
-use Rattle.std.specs.Prelude.{ℕ, ◌<◌, Bool, true, false, List, [], length, get_or, ltb, eqb}
+use Rattle.std.specs.Prelude.{ℕ, ◌<◌, Bool, true, false, List, [], length, get_or, ltb, eqb, if◌then◌else◌}
 use Rattle.std.proofs.Math.Path.{◌≡◌, refl, sym}
 use Rattle.std.proofs.Common.{◌∙◌, arith}
 use Rattle.std.proofs.Math.Option.{Option, none, some}
 use borrow.Author.Tests.{lt-ltb, eqb-true, eqb-false}
-use Rattle.wire.specs.Test.{if◌then◌else◌, byTest}
+use Rattle.wire.specs.Test.{by_test}
 use Rattle.machine.specs.Cause.{Cause}
 use Rattle.plain.specs.Plain.{BEGIN, GET_VALUES, Request, nobody, Said, place_of, on_active, is_role, two, opening, on_inactive, on_query, on_management, says}
 
@@ -53,7 +53,7 @@ module _ (rs : List Request) (kind n : ℕ) where
   unfolding says
   header_decides version id x y ne =
       same_if (eqb version 1) _ _ _ _
-      (byTest (eqb id 0) (λ e. absurd (ne (eqb-true id 0 e)))
+      (by_test (eqb id 0) (λ e. absurd (ne (eqb-true id 0 e)))
       (λ e. simp e
       (same_if (ltb (place_of rs id) (length rs)) _ _ _ _
       (active_none (place_of rs id) x ∙ sym (active_none (place_of rs id) y)) (inactive_same id x y))))
@@ -64,9 +64,9 @@ module _ (rs : List Request) (kind n : ℕ) where
       → close_of (on_management rs kind n y) ≡ some cause
   unfolding on_management on_query
   early_query x y cause short e =
-      byTest (eqb kind GET_VALUES)
+      by_test (eqb kind GET_VALUES)
       (λ k.
-      byTest (ltb 512 n) (λ l. simp (k, l) (simp (k, l) at e))
+      by_test (ltb 512 n) (λ l. simp (k, l) (simp (k, l) at e))
       (λ l.
       let no = simp (k, l, lt-ltb (length x) n short) at e in
       let z : ◌≡◌ {A = ℕ} 0 1 = cc in
@@ -77,8 +77,8 @@ module _ (rs : List Request) (kind n : ℕ) where
       → close_of (says rs version kind id n x) ≡ some cause → close_of (says rs version kind id n y) ≡ some cause
   unfolding says
   early_close version id x y cause short e =
-      byTest (eqb id 0)
+      by_test (eqb id 0)
       (λ i.
-      byTest (eqb version 1) (λ v. simp (v, i) (early_query x y cause short (simp (v, i) at e)))
+      by_test (eqb version 1) (λ v. simp (v, i) (early_query x y cause short (simp (v, i) at e)))
       (λ v. simp v (simp v at e)))
       (λ i. sym (header_decides version id x y (eqb-false id 0 i)) ∙ e)

@@ -1,10 +1,10 @@
 -- A record that closes ends a capture: what comes after it changes neither the copy nor the verdict.
 use Rattle.std.specs.Prelude.{ℕ, zero, suc, ◌+◌, ◌≤◌, ◌<◌, min, ◌≡◌, refl, Bool, false, ◌||◌, List, [], ◌++◌, length, drop, get_or, ltb, leb}
 use Rattle.std.proofs.Common.{sym, ap, ◌∙◌, arith, length-append, length-take, length-drop, ltb-true, ltb-false, leb-true, leb-false}
-use Rattle.wire.specs.Test.{byTest, ◌=?◌}
+use Rattle.wire.specs.Test.{by_test, ◌=?◌}
 use Rattle.machine.specs.Cause.{Cause}
 use Rattle.plain.specs.Plain.{Request, Said, two, record_size}
-use Rattle.lifting.specs.Lift.{ClosedAt, LARGEST_PLACE, Lifted, content_of, is_copied, copy_of_record, ends, copies, onSaid, lift_of, copy_of, verdict_of}
+use Rattle.lifting.specs.Lift.{ClosedAt, LARGEST_PLACE, Lifted, content_of, is_copied, copy_of_record, ends, copies, on_said, lift_of, copy_of, verdict_of}
 use Rattle.lifting_agrees.proofs.CopyRecords.{said_of}
 use Rattle.lifting_agrees.proofs.FrontLaws.{said_by_lem, said_stays}
 use Rattle.lifting_agrees.proofs.Closings.{close_of, closes_by, early_close}
@@ -15,7 +15,7 @@ use Rattle.lifting_agrees.proofs.LiftLaws.{lift_from, lift_next, lift_short, lif
 closes_cut : (rs : List Request) (b y : List ℕ) (cause : Cause) → 8 ≤ length b → length b < record_size b
     → said_of rs b ≡ Said.Closes cause → said_of rs (b ++ y) ≡ Said.Closes cause
 closes_cut rs b y cause header cut said =
-    byTest (ltb (length (content_of b)) (two b 4))
+    by_test (ltb (length (content_of b)) (two b 4))
     (λ t.
     closes_by (said_of rs (b ++ y)) cause
     (ap close_of (said_by_lem b y header rs)
@@ -34,7 +34,7 @@ module _ (R at : ℕ) (begun : Bool) (rs : List Request) (b y : List ℕ) (cause
 
   abbrev by_record : Said → Lifted
   by_record s =
-      onSaid s (λ rs'. copies (copy_of_record c b) (lift_next R at (begun || c) b rs'))
+      on_said s (λ rs'. copies (copy_of_record c b) (lift_next R at (begun || c) b rs'))
       (λ cause. ends (ClosedAt cause (min at LARGEST_PLACE)))
 
   -- the bytes after the record, if they close, stay as they are
@@ -49,12 +49,12 @@ module _ (R at : ℕ) (begun : Bool) (rs : List Request) (b y : List ℕ) (cause
       → lift_from R at begun rs (b ++ y) ≡ by_record s
   by_said (Said.Closes other) said closed later =
       let more : said_of rs (b ++ y) ≡ Said.Closes other =
-      byTest (leb (record_size b) (length b))
+      by_test (leb (record_size b) (length b))
       (λ w. said_stays b y header rs (omega (arith, leb-true (record_size b) (length b) w)) ∙ said)
       (λ w. closes_cut rs b y other header (leb-false (record_size b) (length b) w) said) in
       lift_header R at begun rs (b ++ y) (omega (arith, length-append b y)) ∙ rw more refl
   by_said (Said.Goes es rs') said closed later =
-      byTest (leb (record_size b) (length b))
+      by_test (leb (record_size b) (length b))
       (λ w.
       let whole = leb-true (record_size b) (length b) w in
       let n = next_whole R at (begun || c) rs' b whole in
@@ -76,7 +76,7 @@ final_in : (k R at : ℕ) (begun : Bool) (rs : List Request) (b y : List ℕ) (c
 final_in zero R at begun rs b y cause place few closed =
     final_short R at begun rs b cause place (omega arith) closed
 final_in (suc k) R at begun rs b y cause place few closed =
-    byTest (ltb (length b) 8) (λ t. final_short R at begun rs b cause place (ltb-true (length b) 8 t) closed)
+    by_test (ltb (length b) 8) (λ t. final_short R at begun rs b cause place (ltb-true (length b) 8 t) closed)
     (λ t.
     let header = ltb-false (length b) 8 t in
     let h = lift_header R at begun rs b header in

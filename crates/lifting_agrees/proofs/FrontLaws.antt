@@ -1,10 +1,10 @@
 -- A record at the front of some bytes, and more bytes after them: the header says the same, and the content grows by
 -- what is still lacking of it.
-use Rattle.std.specs.Prelude.{ℕ, ◌+◌, ◌*◌, ◌≤◌, ◌<◌, ◌≡◌, refl, Bool, true, false, List, [], ◌++◌, length, take, drop, get_or, set}
+use Rattle.std.specs.Prelude.{ℕ, ◌+◌, ◌*◌, ◌≤◌, ◌<◌, ◌≡◌, refl, Bool, true, false, List, [], ◌++◌, length, take, drop, get_or, set, if◌then◌else◌}
 use Rattle.std.proofs.Common.{sym, ap, ap₂, ◌∙◌, append_assoc, arith, length-append, length-drop, take_all}
 use Rattle.std.proofs.Math.ListN.{get_or-append}
 use Rattle.std.proofs.lemmas.List.{take-append-le, drop-append-le}
-use Rattle.wire.specs.Test.{if◌then◌else◌, ◌=?◌}
+use Rattle.wire.specs.Test.{◌=?◌}
 use Rattle.plain.specs.Plain.{BEGIN, Request, says, two, record_size}
 use Rattle.lifting.specs.Lift.{copied_header, content_of, is_copied, copy_of_record}
 use Rattle.lifting_agrees.proofs.CopyRecords.{said_of}

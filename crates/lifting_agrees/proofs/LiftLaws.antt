@@ -1,15 +1,15 @@
 -- The lift of a whole capture without its bound: the record at the front, and what comes after it. The verdict does not
 -- depend on the request that is lifted, and it is the last word of the plain receiver, with a place for a close.
-use Rattle.std.specs.Prelude.{ℕ, zero, suc, ◌+◌, ◌≤◌, ◌<◌, min, ◌≡◌, refl, Bool, true, false, ◌||◌, List, [], ◌++◌, length, drop, ltb, leb, eqb}
+use Rattle.std.specs.Prelude.{ℕ, zero, suc, ◌+◌, ◌≤◌, ◌<◌, min, ◌≡◌, refl, Bool, true, false, ◌||◌, List, [], ◌++◌, length, drop, ltb, leb, eqb, if◌then◌else◌}
 use Rattle.std.proofs.Common.{sym, ap, ap₂, ◌∙◌, arith, length-append, length-drop, drop_of_length-le, lt-ltb, le-ltb, ltb-true, ltb-false, le-leb, eq-eqb, ne_eqb}
 use Rattle.std.proofs.lemmas.List.{drop-append-le}
 use Rattle.std.proofs.lemmas.Bool.{lt-leb}
-use Rattle.wire.specs.Test.{if◌then◌else◌, byTest, ◌≤?◌, ◌=?◌}
+use Rattle.wire.specs.Test.{by_test, ◌≤?◌, ◌=?◌}
 use Rattle.machine.specs.Cause.{Cause}
 use Rattle.connection.specs.Bytewise.{Note}
 use Rattle.plain.specs.Plain as P
 use Rattle.plain.specs.Plain.{Word, Heard, Request, Said, record_size, follow, hear_in, heard}
-use Rattle.lifting.specs.Lift.{Verdict, Clean, Cut, ClosedAt, LARGEST_PLACE, Lifted, is_copied, copy_of_record, ends, copies, onSaid, lift_in, lift_of, verdict_of}
+use Rattle.lifting.specs.Lift.{Verdict, Clean, Cut, ClosedAt, LARGEST_PLACE, Lifted, is_copied, copy_of_record, ends, copies, on_said, lift_in, lift_of, verdict_of}
 use Rattle.lifting_agrees.proofs.CopyRecords.{said_of}
 use Rattle.lifting_agrees.proofs.FrontLaws.{size_stays, copied_stays, said_stays, copy_stays}
 use Rattle.lifting_agrees.specs.Statement.{word_of}
@@ -22,7 +22,7 @@ lift_rest k R at begun b rs =
 
 pub lift_step : (k R at : ℕ) (begun : Bool) (rs : List Request) (b : List ℕ) → 8 ≤ length b
     → lift_in (suc k) R at begun rs b
-    ≡ onSaid (said_of rs b)
+    ≡ on_said (said_of rs b)
     (λ rs'. copies (copy_of_record (is_copied R begun b) b) (lift_rest k R at (begun || is_copied R begun b) b rs'))
     (λ cause. ends (ClosedAt cause (min at LARGEST_PLACE)))
 unfolding lift_in
@@ -34,14 +34,14 @@ pub lift_short : (k R at : ℕ) (begun : Bool) (rs : List Request) (b : List ℕ
 unfolding lift_in
 lift_short zero R at begun rs b few short = simp (eq-eqb (length b) 0 (omega arith))
 lift_short (suc k) R at begun rs b few short =
-    byTest (eqb (length b) 0) (λ e. simp e) (λ e. simp (e, lt-ltb (length b) 8 short))
+    by_test (eqb (length b) 0) (λ e. simp e) (λ e. simp (e, lt-ltb (length b) 8 short))
 
 -- ---- without the bound
 abbrev pub lift_from : ℕ → ℕ → Bool → List Request → List ℕ → Lifted
 lift_from R at begun rs b = lift_in (length b) R at begun rs b
 
 same_after : (s : Said) (f g : List Request → Lifted) (h : Cause → Lifted) → ((rs : List Request) → f rs ≡ g rs)
-    → onSaid s f h ≡ onSaid s g h
+    → on_said s f h ≡ on_said s g h
 same_after (Said.Goes es rs) f g h e = e rs
 same_after (Said.Closes cause) f g h e = refl
 
@@ -53,7 +53,7 @@ enough zero m R at begun rs b few fits =
 enough (suc k) zero R at begun rs b few fits =
     lift_short (suc k) R at begun rs b few (omega arith) ∙ sym (lift_short zero R at begun rs b fits (omega arith))
 enough (suc k) (suc m) R at begun rs b few fits =
-    byTest (ltb (length b) 8)
+    by_test (ltb (length b) 8)
     (λ t.
     let l = ltb-true (length b) 8 t in
     lift_short (suc k) R at begun rs b few l ∙ sym (lift_short (suc m) R at begun rs b fits l))
@@ -81,7 +81,7 @@ lift_next R at begun b rs =
 
 pub lift_header : (R at : ℕ) (begun : Bool) (rs : List Request) (b : List ℕ) → 8 ≤ length b
     → lift_from R at begun rs b
-    ≡ onSaid (said_of rs b)
+    ≡ on_said (said_of rs b)
     (λ rs'. copies (copy_of_record (is_copied R begun b) b) (lift_next R at (begun || is_copied R begun b) b rs'))
     (λ cause. ends (ClosedAt cause (min at LARGEST_PLACE)))
 lift_header R at begun rs b header =
@@ -110,7 +110,7 @@ pub next_nothing : (R at : ℕ) (begun : Bool) (rs : List Request) (b : List ℕ
     → lift_next R at begun b rs ≡ ends (if record_size b ≤? length b then Clean else Cut)
 next_nothing R at begun rs b room =
     let none : drop (record_size b) b ≡ [] = drop_of_length-le b {i = record_size b} room in
-    byTest (leb (record_size b) (length b))
+    by_test (leb (record_size b) (length b))
     (λ w. simp w (ap (lift_from R (at + record_size b) begun rs) none ∙ lift_none R (at + record_size b) begun rs))
     (λ w. simp w)
 
@@ -136,7 +136,7 @@ lift_whole R at begun rs rs' es b y header whole said =
     lift_header R at begun rs (b ++ y) (omega arith)
     ∙ ap
     (λ (s : Said).
-    onSaid s
+    on_said s
     (λ rs'.
     copies (copy_of_record (is_copied R begun (b ++ y)) (b ++ y))
     (lift_next R at (begun || is_copied R begun (b ++ y)) (b ++ y) rs'))
@@ -159,7 +159,7 @@ clean_or_cut false cause e = let z : ◌≡◌ {A = ℕ} 0 1 = cc in omega arith
 
 by_word : (s : Said) (f : List Request → Lifted) (h : List Request → Heard) (at : ℕ)
     → ((rs : List Request) → word_of (f rs).verdict ≡ (h rs).word)
-    → word_of (onSaid s f (λ cause. ends (ClosedAt cause at))).verdict ≡ (follow s h).word
+    → word_of (on_said s f (λ cause. ends (ClosedAt cause at))).verdict ≡ (follow s h).word
 by_word (Said.Goes es rs) f h at e = e rs
 by_word (Said.Closes cause) f h at e = refl
 
@@ -188,7 +188,7 @@ verdict_word b = lift_word (length b) 1 0 false [] b
 
 -- The verdict is the same for every request.
 by_verdict : (s : Said) (f g : List Request → Lifted) (h : Cause → Lifted)
-    → ((rs : List Request) → (f rs).verdict ≡ (g rs).verdict) → (onSaid s f h).verdict ≡ (onSaid s g h).verdict
+    → ((rs : List Request) → (f rs).verdict ≡ (g rs).verdict) → (on_said s f h).verdict ≡ (on_said s g h).verdict
 by_verdict (Said.Goes es rs) f g h e = e rs
 by_verdict (Said.Closes cause) f g h e = refl
 

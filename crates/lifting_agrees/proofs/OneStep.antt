@@ -1,13 +1,13 @@
 -- One step of the receiver inside a lift: what was known before it, and what the bytes come to that it uses.
 use Prim.Native.Nat.{ℕ, ◌+◌, ◌-◌, ◌≤◌, ◌<◌, min}
-use Rattle.std.specs.Prelude.{◌≡◌, refl, true, false, ◌||◌, take, drop, ltb}
+use Rattle.std.specs.Prelude.{◌≡◌, refl, true, false, ◌||◌, take, drop, ltb, if◌then◌else◌}
 use Rattle.std.proofs.Common.{sym, ap₂, ◌∙◌, subst, inl, inr, arith, drop_of_length-le}
 use Rattle.std.proofs.Math.Path.{ap}
 use mathlib.Core.List.{List, [], ◌∷◌, ◌++◌, append-nil, append_assoc}
 use Rattle.std.proofs.Math.Option.{Option, none}
 use Rattle.std.proofs.Math.ListN.{length}
 use borrow.Author.Tests.{ltb-true, ltb-false}
-use Rattle.wire.specs.Test.{if◌then◌else◌, byTest}
+use Rattle.wire.specs.Test.{by_test}
 use Rattle.machine.specs.Cause.{Cause}
 use Rattle.record_reader.specs.declared.Position.{Position}
 use Rattle.record_reader.specs.Position.{between_records, after}
@@ -67,7 +67,7 @@ next_header l s y e = simp e
 is_next : (l : Lifting) (s : Stepped) (y : List ℕ) → Next l s y (after_bytes l s y)
 unfolding with_header with_bytes
 is_next l s y =
-    byTest (completes (position_of l) y)
+    by_test (completes (position_of l) y)
     (λ e.
     subst (Next l s y) (sym (next_header l s y e))
     (record { state = refl; id = refl; used = refl; start = refl; closing = refl }))
@@ -220,7 +220,7 @@ module _ {gathered store : List ℕ} {R : ℕ} {o : Outcome} {bytes : List ℕ} 
   start_now =
       is.start
       ∙ ap (λ (p : Position). if is_between p then l.used else l.start) r.position
-      ∙ byTest (ltb 0 (length r.part))
+      ∙ by_test (ltb 0 (length r.part))
       (λ t.
       let some = ltb-true 0 (length r.part) t in
       simp (not_between r.part (k.known.stands k.is_open).1 some) (r.start some))
@@ -297,7 +297,7 @@ module _ {gathered store : List ℕ} {R : ℕ} {o : Outcome} {bytes : List ℕ} 
   pub closes_shut : (cause : Cause) (place : ℕ) → (lift b).verdict ≡ ClosedAt cause place
       → s.state.conn.«open» ≡ false
   closes_shut cause place e =
-      byTest s.state.conn.«open»
+      by_test s.state.conn.«open»
       (λ still.
       absurd
       (some_told (close_of_event s.event) s.state.conn.frame.position cause

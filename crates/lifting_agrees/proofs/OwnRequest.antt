@@ -1,12 +1,12 @@
 -- R's own request among those of a plain receiver, and what a record makes of it and tells of it: nothing, if the
 -- record is of another id; and what it makes of that request alone, if it is R's.
-use Rattle.std.specs.Prelude.{ℕ, zero, suc, ◌+◌, ◌≤◌, ◌<◌, ◌%◌, Bool, true, false, List, [], ◌∷◌, ◌++◌, length, set, ltb, eqb}
+use Rattle.std.specs.Prelude.{ℕ, zero, suc, ◌+◌, ◌≤◌, ◌<◌, ◌%◌, Bool, true, false, List, [], ◌∷◌, ◌++◌, length, set, ltb, eqb, if◌then◌else◌}
 use Rattle.std.proofs.Math.Path.{◌≡◌, refl, ap}
 use Rattle.std.proofs.Common.{sym, ◌∙◌, arith}
 use mathlib.Core.List.Memᴰ
 use Rattle.std.proofs.Math.ListN.{get_or}
 use borrow.Author.Tests.{ltb-true, ltb-false, eqb-true, eq-eqb, ne_eqb}
-use Rattle.wire.specs.Test.{if◌then◌else◌, byTest, ◌=?◌}
+use Rattle.wire.specs.Test.{by_test, ◌=?◌}
 use Rattle.pair_list.specs.List.{well_formed, broken_at}
 use Rattle.pair_repeats.specs.Repeats.{repeats}
 use Rattle.machine.specs.Cause.{Cause, Plain, At}
@@ -28,7 +28,7 @@ pub own_found : (R : ℕ) (rs : List Request) → place_of rs R < length rs
 unfolding own place_of
 own_found R [] l = absurd (omega arith)
 own_found R (r ∷ rs) l =
-    byTest (eqb r.id R) (λ e. simp e (refl, eqb-true r.id R e))
+    by_test (eqb r.id R) (λ e. simp e (refl, eqb-true r.id R e))
     (λ e. let l' = simp e at l in simp e (own_found R rs (omega arith)))
 
 -- where it is not
@@ -36,7 +36,7 @@ pub own_none : (R : ℕ) (rs : List Request) → length rs ≤ place_of rs R →
 unfolding own place_of
 own_none R [] l = refl
 own_none R (r ∷ rs) l =
-    byTest (eqb r.id R) (λ e. let l' = simp e at l in absurd (omega arith))
+    by_test (eqb r.id R) (λ e. let l' = simp e at l in absurd (omega arith))
     (λ e. let l' = simp e at l in simp e (own_none R rs (omega arith)))
 
 -- the request of that place is changed, and keeps its id
@@ -45,7 +45,7 @@ own_set : (R : ℕ) (rs : List Request) (r : Request) → place_of rs R < length
 unfolding own place_of
 own_set R [] r l same = absurd (omega arith)
 own_set R (q ∷ rs) r l same =
-    byTest (eqb q.id R) (λ e. simp (e, eq-eqb r.id R same))
+    by_test (eqb q.id R) (λ e. simp (e, eq-eqb r.id R same))
     (λ e. let l' = simp e at l in simp e (own_set R rs r (omega arith) same))
 
 -- another one is changed
@@ -55,14 +55,14 @@ unfolding own
 own_other R i [] r same ne = refl
 own_other R zero (q ∷ rs) r same ne = simp (ne_eqb r.id R ne, ne_eqb q.id R (λ z. ne (same ∙ z)))
 own_other R (suc i) (q ∷ rs) r same ne =
-    byTest (eqb q.id R) (λ e. simp e) (λ e. simp e (own_other R i rs r same ne))
+    by_test (eqb q.id R) (λ e. simp e) (λ e. simp e (own_other R i rs r same ne))
 
 -- one is opened
 own_opened : (R : ℕ) (rs : List Request) (r : Request) → own R rs ≡ [] → r.id ≡ R → own R (rs ++ (r ∷ [])) ≡ r ∷ []
 unfolding own
 own_opened R [] r none same = simp (eq-eqb r.id R same)
 own_opened R (q ∷ rs) r none same =
-    byTest (eqb q.id R)
+    by_test (eqb q.id R)
     (λ e. let n = simp e at none in let z : ◌≡◌ {A = ℕ} 0 1 = cc in absurd (omega arith))
     (λ e. simp e (own_opened R rs r (simp e at none) same))
 
@@ -70,14 +70,14 @@ own_unopened : (R : ℕ) (rs : List Request) (r : Request) → (r.id ≡ R → �
 unfolding own
 own_unopened R [] r ne = simp (ne_eqb r.id R ne)
 own_unopened R (q ∷ rs) r ne =
-    byTest (eqb q.id R) (λ e. simp e) (λ e. simp e (own_unopened R rs r ne))
+    by_test (eqb q.id R) (λ e. simp e) (λ e. simp e (own_unopened R rs r ne))
 
 -- ---- what is told of R
 pub notes_append : (R : ℕ) (es fs : List Note) → notes_of R (es ++ fs) ≡ notes_of R es ++ notes_of R fs
 unfolding notes_of
 notes_append R [] fs = refl
 notes_append R (n ∷ es) fs =
-    byTest (eqb (note_id n) R)
+    by_test (eqb (note_id n) R)
     (λ e. simp e (ap (λ (l : List Note). n ∷ l) (notes_append R es fs)))
     (λ e. simp e (notes_append R es fs))
 
@@ -207,7 +207,7 @@ module _ (R : ℕ) (rs : List Request) (kind n : ℕ) (x : List ℕ) where
   other_leaves version id positive ne =
       leaves_if R rs (eqb version 1) _ _
       (leaves_if R rs (eqb id 0) _ _ (management_leaves (λ z. omega arith))
-      (byTest (ltb (place_of rs id) (length rs))
+      (by_test (ltb (place_of rs id) (length rs))
       (λ e. simp e
       (active_leaves (place_of rs id) (λ z. ne (sym (own_found id rs (ltb-true _ _ e)).1 ∙ z))))
       (λ e. simp e (inactive_leaves id ne))))
@@ -219,7 +219,7 @@ module _ (R : ℕ) (rs : List Request) (kind n : ℕ) (x : List ℕ) where
   unfolding says on_inactive
   early_leaves version positive none other =
       leaves_if R rs (eqb version 1) _ _
-      (byTest (ltb (place_of rs R) (length rs))
+      (by_test (ltb (place_of rs R) (length rs))
       (λ e.
       let f = (own_found R rs (ltb-true _ _ e)).0 in
       let z : ◌≡◌ {A = ℕ} 0 1 = cc (sym none ∙ f) in
@@ -260,7 +260,7 @@ module _ (R : ℕ) (rs : List Request) (kind n : ℕ) (x : List ℕ) where
   opening_own none =
       let role = two x 0 in
       own_if R (is_role role) _ _ _ _
-      (byTest (ltb (length rs) 16)
+      (by_test (ltb (length rs) 16)
       (λ e. simp e (λ never.
       ap (Said.Goes (Told (Event.Open R role (get_or x 2 0 % 2 =? 1)) ∷ []))
       (sym (own_opened R rs (opened R role) none refl))))
@@ -281,7 +281,7 @@ module _ (R : ℕ) (rs : List Request) (kind n : ℕ) (x : List ℕ) where
   says_own version positive =
       let some = ne_eqb R 0 (λ z. omega arith) in
       own_if R (eqb version 1) _ _ _ _
-      (byTest (ltb (place_of rs R) (length rs))
+      (by_test (ltb (place_of rs R) (length rs))
       (λ e.
       let l = ltb-true _ _ e in
       let found = own_found R rs l in

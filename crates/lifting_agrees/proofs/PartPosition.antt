@@ -6,7 +6,7 @@ use Rattle.std.proofs.Common.{◌∙◌, inl, inr, arith, length-drop, take-appe
 use mathlib.Core.List.{List, [], ◌∷◌, ◌++◌, append-nil}
 use Rattle.std.proofs.Math.ListN.{length, take, drop}
 use Rattle.std.proofs.Math.Seq.{take-nil, length-take-le}
-use Rattle.wire.specs.Test.{byTest}
+use Rattle.wire.specs.Test.{by_test}
 use Rattle.wire.specs.Buffer.{put_at}
 use Rattle.record.specs.Header.{header_of}
 use Rattle.record.proofs.SplitLaws.{header_front}
@@ -90,7 +90,7 @@ pub data Reads (o x : List ℕ) : Type 0 where
 reads_none : (o : List ℕ) → Unfinished o → Reads o []
 reads_none o (inl short) = Part (omega arith)
 reads_none o (inr (header, cut)) =
-    byTest (ltb (length o) (8 + two o 4))
+    by_test (ltb (length o) (8 + two o 4))
     (λ t. let l = ltb-true (length o) (8 + two o 4) t in Content header l (omega arith))
     (λ t. let l = ltb-false (length o) (8 + two o 4) t in Padding header l cut (omega arith))
 
@@ -104,7 +104,7 @@ position_reads o x (inl short) =
     let e : advanced p x ≡ _ =
     ap (λ (q : Position). advanced q x) (at_header o short)
     ∙ in_header_lem (at 0 0 (length o) (put_at no_header 0 o)) x refl refl in
-    byTest (ltb (length o + length x) 8)
+    by_test (ltb (length o + length x) 8)
     (λ t.
     let l = ltb-true (length o + length x) 8 t in
     let u = ap (λ (a : Advanced). a.used) (e ∙ in_part (length o) (put_at no_header 0 o) x l) in
@@ -114,7 +114,7 @@ position_reads o x (inl short) =
     let u = ap (λ (a : Advanced). a.used) (e ∙ in_whole (length o) (put_at no_header 0 o) x short l) in
     Header short (omega (arith, used_of_lem o x (8 - length o) u (omega arith))))
 position_reads o x (inr (header, cut)) =
-    byTest (ltb (length o) (8 + two o 4))
+    by_test (ltb (length o) (8 + two o 4))
     (λ t.
     let l = ltb-true (length o) (8 + two o 4) t in
     let q = at (8 + two o 4 - length o) (get_or o 6 0) 0 no_header in

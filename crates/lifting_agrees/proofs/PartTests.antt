@@ -2,7 +2,7 @@
 -- the reader stands between two records.
 use Rattle.std.specs.Prelude.{ℕ, ◌+◌, ◌-◌, ◌≤◌, ◌<◌, ◌≡◌, refl, Bool, true, false, ◌&&◌, List, ◌++◌, length, drop, get_or, ltb, eqb}
 use Rattle.std.proofs.Common.{ap, ◌∙◌, inl, inr, arith, length-append, take_at, lt-ltb, ltb-true, ltb-false, eqb-true, ne_eqb}
-use Rattle.wire.specs.Test.{byTest, ◌<?◌, ◌=?◌}
+use Rattle.wire.specs.Test.{by_test, ◌<?◌, ◌=?◌}
 use Rattle.wire.specs.Buffer.{put_at}
 use Rattle.record_reader.specs.declared.Position.{Position}
 use Rattle.record_reader.specs.Position.{no_header, between_records, after}
@@ -33,13 +33,13 @@ module _ (o y : List ℕ) (short : length o < 8) where
 -- ---- behind a header
 content_not : (c p : ℕ) (t : Bool) → 0 < c + p → ((c =? 0) && (p =? 0) && t) ≡ false
 content_not c p t more =
-    byTest (eqb c 0) (λ e. simp (e, ne_eqb p 0 (λ z. omega (arith, eqb-true c 0 e)))) (λ e. simp e)
+    by_test (eqb c 0) (λ e. simp (e, ne_eqb p 0 (λ z. omega (arith, eqb-true c 0 e)))) (λ e. simp e)
 
 between_not : (c p k : ℕ) (h : List ℕ) → 0 < c + p + k → is_between (at c p k h) ≡ false
 between_not c p k h more =
-    byTest (eqb k 0)
+    by_test (eqb k 0)
     (λ e.
-    byTest (eqb c 0)
+    by_test (eqb c 0)
     (λ f. simp (e, f) (ne_eqb p 0 (λ z. omega (arith, eqb-true k 0 e, eqb-true c 0 f))))
     (λ f. simp (e, f)))
     (λ e. simp e)
@@ -69,7 +69,7 @@ pub not_between : (o : List ℕ) → Unfinished o → 0 < length o → is_betwee
 not_between o (inl short) some =
     ap is_between (at_header o short) ∙ between_not 0 0 (length o) (put_at no_header 0 o) (omega arith)
 not_between o (inr (header, cut)) some =
-    byTest (ltb (length o) (8 + two o 4))
+    by_test (ltb (length o) (8 + two o 4))
     (λ t.
     let l = ltb-true (length o) (8 + two o 4) t in
     ap is_between (at_content o header (omega arith))

@@ -1,13 +1,13 @@
 -- A call that reads: what is known of a lift and the bytes that it used stays so, with the bytes of one more step. The
 -- cases are those of the bytes: a part of a header, the end of one, content, padding.
-use Rattle.std.specs.Prelude.{ℕ, ◌+◌, ◌-◌, ◌≤◌, ◌<◌, min, ◌≡◌, refl, Bool, true, false, ◌&&◌, ◌||◌, List, [], ◌++◌, length, take, drop, get_or, eqb}
+use Rattle.std.specs.Prelude.{ℕ, ◌+◌, ◌-◌, ◌≤◌, ◌<◌, min, ◌≡◌, refl, Bool, true, false, ◌&&◌, ◌||◌, List, [], ◌++◌, length, take, drop, get_or, eqb, if◌then◌else◌}
 use Rattle.std.proofs.Common.{sym, ◌∙◌, append-nil, append_assoc, inl, inr, arith, length-append, drop_of_length-le, eq-eqb, ne_eqb, eqb-true}
 use Rattle.std.proofs.Math.Path.{ap, ap₂}
 use Rattle.std.proofs.Math.Bool.{and-true, and-false}
 use Rattle.std.proofs.Math.Option.{none}
 use Rattle.std.proofs.Math.Seq.{take-nil}
 use Rattle.std.proofs.lemmas.Bool.{eqb-false}
-use Rattle.wire.specs.Test.{if◌then◌else◌, byTest, ◌<?◌}
+use Rattle.wire.specs.Test.{by_test, ◌<?◌}
 use Rattle.machine.specs.Cause.{Cause}
 use Rattle.record_reader.specs.declared.Position.{Position}
 use Rattle.record_reader.specs.Position.{between_records, after}
@@ -192,7 +192,7 @@ module _ {gathered store : List ℕ} {R : ℕ} {o : Outcome} {bytes : List ℕ} 
     -- content of a record that closes: it is not of R
     closes_other : (cause : Cause) → said_of r.requests b ≡ Said.Closes cause → c ≡ false
     closes_other cause said =
-        byTest (eqb (two r.part 2) 0)
+        by_test (eqb (two r.part 2) 0)
         (λ t.
         let zero-id = eqb-true (two r.part 2) 0 t in
         simp (ne_eqb (two r.part 2) R (λ z. omega (arith, k.some_id))))

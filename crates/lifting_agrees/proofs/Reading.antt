@@ -1,9 +1,9 @@
 -- Where a lift stands in a capture: behind some whole records, in a part of the next one. What the whole records come
 -- to is known, and the rest is what the part comes to.
-use Rattle.std.specs.Prelude.{ℕ, ◌+◌, ◌≤◌, ◌<◌, min, ◌≡◌, refl, Bool, true, false, ◌||◌, List, [], ◌++◌, ◌⊎◌, length, drop, ltb}
+use Rattle.std.specs.Prelude.{ℕ, ◌+◌, ◌≤◌, ◌<◌, min, ◌≡◌, refl, Bool, true, false, ◌||◌, List, [], ◌++◌, ◌⊎◌, length, drop, ltb, if◌then◌else◌}
 use Rattle.std.proofs.Common.{sym, ap, ap₂, ◌∙◌, subst, append-nil, append_assoc, inl, inr, arith, length-append, drop_of_length-le, ltb-true, ltb-false}
 use Rattle.std.proofs.Math.Option.{Option, none, some}
-use Rattle.wire.specs.Test.{if◌then◌else◌, byTest, ◌≤?◌, ◌=?◌}
+use Rattle.wire.specs.Test.{by_test, ◌≤?◌, ◌=?◌}
 use Rattle.machine.specs.Cause.{Cause}
 use Rattle.record_reader.specs.declared.Position.{Position}
 use Rattle.record_reader.specs.Position.{between_records, after}
@@ -162,7 +162,7 @@ pub settle : (R : ℕ) (x : List ℕ) (l : Lifting) (r : Reading R x l) → With
     → Stands R x l
 settle R x l r (inl short) said = (r, inl short)
 settle R x l r (inr (header, room)) said =
-    byTest (ltb (length r.part) (record_size r.part))
+    by_test (ltb (length r.part) (record_size r.part))
     (λ t. (r, inr (header, ltb-true (length r.part) (record_size r.part) t)))
     (λ t.
     let m = ltb-false (length r.part) (record_size r.part) t in

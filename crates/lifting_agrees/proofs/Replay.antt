@@ -3,7 +3,7 @@
 use Rattle.std.specs.Prelude.{ℕ, ◌≡◌, refl, true, List, [], ◌∷◌, ◌++◌, length, take}
 use Rattle.std.proofs.Common.{sym, ap, ap₂, ◌∙◌, subst, append-nil, arith, eq-eqb}
 use Rattle.std.proofs.Math.Option.{Option, none, some}
-use Rattle.wire.specs.Test.{byTest}
+use Rattle.wire.specs.Test.{by_test}
 use Rattle.machine.specs.Cause.{Cause}
 use Rattle.machine.proofs.TimelineLaws.{bytes_of_items}
 use Rattle.machine.specs.Timeline.{item_bytes}
@@ -141,7 +141,7 @@ replay_step gathered store x m piece r all =
         → close_of_event (stepped m.state m.store piece).event ≡ none
         → (stepped m.state m.store piece).state.conn.«open» ≡ true
     not_told m piece o e =
-        byTest (stepped m.state m.store piece).state.conn.«open» (λ t. t)
+        by_test (stepped m.state m.store piece).state.conn.«open» (λ t. t)
         (λ t.
         let c = closes_by_cause m.state m.store piece o t in
         let f = ap close_of_event c.2 in

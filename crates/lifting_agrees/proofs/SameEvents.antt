@@ -1,15 +1,15 @@
 -- What a replay of the copy tells of R is what a replay of the capture tells of R: by induction over the records of the
 -- capture. The copy is read with R's own request alone (`OwnRequest.own`).
-use Rattle.std.specs.Prelude.{ℕ, zero, suc, ◌+◌, ◌≤◌, ◌<◌, min, ◌≡◌, refl, Bool, true, false, ◌||◌, List, [], ◌++◌, ◌⊎◌, length, drop, get_or, ltb, leb, eqb}
+use Rattle.std.specs.Prelude.{ℕ, zero, suc, ◌+◌, ◌≤◌, ◌<◌, min, ◌≡◌, refl, Bool, true, false, ◌||◌, List, [], ◌++◌, ◌⊎◌, length, drop, get_or, ltb, leb, eqb, if◌then◌else◌}
 use Rattle.std.proofs.Common.{sym, ap, ◌∙◌, subst, inl, inr, arith, length-drop, drop_of_length-le, lt-ltb, le-ltb, le-leb, ltb-true, ltb-false, leb-true, eqb-true, ne_eqb}
 use Rattle.std.proofs.Math.Bool.{or-true}
 use mathlib.Core.List.Memᴰ
 use Rattle.std.proofs.lemmas.Bool.{eqb-false}
-use Rattle.wire.specs.Test.{if◌then◌else◌, byTest, ◌≤?◌, ◌=?◌}
+use Rattle.wire.specs.Test.{by_test, ◌≤?◌, ◌=?◌}
 use Rattle.connection.specs.Bytewise.{Note}
 use Rattle.plain.specs.Plain.{BEGIN, Open, Cut, Heard, Request, Said, says, two, record_size, stops, follow, hear_in, heard}
 use Rattle.lifting.specs.Lift as L
-use Rattle.lifting.specs.Lift.{ClosedAt, LARGEST_PLACE, copied_header, content_of, is_copied, copy_of_record, copies, onSaid, lift_in, lift_of, copy_of}
+use Rattle.lifting.specs.Lift.{ClosedAt, LARGEST_PLACE, copied_header, content_of, is_copied, copy_of_record, copies, on_said, lift_in, lift_of, copy_of}
 use Rattle.lifting_agrees.specs.Statement.{notes_of, NeverOverloaded}
 use Rattle.lifting_agrees.proofs.CopyRecords.{said_of, content_short, content_whole, record_length_lem, copied_size, same_said, after_record_lem}
 use Rattle.lifting_agrees.proofs.LiftLaws.{lift_rest, lift_step, lift_short}
@@ -40,14 +40,14 @@ false_true e = let z : ◌≡◌ {A = ℕ} 0 1 = cc in absurd (omega arith)
 
 copied_own : (R : ℕ) (begun : Bool) (b : List ℕ) → is_copied R begun b ≡ true → two b 2 ≡ R
 copied_own R begun b e =
-    byTest (eqb (two b 2) R) (λ t. eqb-true (two b 2) R t) (λ t. false_true (simp t at e))
+    by_test (eqb (two b 2) R) (λ t. eqb-true (two b 2) R t) (λ t. false_true (simp t at e))
 
 -- A record that is not copied leaves R's request alone.
 uncopied : (R : ℕ) (begun : Bool) (rs : List Request) (b : List ℕ) → 0 < R → Waits R begun rs
     → is_copied R begun b ≡ false → Leaves R rs (said_of rs b)
 uncopied R begun rs b positive waits e =
     let n = two b 4 in
-    byTest (eqb (two b 2) R)
+    by_test (eqb (two b 2) R)
     (λ t.
     let same = eqb-true (two b 2) R t in
     let early : (begun ≡ false) × (eqb (get_or b 1 0) BEGIN ≡ false) = inner begun (simp t at e) in
@@ -88,7 +88,7 @@ rest_of k R at begun c b rs = (lift_rest k R at (begun || c) b rs).copy
 -- what is copied from the record on, by what is said of it
 abbrev copy_by : ℕ → ℕ → ℕ → Bool → Bool → List ℕ → Said → List ℕ
 copy_by k R at begun c b s =
-    (onSaid s (λ rs. copies (copy_of_record c b) (lift_rest k R at (begun || c) b rs))
+    (on_said s (λ rs. copies (copy_of_record c b) (lift_rest k R at (begun || c) b rs))
     (λ cause. L.ends (ClosedAt cause (min at LARGEST_PLACE)))).copy
 
 -- the same is told of R after the record and after its copy
@@ -105,7 +105,7 @@ module _ (k R at : ℕ) (begun c : Bool) (b : List ℕ) (header : 8 ≤ length b
   -- all of its content is there, or it is cut, and nothing is copied after it
   all_or_last : (rs : List Request) → (length (content_of b) ≡ two b 4) ⊎ (rest rs ≡ [])
   all_or_last rs =
-      byTest (leb (record_size b) (length b)) (λ w. inl (content_whole b (leb-true (record_size b) (length b) w)))
+      by_test (leb (record_size b) (length b)) (λ w. inl (content_whole b (leb-true (record_size b) (length b) w)))
       (λ w.
       inr
       (ap
@@ -128,7 +128,7 @@ module _ (k R at : ℕ) (begun c : Bool) (b : List ℕ) (header : 8 ≤ length b
       let none : (hear_in m rs' r).events ≡ [] =
       ap (λ (u : List ℕ). (hear_in m rs' u).events) e ∙ ap (λ (h : Heard). h.events) (hear_none m rs') in
       let l : length r ≡ 0 = ap length e in
-      byTest (leb (record_size copy) (length copy))
+      by_test (leb (record_size copy) (length copy))
       (λ w. simp w
       (ap (λ (u : List ℕ). (hear_in m rs' u).events)
       (drop_of_length-le copy {i = record_size copy}
@@ -203,7 +203,7 @@ hear_short : (k : ℕ) (rs : List Request) (b : List ℕ) → length b < 8 → (
 unfolding hear_in
 hear_short zero rs b short = refl
 hear_short (suc k) rs b short =
-    byTest (eqb (length b) 0) (λ e. simp e) (λ e. simp (e, lt-ltb (length b) 8 short))
+    by_test (eqb (length b) 0) (λ e. simp e) (λ e. simp (e, lt-ltb (length b) 8 short))
 
 -- the same is told of R in these bytes and in their copy, with so many records at most
 abbrev SameIn : ℕ → ℕ → ℕ → Bool → List ℕ → Type 0
@@ -244,7 +244,7 @@ no_header k R at begun b few short m rs waits never room =
 same_in : (k R at : ℕ) (begun : Bool) (b : List ℕ) → length b ≤ k → 0 < R → SameIn k R at begun b
 same_in zero R at begun b few positive = no_header zero R at begun b few (omega arith)
 same_in (suc k) R at begun b few positive =
-    byTest (ltb (length b) 8) (λ e. no_header (suc k) R at begun b few (ltb-true (length b) 8 e))
+    by_test (ltb (length b) 8) (λ e. no_header (suc k) R at begun b few (ltb-true (length b) 8 e))
     (λ e.
     with_header_lem k R at begun b positive (ltb-false (length b) 8 e)
     (same_in k R (at + record_size b) (begun || is_copied R begun b) (drop (record_size b) b)

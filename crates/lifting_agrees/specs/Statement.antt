@@ -13,9 +13,9 @@
 -- And the copy is as good as the capture, for R: what a replay of the copy tells of R is what a replay of the capture
 -- tells of R, unless an opening of R was refused there for want of a slot (`same_events`). This holds of cut captures
 -- and of those that close, too.
-use Rattle.std.specs.Prelude.{ℕ, ◌+◌, ◌<◌, ◌≡◌, true, false, ◌⊎◌, length, take}
+use Rattle.std.specs.Prelude.{ℕ, ◌+◌, ◌<◌, ◌≡◌, true, false, ◌⊎◌, length, take, if◌then◌else◌}
 use mathlib.Core.List.{List, [], ◌∷◌, ◌++◌, Memᴰ}
-use Rattle.wire.specs.Test.{if◌then◌else◌, ◌=?◌}
+use Rattle.wire.specs.Test.{◌=?◌}
 use Rattle.machine.specs.Cause.{Cause}
 use Rattle.connection.specs.Sizes.{STORE, QUERY}
 use Rattle.connection.specs.Event.{Event}

@@ -1,13 +1,13 @@
 -- What purging leaves of an interleaving: just the records and calls of that id, in their order. So parts of different
 -- requests may change places.
-use Rattle.std.specs.Prelude.{◌≡◌, Bool, true, false, ◌⊎◌, drop, eqb, ltb}
+use Rattle.std.specs.Prelude.{◌≡◌, Bool, true, false, ◌⊎◌, drop, eqb, ltb, if◌then◌else◌}
 use Rattle.std.proofs.Math.Path.{refl, ap, sym}
 use Rattle.std.proofs.Common.{◌∙◌, inl, inr, arith, length-drop}
 use mathlib.Core.List.{List, [], ◌∷◌, ◌++◌, append_assoc, append-nil}
 use Prim.Native.Nat.{ℕ, zero, suc, ◌+◌, ◌≤◌, ◌<◌}
 use Rattle.std.proofs.Math.ListN.{length, length-append}
 use borrow.Author.Tests.{eqb-true, eqb-false, ne_eqb, ltb-true, ltb-false}
-use Rattle.wire.specs.Test.{if◌then◌else◌, byTest, ◌<?◌, ◌=?◌}
+use Rattle.wire.specs.Test.{by_test, ◌<?◌, ◌=?◌}
 use Rattle.record.specs.Header.{header_of}
 use Rattle.record.specs.Split.{Record, Split, front_length, whole_front, front, split}
 use Rattle.record.proofs.SplitLaws.{header_front, whole_front_lem, split_whole, split_cut}
@@ -28,14 +28,14 @@ no_record r rs e = let z : ◌≡◌ {A = ℕ} 0 1 = cc in absurd (omega arith)
 -- bytes that split into nothing are none
 split_nothing : (b : List ℕ) → (split b).records ≡ [] → (split b).rest ≡ [] → b ≡ []
 split_nothing b no-records no_rest =
-    byTest (whole_front b)
+    by_test (whole_front b)
     (λ t. no_record (front b) _ (ap (λ (s : Split). s.records) (sym (split_whole b t)) ∙ no-records))
     (λ t. ap (λ (s : Split). s.rest) (sym (split_cut b t)) ∙ no_rest)
 
 one_record : (id : ℕ) (b : List ℕ) → IsRecordOf id b → OneRecord id b
 unfolding front_length front header_content header_padding header_id
 one_record id b r =
-    byTest (whole_front b) is_whole
+    by_test (whole_front b) is_whole
     (λ t. no_record r.whole [] (sym records ∙ ap (λ (s : Split). s.records) (split_cut b t)))
   where
     records : (split b).records ≡ r.whole ∷ []
@@ -121,7 +121,7 @@ module _ {Argument : Type 0} (R : ℕ) where
         → purge_from R (scan_whole (length h <? 8) R h) (t ++ u) ≡ own_in of_r R t ++ purge R u
     unfolding scan_whole header_id header_content header_padding
     after_byte h t n e goes_on_lem =
-        byTest (ltb (length h) 8)
+        by_test (ltb (length h) 8)
         (λ y. rw y (goes_on_lem (ltb-true (length h) 8 y)))
         (λ y. rw y (eighth (ltb-false (length h) 8 y)))
       where
@@ -185,7 +185,7 @@ module _ {Argument : Type 0} (R : ℕ) where
   not_both : (i j : ℕ) (p q : Part Argument) → IsOf i p → IsOf j q → (i ≡ j → ⊥)
       → (own_of_part R p ≡ []) ⊎ (own_of_part R q ≡ [])
   not_both i j p q a b ne =
-      byTest (eqb i R)
+      by_test (eqb i R)
       (λ e. inr (others_part j q (λ d. ne (eqb-true i R e ∙ sym d)) b))
       (λ e. inl (others_part i p (eqb-false i R e) a))
 

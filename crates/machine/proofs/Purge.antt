@@ -1,5 +1,5 @@
 -- What purging leaves of a timeline is R's records, whole and in order, and R's calls.
-use Rattle.std.specs.Prelude.{◌≡◌, Bool}
+use Rattle.std.specs.Prelude.{◌≡◌, Bool, if◌then◌else◌}
 use Rattle.std.proofs.Math.Path.{refl, sym}
 use Rattle.std.proofs.Common.{ap, ◌∙◌, arith}
 use mathlib.Core.List.{List, [], ◌∷◌, ◌++◌, append_assoc}
@@ -8,7 +8,7 @@ use Prim.Native.Nat.{ℕ, zero, suc, ◌+◌, ◌≤◌, ◌<◌}
 use Rattle.std.proofs.Math.ListN.{length, get_or-append, length-append}
 use Rattle.std.proofs.Math.Dec.{eqb}
 use borrow.Author.Tests.{lt-ltb, le-ltb}
-use Rattle.wire.specs.Test.{if◌then◌else◌, ◌=?◌}
+use Rattle.wire.specs.Test.{◌=?◌}
 use Rattle.record.specs.Header.{header_of}
 use Rattle.machine.specs.Timeline.{Call, Item, ByteItem, CallItem, item_bytes, header_id, header_content, header_padding, Scan, ScanHeader, scan_left, scan_whole, scan_next, is_own, is_own_call, purge_from, purge}
 

@@ -1,11 +1,10 @@
 -- First laws of runs: closed is final; the state and the observations of two timelines one after another.
-use Rattle.std.specs.Prelude.{◌≡◌, Bool}
+use Rattle.std.specs.Prelude.{◌≡◌, Bool, if◌then◌else◌}
 use Rattle.std.proofs.Math.Path.{refl, ap, sym}
 use Rattle.std.proofs.Common.{◌∙◌}
 use mathlib.Core.List.{List, [], ◌∷◌, ◌++◌, append_assoc}
 use Rattle.std.proofs.Math.Bool.{true, false}
 use Prim.Native.Nat.{ℕ, zero, suc}
-use Rattle.wire.specs.Test.{if◌then◌else◌}
 use Rattle.machine.specs.Timeline.{RequestCall, CountCall, Item, ByteItem, CallItem}
 use Rattle.machine.specs.Machine.{Machine, Target, Skip, Connection, Closed, Observation, with_left, on_item, state_after, as_list, observations, concerns, observed}
 

@@ -1,11 +1,10 @@
 -- A call keeps a state in shape.
 use Rattle.std.proofs.Math.Path.{◌≡◌, refl}
 use Rattle.std.proofs.Common.{sym, ◌∙◌, inl, inr, arith}
-use Rattle.std.specs.Prelude.{Bool, ◌⊎◌, ℕ, set}
+use Rattle.std.specs.Prelude.{Bool, ◌⊎◌, ℕ, set, if◌then◌else◌}
 use Rattle.std.proofs.Math.Bool.{true, false}
 use Rattle.std.proofs.Math.Dec.{eqb}
 use Rattle.std.proofs.lemmas.Bool.{eqb-false}
-use Rattle.wire.specs.Test.{if◌then◌else◌}
 use Rattle.machine.specs.Slots.{Vacant, HeldBy, Lookup, Absent, FoundAt, slot_at, LookupRight}
 use Rattle.machine.specs.Machine.{CallOutcome, Stays, Retires, Leaves, Closes, Machine, Target, Skip, ToBegin, ToQuery, ToSlot, Reading, AtHeader, PastHeader, Slots, target_without, reading_without, call_decided, request_called}
 use Rattle.machine.specs.Laws.{CallOutcomeOk, Laws}

@@ -2,13 +2,12 @@
 use Rattle.std.proofs.Math.Path.{◌≡◌, refl}
 use Rattle.std.proofs.Common.{ap, sym, ◌∙◌, inl, inr, length-set}
 use mathlib.Core.List.{List, [], ◌∷◌}
-use Rattle.std.specs.Prelude.{Bool, ◌⊎◌, get_or, set}
+use Rattle.std.specs.Prelude.{Bool, ◌⊎◌, get_or, set, if◌then◌else◌}
 use Rattle.std.proofs.Math.Bool.{true, false}
 use Prim.Native.Nat.{ℕ, zero, suc, ◌<◌}
 use native.Mathlib.Omega.{arith}
 use Rattle.std.proofs.Math.Dec.{eqb}
 use borrow.Author.Tests.{eqb-false}
-use Rattle.wire.specs.Test.{if◌then◌else◌}
 use Rattle.machine.specs.Slots.{SlotState, Vacant, HeldBy, Lookup, Absent, FoundAt, Vacancy, NoVacancy, VacancyAt, lookup_further, vacancy_further, lookup, first_vacancy, slot_at}
 use Rattle.machine.specs.Machine.{Machine, Slots}
 use Rattle.machine.specs.Laws.{Laws}

@@ -1,11 +1,10 @@
 -- The two runs go together over a whole timeline.
-use Rattle.std.specs.Prelude.{◌≡◌, refl, Bool, ℕ, suc, ◌<◌, eqb}
+use Rattle.std.specs.Prelude.{◌≡◌, refl, Bool, ℕ, suc, ◌<◌, eqb, if◌then◌else◌}
 use Rattle.std.proofs.Math.Path.{ap, sym}
 use Rattle.std.proofs.Common.{◌∙◌, subst, arith, ne_eqb}
 use mathlib.Core.List.{List, [], ◌∷◌, ◌++◌, Memᴰ}
 use Rattle.std.proofs.Math.Option.{Option, none}
 use Rattle.std.proofs.Math.Bool.{true, false}
-use Rattle.wire.specs.Test.{if◌then◌else◌}
 use Rattle.machine.specs.Slots.{Contains, contains_none}
 use Rattle.machine.specs.Timeline.{Item, ByteItem, CallItem, item_bytes, Scan, ScanHeader, scan_next, is_own, is_own_call, purge_from, purge}
 use Rattle.machine.specs.Machine.{Machine, Reading, AtHeader, Slots, Connection, Open, Closed, fresh, Observation, RequestEvent, on_item, state_after, as_list, observations, Ran, ran, ran_fresh, observed}

@@ -1,10 +1,9 @@
 -- A call in both runs: those that name R are made in both, others in the whole run only.
-use Rattle.std.specs.Prelude.{◌≡◌, List, Bool, true, false, ℕ, set, eqb}
+use Rattle.std.specs.Prelude.{◌≡◌, List, Bool, true, false, ℕ, set, eqb, if◌then◌else◌}
 use Rattle.std.proofs.Math.Path.{refl}
 use Rattle.std.proofs.Common.{◌∙◌, eqb-true, eq-eqb, ne_eqb}
 use Rattle.std.proofs.Math.Option.{Option, none, some}
 use Rattle.std.proofs.lemmas.Bool.{eqb-false}
-use Rattle.wire.specs.Test.{if◌then◌else◌}
 use Rattle.machine.specs.Slots.{SlotState, Vacant, HeldBy, Lookup, Absent, FoundAt, lookup, slot_at, OfOthers, Contains, contains_absent, OwnSlot, own_slot, LookupRight, lookup_right, contains_set, lookup_set, others_set, others_not_own, others_kept}
 use Rattle.machine.specs.Timeline.{Call, RequestCall, CountCall, CallItem, Scan, is_own_call}
 use Rattle.machine.specs.Machine.{CallOutcome, Stays, Retires, Leaves, Closes, Machine, Skip, ToSlot, Reading, Slots, Open, target_without, reading_without, call_decided, request_called, on_item, as_list, concerns, observed}

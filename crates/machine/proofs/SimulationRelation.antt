@@ -1,11 +1,10 @@
 -- How two runs go together: the whole run, with all requests, and the purged run, which has R alone. What holds of
 -- their states after each item.
-use Rattle.std.specs.Prelude.{◌≡◌, List, [], ◌∷◌, ◌++◌, Bool, true, false, replicate, eqb}
+use Rattle.std.specs.Prelude.{◌≡◌, List, [], ◌∷◌, ◌++◌, Bool, true, false, replicate, eqb, if◌then◌else◌}
 use Rattle.std.proofs.Math.Path.{refl}
 use Rattle.std.proofs.Math.Option.{Option, none, some}
 use Prim.Native.Nat.{ℕ, zero, suc}
 use Rattle.std.proofs.Common.{eq-eqb, ne_eqb}
-use Rattle.wire.specs.Test.{if◌then◌else◌}
 use Rattle.machine.specs.Slots.{SlotState, Vacant, HeldBy, Absent, FoundAt, lookup, slot_at, OfOthers, Contains, ContainsVacant, ContainsOwn, contains_absent, own_slot, contains_none}
 use Rattle.machine.specs.Timeline.{header_id, Scan, ScanHeader, ScanRest, scan_left}
 use Rattle.machine.specs.Machine.{Decided, Declined, Accepted, Stays, Retires, Leaves, Machine, Target, Skip, ToBegin, ToQuery, ToSlot, Reading, AtHeader, PastHeader, Slots, Connection, Open, Closed, Observation, RequestEvent, CallAnswer, Effect, event_from, with_left, as_list, concerns, observed, request_found, request_in}

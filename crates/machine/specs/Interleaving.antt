@@ -1,7 +1,7 @@
 -- Interleavings: timelines that are put together from whole records and calls, and what of one is R's own. Definitions
 -- only. Like those of `Timeline` they know no connection: a call is an id and an argument of any type.
-use Rattle.std.specs.Prelude.{◌≡◌, List, [], ◌∷◌, ◌++◌, Bool, true, ℕ}
-use Rattle.wire.specs.Test.{if◌then◌else◌, ◌=?◌}
+use Rattle.std.specs.Prelude.{◌≡◌, List, [], ◌∷◌, ◌++◌, Bool, true, ℕ, if◌then◌else◌}
+use Rattle.wire.specs.Test.{◌=?◌}
 use Rattle.record.specs.Split.{Record, split}
 use Rattle.machine.specs.Timeline.{Call, Item, ByteItem, CallItem, item_bytes, is_own_call}
 

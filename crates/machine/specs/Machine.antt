@@ -1,8 +1,8 @@
 -- A connection over any machine of one request: it finds the request of a record or a call by its id, lets that
 -- request decide, and puts it back. Definitions only.
-use Rattle.std.specs.Prelude.{List, [], ◌∷◌, ◌++◌, Bool, true, false, ℕ, zero, suc, length, set, replicate}
+use Rattle.std.specs.Prelude.{List, [], ◌∷◌, ◌++◌, Bool, true, false, ℕ, zero, suc, length, set, replicate, if◌then◌else◌}
 use Rattle.std.proofs.Math.Option.{Option, none, some}
-use Rattle.wire.specs.Test.{if◌then◌else◌, ◌<?◌, ◌=?◌}
+use Rattle.wire.specs.Test.{◌<?◌, ◌=?◌}
 use Rattle.machine.specs.Cause.{Cause}
 use Rattle.machine.specs.Timeline.{RequestCall, CountCall, Item, ByteItem, CallItem, header_version, header_type, header_id, header_content, header_padding}
 use Rattle.machine.specs.Slots.{SlotState, Vacant, HeldBy, Lookup, Absent, FoundAt, Vacancy, NoVacancy, VacancyAt, lookup, first_vacancy, slot_at}

@@ -1,6 +1,6 @@
 -- The slots of a connection: where an id stands, the lowest free slot, and what a write to one slot does to the
 -- request of one id.
-use Rattle.std.specs.Prelude.{◌≡◌, Bool, get_or, set, replicate}
+use Rattle.std.specs.Prelude.{◌≡◌, Bool, get_or, set, replicate, if◌then◌else◌}
 use Rattle.std.proofs.Math.Path.{refl, ap, sym}
 use Rattle.std.proofs.Common.{◌∙◌, arith, eqb-true, eq-eqb, ne_eqb}
 use mathlib.Core.List.{List, [], ◌∷◌}
@@ -8,7 +8,7 @@ use Rattle.std.proofs.Math.Option.{Option, none, some}
 use Rattle.std.proofs.Math.Bool.{true, false}
 use Prim.Native.Nat.{ℕ, zero, suc}
 use Rattle.std.proofs.Math.Dec.{eqb}
-use Rattle.wire.specs.Test.{if◌then◌else◌, ◌=?◌}
+use Rattle.wire.specs.Test.{◌=?◌}
 
 -- A slot is free and keeps what was left in it, or is held by an id with its request.
 pub data SlotState (Leftover Request : Type 0) : Type 0 where

@@ -1,7 +1,7 @@
 -- Timelines: the bytes that the steps of a run used and the calls that it made, in order; and what purging (striking
 -- out) leaves of one. Definitions only. They know no connection: a call is an id and an argument of any type.
-use Rattle.std.specs.Prelude.{List, [], ◌∷◌, ◌++◌, Bool, true, false, ℕ, zero, suc, length}
-use Rattle.wire.specs.Test.{if◌then◌else◌, ◌<?◌, ◌=?◌}
+use Rattle.std.specs.Prelude.{List, [], ◌∷◌, ◌++◌, Bool, true, false, ℕ, zero, suc, length, if◌then◌else◌}
+use Rattle.wire.specs.Test.{◌<?◌, ◌=?◌}
 use Rattle.record.specs.Header.{header_of}
 
 -- ---- items

@@ -1,11 +1,10 @@
 -- Nothing is lost and nothing comes twice in a call: what waited and what it says is what it writes and what waits
 -- then.
-use Rattle.std.specs.Prelude.{◌≡◌, Bool, true, false}
+use Rattle.std.specs.Prelude.{◌≡◌, Bool, true, false, if◌then◌else◌}
 use Rattle.std.proofs.Math.Path.{refl, ap, sym}
 use Rattle.std.proofs.Common.{◌∙◌}
 use mathlib.Core.List.{List, [], ◌∷◌, ◌++◌, append_assoc, append-nil}
 use Rattle.std.proofs.Math.Option.{none, some}
-use Rattle.wire.specs.Test.{if◌then◌else◌}
 use Rattle.machine.specs.Machine.{CallOutcome, Stays, Retires, Leaves, Closes, Machine, Observation, RequestEvent, NoticeEvent, CloseEvent, CountAnswer, CallAnswer}
 use Rattle.machine_queue.specs.Waiting.{Queue, Waiting, CallLeaving, ServeLive, ServeLeaving}
 

@@ -1,11 +1,10 @@
 -- Where one run has R's items of another and both may serve at any time, their items go together.
-use Rattle.std.specs.Prelude.{◌≡◌, Bool, ℕ}
+use Rattle.std.specs.Prelude.{◌≡◌, Bool, ℕ, if◌then◌else◌}
 use Rattle.std.proofs.Math.Path.{refl}
 use Rattle.std.proofs.Common.{sym, ◌∙◌, arith}
 use mathlib.Core.List.{List, [], ◌∷◌, ◌++◌}
 use Rattle.std.proofs.Math.Bool.{true, false}
 use borrow.Author.Tests.{eqb-true}
-use Rattle.wire.specs.Test.{if◌then◌else◌}
 use Rattle.machine.specs.Timeline.{Call, RequestCall, CountCall, Item, ByteItem, CallItem, item_bytes, Scan, scan_next, is_own, is_own_call, purge_from}
 use Rattle.machine.specs.Machine.{Machine}
 use Rattle.machine_queue.specs.Waiting.{Queue, unserved}

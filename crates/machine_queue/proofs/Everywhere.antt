@@ -1,13 +1,12 @@
 -- What is known of every slot of a connection: kept by bytes, and by calls that keep it of their own slot. One walk
 -- over
 -- the machine for every such property.
-use Rattle.std.specs.Prelude.{◌≡◌, List, [], ◌∷◌, ◌++◌, ◌⊎◌, Bool, length, set, eqb, ltb}
+use Rattle.std.specs.Prelude.{◌≡◌, List, [], ◌∷◌, ◌++◌, ◌⊎◌, Bool, length, set, eqb, ltb, if◌then◌else◌}
 use Rattle.std.proofs.Common.{sym, inl, inr}
 use Rattle.std.proofs.Math.Path.{subst}
 use Rattle.std.proofs.Math.Option.{Option, none, some}
 use Rattle.std.proofs.Math.Bool.{true, false}
 use Prim.Native.Nat.{ℕ, zero, suc}
-use Rattle.wire.specs.Test.{if◌then◌else◌}
 use Rattle.machine.specs.Slots.{SlotState, Vacant, HeldBy, Lookup, Absent, FoundAt, Vacancy, NoVacancy, VacancyAt, lookup, first_vacancy, slot_at, LookupRight, lookup_right}
 use Rattle.machine.proofs.ShapeSlots.{written_or_not, VacancyThere, vacancy_there}
 use Rattle.machine.proofs.ShapeKept.{fresh_vacant}

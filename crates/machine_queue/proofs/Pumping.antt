@@ -4,14 +4,14 @@ use Rattle.std.proofs.Math.Path.{◌≡◌, refl}
 use Rattle.std.proofs.Common.{ap, sym, ◌∙◌}
 use mathlib.Core.List.{List, [], ◌∷◌, ◌++◌}
 use Rattle.std.proofs.Math.Option.{Option, none, some}
-use Rattle.std.specs.Prelude.{Bool, ◌⊎◌, length, eqb}
+use Rattle.std.specs.Prelude.{Bool, ◌⊎◌, length, eqb, if◌then◌else◌}
 use Rattle.std.proofs.Math.Bool.{true, false}
 use Rattle.std.proofs.Math.Logic.{inl, inr}
 use Prim.Native.Nat.{ℕ, zero, suc, ◌+◌, ◌-◌, ◌≤◌, ◌<◌}
 use native.Mathlib.Omega.{arith}
 use Rattle.std.proofs.Math.Dec.{ltb, leb}
 use borrow.Author.Tests.{eqb-true, eqb-false, ltb-true, ltb-false, leb-true, leb-false, le-leb, lt-leb}
-use Rattle.wire.specs.Test.{if◌then◌else◌, byTest}
+use Rattle.wire.specs.Test.{by_test}
 use Rattle.machine.specs.Timeline.{RequestCall, Item, CallItem}
 use Rattle.machine.specs.Slots.{SlotState, Vacant, HeldBy, slot_at}
 use Rattle.machine.specs.Machine.{Machine, Slots, Connection, Open, Closed, on_item, state_after}
@@ -23,18 +23,18 @@ module _ (N : ℕ) where
   -- they are fewer than all
   pub distance_below : (i p : ℕ) → i < N → p < N → distance N i p < N
   unfolding distance
-  distance_below i p a b = byTest (leb p i) (λ e. rw e (omega arith)) (λ e. let h = leb-false p i e in rw e (omega arith))
+  distance_below i p a b = by_test (leb p i) (λ e. rw e (omega arith)) (λ e. let h = leb-false p i e in rw e (omega arith))
 
   -- one slot on, it is one less
   pub distance_after : (i p : ℕ) → i < N → p < N → (p ≡ i → ⊥) → distance N i (slot_after N p) + 1 ≡ distance N i p
   unfolding distance slot_after
-  distance_after i p a b d = byTest (ltb (p + 1) N) inside around
+  distance_after i p a b d = by_test (ltb (p + 1) N) inside around
     where
       low : leb p i ≡ true → ltb (p + 1) N ≡ true → leb (p + 1) i ≡ true → (if leb (if ltb (p + 1) N then p + 1 else 0) i then i - (if ltb (p + 1) N then p + 1 else 0) else i + N - (if ltb (p + 1) N then p + 1 else 0)) + 1 ≡ (if leb p i then i - p else i + N - p)
       low x y z = let h = leb-true (p + 1) i z in rw (y, x, z) (omega arith)
 
       inside : ltb (p + 1) N ≡ true → (if leb (if ltb (p + 1) N then p + 1 else 0) i then i - (if ltb (p + 1) N then p + 1 else 0) else i + N - (if ltb (p + 1) N then p + 1 else 0)) + 1 ≡ (if leb p i then i - p else i + N - p)
-      inside y = byTest (leb p i)
+      inside y = by_test (leb p i)
           (λ x. let h = leb-true p i x in let z : p + 1 ≤ i = omega arith in low x y (le-leb (p + 1) i z))
           (λ x. let h = leb-false p i x in let z : i < p + 1 = omega arith in let w = ltb-true (p + 1) N y in rw (y, x, lt-leb (p + 1) i z) (omega arith))
 
@@ -44,7 +44,7 @@ module _ (N : ℕ) where
   -- it is a slot
   pub after_below : (p : ℕ) → p < N → slot_after N p < N
   unfolding slot_after
-  after_below p b = byTest (ltb (p + 1) N) (λ e. let h = ltb-true (p + 1) N e in rw e h) (λ e. rw e (omega arith))
+  after_below p b = by_test (ltb (p + 1) N) (λ e. let h = ltb-true (p + 1) N e in rw e h) (λ e. rw e (omega arith))
 
   -- Where slot i waits, the slot that is served next is i, or one that brings the turn nearer to i.
   pub record Nearer (i p j : ℕ) : Type 0 where
@@ -60,7 +60,7 @@ module _ (N : ℕ) where
       go : (o : Bool) → waits p ≡ o
           → ((p ≡ i → ⊥) → (j : ℕ) × (next_waiting N k waits (slot_after N p) ≡ some j) × Nearer i (slot_after N p) j)
           → (j : ℕ) × ((if o then some p else next_waiting N k waits (slot_after N p)) ≡ some j) × Nearer i p j
-      go true o f = (p, refl, record { below = b; itself_or_nearer = byTest (eqb p i) (λ e. inl (eqb-true p i e)) (λ e. inr (let x = distance_after i p a b (eqb-false p i e) in omega arith)) })
+      go true o f = (p, refl, record { below = b; itself_or_nearer = by_test (eqb p i) (λ e. inl (eqb-true p i e)) (λ e. inr (let x = distance_after i p a b (eqb-false p i e) in omega arith)) })
       go false o f =
           let x : p ≡ i → ⊥ = λ e. let z : ◌≡◌ {A = ℕ} 0 1 = cc (o, w, e) in omega arith in
           let r = f x in

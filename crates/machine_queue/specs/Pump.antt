@@ -1,7 +1,7 @@
 -- Going round: slots are served in turn.
-use Rattle.std.specs.Prelude.{ℕ, zero, suc, ◌+◌, ◌-◌, Bool}
+use Rattle.std.specs.Prelude.{ℕ, zero, suc, ◌+◌, ◌-◌, Bool, if◌then◌else◌}
 use Rattle.std.proofs.Math.Option.{Option, none, some}
-use Rattle.wire.specs.Test.{if◌then◌else◌, ◌<?◌, ◌≤?◌}
+use Rattle.wire.specs.Test.{◌<?◌, ◌≤?◌}
 
 -- ---- going round
 module _ (N : ℕ) where

@@ -6,7 +6,7 @@ use Rattle.std.proofs.Math.Bool.{false}
 use mathlib.Core.List.{List, [], ◌∷◌, ◌++◌, append-nil, append_assoc}
 use Rattle.std.proofs.Math.Dec.{eqb}
 use borrow.Author.Tests.{ne_eqb}
-use Rattle.wire.specs.Test.{byTest}
+use Rattle.wire.specs.Test.{by_test}
 use Rattle.record.specs.Header.{header_of}
 use Rattle.record.specs.declared.header.Header.{Header}
 use Rattle.connection.specs.declared.state.Table.{Table}
@@ -59,7 +59,7 @@ unfolding content_means by_byte
 content_read st store h [] room sound = by_open (judged st store h)
   where
     by_open : (l : Left) → resting (ran l []).state (ran l []).store ≡ content_means (h.content - 0) h.padding [] (ran l []).state (ran l []).store
-    by_open l = byTest l.conn.«open» (λ t. simp t) (λ t. simp t)
+    by_open l = by_test l.conn.«open» (λ t. simp t) (λ t. simp t)
 content_read st store h (b ∷ x) room sound =
     by_judged st store h h.padding
     (λ l l'. Sound (ran l [])

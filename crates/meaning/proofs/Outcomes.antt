@@ -1,7 +1,7 @@
 -- Where the rules lead: a header and its content leave the connection closed, or open with a frame that the rules do
 -- not choose.
-use Rattle.std.specs.Prelude.{ℕ, Bool, true, false, List, []}
-use Rattle.wire.specs.Test.{if◌then◌else◌, ◌<?◌, ◌=?◌}
+use Rattle.std.specs.Prelude.{ℕ, Bool, true, false, List, [], if◌then◌else◌}
+use Rattle.wire.specs.Test.{◌<?◌, ◌=?◌}
 use Rattle.record.specs.Names.{VERSION, BEGIN_REQUEST, GET_VALUES, RESPONDER, AUTHORIZER, FILTER}
 use Rattle.record.specs.declared.header.Header.{Header}
 use Rattle.record.specs.declared.body.BeginBody.{BeginBody}
@@ -16,7 +16,7 @@ use Rattle.connection.specs.declared.state.Frame.{Frame}
 use Rattle.connection.specs.Sizes.{SLOTS, QUERY}
 use Rattle.connection.specs.Event.{Event}
 use Rattle.connection.specs.Request.{on_header}
-use Rattle.connection.specs.Slots.{held_at, find, onSlot, free_slot_of}
+use Rattle.connection.specs.Slots.{held_at, find, on_slot, free_slot_of}
 use Rattle.connection.specs.Step.{State, Left, no_body, frame_after, open_with, closed_conn, closes, due_to, query_of, queried, on_management, on_inactive, on_active, judged, opens, begun, of_begin, of_query, of_request, on_target}
 use Rattle.meaning.specs.Meaning.{to_come, with_padding}
 
@@ -68,7 +68,7 @@ module _ (st : State) (store : List ℕ) (h : Header) (n : ℕ) (P : Left → Le
   unfolding on_active
   by_active i = goes _ (due_to (on_header h.kind h.content (held_at st.conn.table store i)).due i) _ _ _
 
-  by_slot : (k : Slot) → P (onSlot k (on_active st store h) (on_inactive st store h)) (onSlot k (on_active st store other) (on_inactive st store other))
+  by_slot : (k : Slot) → P (on_slot k (on_active st store h) (on_inactive st store h)) (on_slot k (on_active st store other) (on_inactive st store other))
   by_slot (Slot.At i) = by_active i
   by_slot Slot.Nowhere = by_inactive
 

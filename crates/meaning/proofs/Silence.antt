@@ -1,7 +1,7 @@
 -- What a meaning does not rest on: padding, and records of an id that is not active. And where whole records end.
 use Rattle.std.specs.Prelude.{ℕ, zero, suc, ◌≡◌, refl, Bool, true, List, [], ◌∷◌, ◌++◌, map, length, take, drop}
 use Rattle.std.proofs.Common.{sym, ap, ap₂, ◌∙◌, subst, arith, eq-eqb, ne_eqb}
-use Rattle.wire.specs.Test.{byTest}
+use Rattle.wire.specs.Test.{by_test}
 use Rattle.record.specs.Names.{VERSION, BEGIN_REQUEST}
 use Rattle.record.specs.Split.{Record, Split, front_length, whole_front, split}
 use Rattle.record.proofs.Padding.{bare_header, unpadded_in, unpadded, bare, padding_dropped}
@@ -31,7 +31,7 @@ bares_mean (r ∷ rs) rest st store =
     let e : record_means st store (bare r) then-run records_mean (map bare rs) rest ≡ m then-run records_mean rs rest =
     ap (λ (w : Run). w then-run records_mean (map bare rs) rest) (bare_means r st store)
     ∙ follows m (records_mean (map bare rs) rest) (records_mean rs rest) (bares_mean rs rest m.state m.store) in
-    byTest st.conn.«open» (λ o. simp o e) (λ o. simp o)
+    by_test st.conn.«open» (λ o. simp o e) (λ o. simp o)
 
 -- Bytes mean the same when the padding of every whole record is dropped.
 pub unpadded_means : (b : List ℕ) (st : State) (store : List ℕ) → means st store (unpadded b) ≡ means st store b
@@ -57,7 +57,7 @@ unpadded_bytes (suc n) b all =
     let header : AllBytes (bare_header b) =
     append_bytes (take 6 b) ((0 ∷ []) ++ drop 7 (take 8 b)) (take_bytes 6 b all)
     (append_bytes (0 ∷ []) (drop 7 (take 8 b)) (zeros_bytes 1) (drop_bytes 7 (take 8 b) (take_bytes 8 b all))) in
-    byTest (whole_front b)
+    by_test (whole_front b)
     (λ t. simp t
     (append_bytes (bare_header b) (take c (drop 8 b) ++ unpadded_in n (drop (front_length b) b)) header
     (append_bytes (take c (drop 8 b)) (unpadded_in n (drop (front_length b) b)) (take_bytes c (drop 8 b) (drop_bytes 8 b all))
@@ -106,10 +106,10 @@ inactive_says_nothing r st store k version id none kind = go r.content
 -- ---- where whole records end
 records_end : (rs : List Record) (st : State) (store : List ℕ) → st.conn.frame ≡ no_frame → (records_mean rs [] st store).state.conn.frame ≡ no_frame
 unfolding records_mean rest_means
-records_end [] st store f = byTest st.conn.«open» (λ o. simp o (rw f)) (λ o. simp o f)
+records_end [] st store f = by_test st.conn.«open» (λ o. simp o (rw f)) (λ o. simp o f)
 records_end (r ∷ rs) st store f =
     let m = record_means st store r in
-    byTest st.conn.«open»
+    by_test st.conn.«open»
     (λ o. simp o (records_end rs m.state m.store (ends_between st store (header_for r) r.content refl)))
     (λ o. simp o f)
 

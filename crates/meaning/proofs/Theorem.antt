@@ -1,7 +1,7 @@
 -- Bytes fed in any cutting come to what their records mean.
 use Rattle.std.specs.Prelude.{ℕ, ◌+◌, ◌-◌, ◌≤◌, ◌<◌, ◌≡◌, refl, Bool, true, false, List, [], ◌∷◌, ◌++◌, length, take, drop, ltb, leb}
 use Rattle.std.proofs.Common.{sym, ap, ap₂, ◌∙◌, subst, append_assoc, arith, length-drop, take-append-drop, take_all, length-take-le, drop-drop, lt-ltb, ltb-true, ltb-false, leb-true, leb-false, eq-eqb}
-use Rattle.wire.specs.Test.{byTest}
+use Rattle.wire.specs.Test.{by_test}
 use Rattle.record.specs.Header.{header_of}
 use Rattle.record.specs.declared.header.Header.{Header}
 use Rattle.record.specs.Split.{Record, Split, front_length, whole_front, front, split}
@@ -89,17 +89,17 @@ module _ (st : State) (store b : List ℕ) (k : Between st store) (all : AllByte
 rest_read : (st : State) (store b : List ℕ) → Between st store → AllBytes b → whole_front b ≡ false → by_byte st store b ≡ rest_means st store b
 unfolding rest_means front_length
 rest_read st store b k all t =
-    byTest (ltb (length b) 8) (λ e. rest_part st store b k (ltb-true (length b) 8 e))
+    by_test (ltb (length b) 8) (λ e. rest_part st store b k (ltb-true (length b) 8 e))
     (λ e.
     let header = ltb-false (length b) 8 e in
     let c = (header_of b).content in
     let p = (header_of b).padding in
-    byTest (leb c (length b - 8))
+    by_test (leb c (length b - 8))
     (λ f.
     let within = leb-true c (length b - 8) f in
     let z : 0 ≡ c - (length b - 8) = omega arith in
     simp e
-    (byTest (leb (front_length b) (length b))
+    (by_test (leb (front_length b) (length b))
     (λ g. let w : ◌≡◌ {A = ℕ} 0 1 = cc (front_whole b header (leb-true (front_length b) (length b) g), t) in absurd (omega arith))
     (λ g.
     rest_padding st store b k all header within (omega (arith, leb-false (front_length b) (length b) g))
@@ -159,7 +159,7 @@ behind_front st store b rest s k all t ih =
     (append_bytes (take c (drop 8 b)) (take p (drop (8 + c) b)) (take_bytes c (drop 8 b) (drop_bytes 8 b all)) (take_bytes p (drop (8 + c) b) (drop_bytes (8 + c) b all))) in
     let sound : Sound r = subst Sound (front_read st store b k all t) (stays_sound st store (front_bytes b c p) k bytes) in
     follows r (reading rest) (records_mean s.records s.rest)
-    (byTest r.state.conn.«open»
+    (by_test r.state.conn.«open»
     (λ o.
     ih r.state r.store
     (record { frame = ends_between st store (header_for (front b)) (front b).content refl; is_open = o; shape = sound.shape; sizes = sound.sizes }))

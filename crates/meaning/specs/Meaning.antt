@@ -1,7 +1,7 @@
 -- What bytes mean, record by record: the records of their split, each header judged and its content given at once to
 -- what it is for. Here is no phase and no step.
-use Rattle.std.specs.Prelude.{ℕ, ◌-◌, List, [], ◌∷◌, length, take, drop}
-use Rattle.wire.specs.Test.{if◌then◌else◌, ◌<?◌, ◌=?◌}
+use Rattle.std.specs.Prelude.{ℕ, ◌-◌, List, [], ◌∷◌, length, take, drop, if◌then◌else◌}
+use Rattle.wire.specs.Test.{◌<?◌, ◌=?◌}
 use Rattle.wire.specs.Buffer.{put_at}
 use Rattle.record.specs.Names.{HEADER_LEN}
 use Rattle.record.specs.Header.{header_of}

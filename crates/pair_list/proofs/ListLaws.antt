@@ -1,13 +1,13 @@
 -- What holds of the pairs of a list. The bound of the definition is seen in `enough` only, and in the proof of
 -- `pairs_step`.
-use Rattle.std.specs.Prelude.{◌≡◌, refl, ℕ, zero, suc, ◌+◌, ◌-◌, ◌≤◌, ◌<◌, true, false, length, take, drop}
+use Rattle.std.specs.Prelude.{◌≡◌, refl, ℕ, zero, suc, ◌+◌, ◌-◌, ◌≤◌, ◌<◌, true, false, length, take, drop, if◌then◌else◌}
 use Rattle.std.proofs.Common.{sym, ap, ◌∙◌, subst, arith, ⊎_elim}
 use mathlib.Core.List.Memᴰ
 use mathlib.Core.List.{List, [], ◌∷◌, Memᴰ}
-use Rattle.wire.specs.Test.{if◌then◌else◌, ◌=?◌, byTest}
+use Rattle.wire.specs.Test.{◌=?◌, by_test}
 use Rattle.pairs.specs.Pair.{pair_at, name_of}
 use Rattle.wire.specs.Compare.{same_bytes}
-use Rattle.pair_list.specs.List.{Pairs, onRead, and_pairs, pairs_in, pairs_from, ending_of, is_end, well_formed, place_of, broken_at, first_in, number_in, first_named, pair_number}
+use Rattle.pair_list.specs.List.{Pairs, on_read, and_pairs, pairs_in, pairs_from, ending_of, is_end, well_formed, place_of, broken_at, first_in, number_in, first_named, pair_number}
 use Rattle.pairs.proofs.PairLaws.{end_past, PairIn, pair_in_lem, pair_end, malformed_place, no_pair_lem}
 use Rattle.wire.proofs.CompareLaws.{same_is}
 use Rattle.pairs.specs.declared.pair.Pair.{Pair}
@@ -28,17 +28,17 @@ enough (suc k) zero s at h h' = simp (pair_end s at (omega arith))
 enough (suc k) (suc k') s at h h' = go (λ (next : ℕ). enough k k' s next) (pair_at s at) refl
   where
     go : ((next : ℕ) → length s - next ≤ k → length s - next ≤ k' → pairs_in k s next ≡ pairs_in k' s next)
-        → (r : Read) → pair_at s at ≡ r → onRead r (λ p next. and_pairs p (pairs_in k s next)) ended ≡ onRead r (λ p next. and_pairs p (pairs_in k' s next)) ended
+        → (r : Read) → pair_at s at ≡ r → on_read r (λ p next. and_pairs p (pairs_in k s next)) ended ≡ on_read r (λ p next. and_pairs p (pairs_in k' s next)) ended
     go f (Read.Pair p next) q = let i = pair_in_lem s at p next q in ap (and_pairs p) (f next (omega arith) (omega arith))
     go f Read.End q = refl
     go f (Read.Malformed place) q = refl
 
 -- the pairs from a cursor on: a turn, without the bound
-pub pairs_step : (s : List ℕ) (at : ℕ) → pairs_from s at ≡ onRead (pair_at s at) (λ p next. and_pairs p (pairs_from s next)) ended
+pub pairs_step : (s : List ℕ) (at : ℕ) → pairs_from s at ≡ on_read (pair_at s at) (λ p next. and_pairs p (pairs_from s next)) ended
 unfolding pairs_from pairs_in
 pairs_step s at = enough (length s - at) (suc (length s - at)) s at (omega arith) (omega arith) ∙ go (pair_at s at) refl
   where
-    go : (r : Read) → pair_at s at ≡ r → onRead r (λ p next. and_pairs p (pairs_in (length s - at) s next)) ended ≡ onRead r (λ p next. and_pairs p (pairs_in (length s - next) s next)) ended
+    go : (r : Read) → pair_at s at ≡ r → on_read r (λ p next. and_pairs p (pairs_in (length s - at) s next)) ended ≡ on_read r (λ p next. and_pairs p (pairs_in (length s - next) s next)) ended
     go (Read.Pair p next) q = let i = pair_in_lem s at p next q in ap (and_pairs p) (enough (length s - at) (length s - next) s next (omega arith) (omega arith))
     go Read.End q = refl
     go (Read.Malformed place) q = refl
@@ -84,7 +84,7 @@ pub pairs_induction : (s : List ℕ) (P : ℕ → Pairs → Type 0)
 pairs_induction s P ends stops goes at = from (length s - at) at (omega arith)
   where
     turn : (at : ℕ) → ((p : Pair) (next : ℕ) → pair_at s at ≡ Read.Pair p next → P next (pairs_from s next)) → (r : Read) → pair_at s at ≡ r
-        → P at (onRead r (λ p next. and_pairs p (pairs_from s next)) ended)
+        → P at (on_read r (λ p next. and_pairs p (pairs_from s next)) ended)
     turn at f (Read.Pair p next) e = goes at p next e (f p next e)
     turn at f Read.End e = ends at (end_past s at e)
     turn at f (Read.Malformed place) e = stops at place e
@@ -159,7 +159,7 @@ pub first_one : (s name : List ℕ) (ps : List Pair) (p : Pair) → first_in s n
 unfolding first_in
 first_one s name [] p e = let z : ◌≡◌ {A = ℕ} 0 1 = cc in absurd (omega arith)
 first_one s name (q ∷ ps) p e =
-    byTest (same_bytes (name_of s q) name)
+    by_test (same_bytes (name_of s q) name)
     (λ t. let z : p ≡ q = cc (simp t at e) in (Memᴰ.head z, ap (name_of s) z ∙ same_is (name_of s q) name t))
     (λ t. let r = first_one s name ps p (simp t at e) in (Memᴰ.tail r.0, r.1))
 
@@ -168,7 +168,7 @@ pub number_one : (ps : List Pair) (k : ℕ) (p : Pair) → number_in ps k ≡ Fo
 unfolding number_in
 number_one [] k p e = let z : ◌≡◌ {A = ℕ} 0 1 = cc in absurd (omega arith)
 number_one (q ∷ ps) k p e =
-    byTest (k =? 0)
+    by_test (k =? 0)
     (λ t. let z : p ≡ q = cc (simp t at e) in Memᴰ.head z)
     (λ t. Memᴰ.tail (number_one ps (k - 1) p (simp t at e)))
 

@@ -1,6 +1,6 @@
 -- A list of pairs, read from a cursor on.
-use Rattle.std.specs.Prelude.{ℕ, zero, suc, ◌-◌, Bool, true, false, List, [], ◌∷◌, length}
-use Rattle.wire.specs.Test.{if◌then◌else◌, ◌=?◌}
+use Rattle.std.specs.Prelude.{ℕ, zero, suc, ◌-◌, Bool, true, false, List, [], ◌∷◌, length, if◌then◌else◌}
+use Rattle.wire.specs.Test.{◌=?◌}
 use Rattle.pairs.specs.Pair.{pair_at, name_of}
 use Rattle.wire.specs.Compare.{same_bytes}
 use Rattle.pairs.specs.declared.pair.Pair.{Pair}
@@ -13,10 +13,10 @@ pub record Pairs : Type 0 where
   pub pairs : List Pair
   pub ending : Ending
 
-abbrev pub onRead {ℓ} : {A : Type ℓ} → Read → (Pair → ℕ → A) → (Ending → A) → A
-onRead (Read.Pair p next) f g = f p next
-onRead Read.End f g = g Ending.End
-onRead (Read.Malformed place) f g = g (Ending.Malformed place)
+abbrev pub on_read {ℓ} : {A : Type ℓ} → Read → (Pair → ℕ → A) → (Ending → A) → A
+on_read (Read.Pair p next) f g = f p next
+on_read Read.End f g = g Ending.End
+on_read (Read.Malformed place) f g = g (Ending.Malformed place)
 
 abbrev pub and_pairs : Pair → Pairs → Pairs
 and_pairs p ps = record { pairs = p ∷ ps.pairs; ending = ps.ending }
@@ -24,7 +24,7 @@ and_pairs p ps = record { pairs = p ∷ ps.pairs; ending = ps.ending }
 -- (The first argument bounds the number of pairs.)
 unfoldable pub pairs_in : ℕ → List ℕ → ℕ → Pairs
 pairs_in zero s at = record { pairs = []; ending = Ending.End }
-pairs_in (suc k) s at = onRead (pair_at s at) (λ p next. and_pairs p (pairs_in k s next)) (λ e. record { pairs = []; ending = e })
+pairs_in (suc k) s at = on_read (pair_at s at) (λ p next. and_pairs p (pairs_in k s next)) (λ e. record { pairs = []; ending = e })
 
 unfoldable pub pairs_from : List ℕ → ℕ → Pairs
 unfolding pairs_in

@@ -1,7 +1,7 @@
 -- What holds of the keys of a list's names.
-use Rattle.std.specs.Prelude.{◌≡◌, refl, ℕ, ◌+◌, ◌-◌, ◌≤◌, ◌<◌, true, false, List, [], ◌∷◌, ◌++◌, length, take, drop, set, get_or}
+use Rattle.std.specs.Prelude.{◌≡◌, refl, ℕ, ◌+◌, ◌-◌, ◌≤◌, ◌<◌, true, false, List, [], ◌∷◌, ◌++◌, length, take, drop, set, get_or, if◌then◌else◌}
 use Rattle.std.proofs.Common.{sym, ap, ◌∙◌, arith, add-one, append_assoc, append-nil, drop_of_length-le, drop-cons, drop-drop, get_or-take, take-suc-set, length-take-le, eq-eqb, ltb-false}
-use Rattle.wire.specs.Test.{if◌then◌else◌, ◌<?◌, ◌=?◌, byTest}
+use Rattle.wire.specs.Test.{◌<?◌, ◌=?◌, by_test}
 use Rattle.wire.specs.Compare.{same_bytes}
 use Rattle.wire.proofs.CompareLaws.{same_is}
 use Rattle.pairs.specs.Pair.{pair_at, name_of}
@@ -57,10 +57,10 @@ pub no_key : (s name : List ℕ) (ps : List Pair) → holds (keys_of s ps) (key_
 unfolding holds keys_of first_in
 no_key s name [] h = refl
 no_key s name (p ∷ ps) h =
-    byTest (key_of (name_of s p) =? key_of name)
+    by_test (key_of (name_of s p) =? key_of name)
     (λ t. let z : ◌≡◌ {A = ℕ} 0 1 = cc (simp t at h) in absurd (omega arith))
     (λ t.
-    byTest (same_bytes (name_of s p) name)
+    by_test (same_bytes (name_of s p) name)
     (λ q.
     let z : ◌≡◌ {A = ℕ} 0 1 = cc (t, eq-eqb (key_of (name_of s p)) (key_of name) (ap key_of (same_is (name_of s p) name q))) in
     absurd (omega arith))
@@ -71,7 +71,7 @@ pub not_held : (s : List ℕ) (at : ℕ) (keys : List ℕ) (start n : ℕ) (name
     → may_hold keys start n (key_of name) ≡ false → is_named (first_from s at name) ≡ false
 unfolding may_hold first_from
 not_held s at keys start n name filled h =
-    byTest (length keys <? n)
+    by_test (length keys <? n)
     (λ t. let z : ◌≡◌ {A = ℕ} 0 1 = cc (simp t at h) in absurd (omega arith))
     (λ t.
     let e = filled (ltb-false (length keys) n t) in

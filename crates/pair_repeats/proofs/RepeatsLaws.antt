@@ -1,9 +1,9 @@
 -- What holds of a list that repeats no name.
-use Rattle.std.specs.Prelude.{◌≡◌, ℕ, ◌-◌, true, false, take, drop}
+use Rattle.std.specs.Prelude.{◌≡◌, ℕ, ◌-◌, true, false, take, drop, if◌then◌else◌}
 use Rattle.std.proofs.Common.{sym, ap, ◌∙◌, subst, arith, ⊎_elim}
 use mathlib.Core.List.Memᴰ
 use mathlib.Core.List.{List, [], ◌∷◌, Memᴰ}
-use Rattle.wire.specs.Test.{if◌then◌else◌, byTest}
+use Rattle.wire.specs.Test.{by_test}
 use Rattle.wire.specs.Compare.{same_bytes}
 use Rattle.wire.proofs.CompareLaws.{same_is, same_refl}
 use Rattle.pairs.specs.Pair.{pair_at, name_of}
@@ -35,7 +35,7 @@ there_found : (s : List ℕ) (ps : List Pair) (q : Pair) → Memᴰ q ps → is_
 unfolding first_in
 there_found s [] q m = absurd (Memᴰ.not-nil m)
 there_found s (p ∷ ps) q m =
-    byTest (same_bytes (name_of s p) (name_of s q))
+    by_test (same_bytes (name_of s p) (name_of s q))
     (λ t. simp t)
     (λ t.
     ⊎_elim
@@ -48,13 +48,13 @@ first_only : (s : List ℕ) (ps : List Pair) (q : Pair) → repeats_in s ps ≡ 
 unfolding repeats_in first_in
 first_only s [] q h m = absurd (Memᴰ.not-nil m)
 first_only s (p ∷ ps) q h m =
-    byTest (is_named (first_in s (name_of s p) ps))
+    by_test (is_named (first_in s (name_of s p) ps))
     (λ f. let z : ◌≡◌ {A = ℕ} 0 1 = cc (simp f at h) in absurd (omega arith))
     (λ f.
     ⊎_elim
     (λ e. subst (λ (r : Pair). first_in s (name_of s r) (p ∷ ps) ≡ Found.At r) (sym e) (simp (same_refl (name_of s p))))
     (λ n.
-    byTest (same_bytes (name_of s p) (name_of s q))
+    by_test (same_bytes (name_of s p) (name_of s q))
     (λ t.
     let same = same_is (name_of s p) (name_of s q) t in
     let z : ◌≡◌ {A = ℕ} 0 1 = cc (f, ap (λ (name : List ℕ). is_named (first_in s name ps)) same ∙ there_found s ps q n) in

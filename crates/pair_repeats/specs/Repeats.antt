@@ -1,6 +1,5 @@
 -- Two pairs of a list with the same name.
-use Rattle.std.specs.Prelude.{ℕ, Bool, true, false, List, [], ◌∷◌}
-use Rattle.wire.specs.Test.{if◌then◌else◌}
+use Rattle.std.specs.Prelude.{ℕ, Bool, true, false, List, [], ◌∷◌, if◌then◌else◌}
 use Rattle.pairs.specs.Pair.{name_of}
 use Rattle.pairs.specs.declared.pair.Pair.{Pair}
 use Rattle.pair_list.specs.List.{pairs_from, first_in, is_named}

@@ -3,7 +3,7 @@ use Rattle.std.specs.Prelude.{ℕ, zero, suc, ◌+◌, ◌-◌, ◌≤◌, min, 
 use Rattle.std.proofs.Common.{sym, ap, ◌∙◌, append-nil, arith, length-append, length-take, length-drop, drop_of_length-le, take_all, ltb-true, ltb-false}
 use Rattle.std.proofs.lemmas.List.{take-append-le, drop-append-le}
 use Rattle.std.proofs.Math.Seq.{take-append-add, drop-append-add}
-use Rattle.wire.specs.Test.{byTest}
+use Rattle.wire.specs.Test.{by_test}
 use Rattle.wire.specs.Buffer.{copied}
 use Rattle.wire.proofs.BufferLaws.{put_none, copied_copied}
 
@@ -14,7 +14,7 @@ take_short n s = omega (arith, length-take n s)
 -- what follows a place
 pub drop_both : (n : ℕ) (a b : List ℕ) → drop n (a ++ b) ≡ drop n a ++ drop (n - length a) b
 drop_both n a b =
-    byTest (ltb (length a) n)
+    by_test (ltb (length a) n)
     (λ t.
     let h = ltb-true (length a) n t in
     let e : n ≡ length a + (n - length a) = omega arith in
@@ -29,7 +29,7 @@ drop_both n a b =
 pub take_both : (n : ℕ) (a b : List ℕ) → take n (a ++ b) ≡ take n a ++ take (n - length (take n a)) b
 take_both n a b =
     let l : length (take n a) ≡ min n (length a) = length-take n a in
-    byTest (ltb (length a) n)
+    by_test (ltb (length a) n)
     (λ t.
     let h = ltb-true (length a) n t in
     let e : n ≡ length a + (n - length (take n a)) = omega arith in
@@ -48,7 +48,7 @@ pub none_copied : (l : List ℕ) (at from n : ℕ) (s : List ℕ) → length s �
 unfolding copied
 none_copied l at from n s h =
     let none : take n (drop from s) ≡ [] = ap (take n) (drop_of_length-le s {i = from} h) ∙ take_none n in
-    (rw none, rw none (byTest (leb (at + 0) (length l)) (λ t. simp t (sym (put_none l at))) (λ t. simp t)))
+    (rw none, rw none (by_test (leb (at + 0) (length l)) (λ t. simp t (sym (put_none l at))) (λ t. simp t)))
   where
     take_none : (n : ℕ) → take {A = ℕ} n [] ≡ []
     take_none zero = refl
@@ -61,7 +61,7 @@ some_taken from n k s e =
     let l : length (take n (drop from s)) ≡ min n (length (drop from s)) = length-take n (drop from s) in
     let i : from + k - from ≡ k = omega arith in (
       ap (λ (j : ℕ). take j (drop from s)) i
-          ∙ byTest (ltb (length (drop from s)) n)
+          ∙ by_test (ltb (length (drop from s)) n)
           (λ t. let h = ltb-true (length (drop from s)) n t in take_all k (drop from s) (omega arith) ∙ sym (take_all n (drop from s) (omega arith)))
           (λ t. let h = ltb-false (length (drop from s)) n t in let q : k ≡ n = omega arith in ap (λ (j : ℕ). take j (drop from s)) q),
       omega arith,

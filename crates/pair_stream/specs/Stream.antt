@@ -1,6 +1,6 @@
 -- The call that writes a pair as a stream into a lent buffer.
-use Rattle.std.specs.Prelude.{ℕ, List, length}
-use Rattle.wire.specs.Test.{if◌then◌else◌, ◌<?◌}
+use Rattle.std.specs.Prelude.{ℕ, List, length, if◌then◌else◌}
+use Rattle.wire.specs.Test.{◌<?◌}
 use Rattle.wire.specs.Buffer.{put_at}
 use Rattle.record_writer.specs.Written.{stream_bytes, stream_fits}
 use Rattle.pairs.specs.Pair.{pair_bytes}

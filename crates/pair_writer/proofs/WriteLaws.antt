@@ -1,8 +1,8 @@
 -- What holds of a pair that is written.
 use Rattle.pairs.specs.Pair.{pair_bytes}
-use Rattle.std.specs.Prelude.{◌≡◌, refl, ℕ, ◌+◌, ◌≤◌, ◌<◌, List, [], ◌∷◌, ◌++◌, length, take, drop}
+use Rattle.std.specs.Prelude.{◌≡◌, refl, ℕ, ◌+◌, ◌≤◌, ◌<◌, List, [], ◌∷◌, ◌++◌, length, take, drop, if◌then◌else◌}
 use Rattle.std.proofs.Common.{sym, ap, ◌∙◌, arith, length-append, take_at, lt-ltb, le-ltb}
-use Rattle.wire.specs.Test.{if◌then◌else◌, ◌<?◌, ◌=?◌, byTest}
+use Rattle.wire.specs.Test.{◌<?◌, ◌=?◌, by_test}
 use Rattle.wire.specs.Number.{bytes4}
 use Rattle.wire.specs.Buffer.{put_at, copied}
 use Rattle.wire.proofs.BufferLaws.{put_length, put_put, copied_room}
@@ -24,7 +24,7 @@ length_long n h = simp (le-ltb n 128 h)
 -- a length takes one byte to four
 pub length_takes : (n : ℕ) → (1 ≤ length (length_bytes n)) × (length (length_bytes n) ≤ 4)
 unfolding length_bytes
-length_takes n = byTest (n <? 128) (λ t. simp t (omega arith, omega arith)) (λ t. simp t (omega arith, omega arith))
+length_takes n = by_test (n <? 128) (λ t. simp t (omega arith, omega arith)) (λ t. simp t (omega arith, omega arith))
 
 -- a length copied to a place where there is room for it
 pub length_copied : (out : List ℕ) (at n : ℕ) {bytes : List ℕ} → length_bytes n ≡ bytes → at + length (length_bytes n) ≤ length out

@@ -1,7 +1,7 @@
 -- The call that writes a pair into a lent buffer.
 use Rattle.pairs.specs.Pair.{pair_bytes}
-use Rattle.std.specs.Prelude.{ℕ, List, length}
-use Rattle.wire.specs.Test.{if◌then◌else◌, ◌<?◌}
+use Rattle.std.specs.Prelude.{ℕ, List, length, if◌then◌else◌}
+use Rattle.wire.specs.Test.{◌<?◌}
 use Rattle.wire.specs.Buffer.{put_at}
 use Rattle.pair_writer.specs.declared.PairWrote.{PairWrote}
 use Rattle.pair_writer.specs.declared.PairWrote.TheVariants.{Bytes, TooLong, NoRoom}

@@ -1,7 +1,7 @@
 -- What holds of a length and of a pair that were read.
 use Rattle.std.specs.Prelude.{◌≡◌, refl, ℕ, ◌+◌, ◌-◌, ◌≤◌, ◌<◌, List, length}
 use Rattle.std.proofs.Common.{ap, ◌∙◌, subst, arith, ltb-false, leb-true, leb-false, le-leb}
-use Rattle.wire.specs.Test.{byTest, ◌<?◌, ◌≤?◌}
+use Rattle.wire.specs.Test.{by_test, ◌<?◌, ◌≤?◌}
 use Rattle.wire.specs.Buffer.{byte_at}
 use Rattle.pairs.specs.Length.{length_at}
 use Rattle.pairs.specs.Pair.{on_length, body_at, pair_at}
@@ -13,11 +13,11 @@ use Rattle.pairs.specs.declared.pair.Read.{Read}
 pub length_next : (s : List ℕ) (at n next : ℕ) → length_at s at ≡ Length.Is n next → (at < next) × (next ≤ length s)
 unfolding length_at
 length_next s at n next e =
-    byTest (length s ≤? at)
+    by_test (length s ≤? at)
     (λ t1. let z : ◌≡◌ {A = ℕ} 0 1 = cc (simp t1 at e) in absurd (omega arith))
-    (λ t1. byTest (byte_at s at <? 128)
+    (λ t1. by_test (byte_at s at <? 128)
     (λ t2. let q : at + 1 ≡ next = cc (simp (t1, t2) at e) in omega (arith, leb-false (length s) at t1))
-    (λ t2. byTest (length s - at <? 4)
+    (λ t2. by_test (length s - at <? 4)
     (λ t3. let z : ◌≡◌ {A = ℕ} 0 1 = cc (simp (t1, t2, t3) at e) in absurd (omega arith))
     (λ t3. let q : at + 4 ≡ next = cc (simp (t1, t2, t3) at e) in omega (arith, ltb-false (length s - at) 4 t3, leb-false (length s) at t1))))
 
@@ -41,15 +41,15 @@ ReadSays s at (Read.Malformed place) = (place ≡ at) × (at < length s)
 pub read_says : (s : List ℕ) (at : ℕ) → ReadSays s at (pair_at s at)
 unfolding pair_at
 read_says s at =
-    byTest (length s ≤? at)
+    by_test (length s ≤? at)
     (λ t. rw t (leb-true (length s) at t))
     (λ t. rw t (first (leb-false (length s) at t) (length_at s at) refl))
   where
     body : (n a v b : ℕ) → at < length s → at < a → a < b → b ≤ length s → ReadSays s at (body_at s at n v b)
     body n a v b h h1 h2 h3 =
-        byTest (length s - b <? n)
+        by_test (length s - b <? n)
         (λ t1. rw t1 (refl, h))
-        (λ t1. byTest (length s - (b + n) <? v)
+        (λ t1. by_test (length s - (b + n) <? v)
         (λ t2. rw (t1, t2) (refl, h))
         (λ t2. rw (t1, t2)
         (record {

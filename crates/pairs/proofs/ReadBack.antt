@@ -3,7 +3,7 @@ use Rattle.std.specs.Prelude.{◌≡◌, refl, ℕ, ◌+◌, ◌*◌, ◌-◌, �
 use Rattle.std.proofs.Common.{ap, subst, arith, append_assoc, length-append, length-take, length-drop, take_at, drop_at, get_or-append-add, ltb-true, lt-ltb, le-ltb}
 use Rattle.std.proofs.Math.Seq.{get_or-append_seam}
 use Rattle.std.proofs.lemmas.Bool.{lt-leb}
-use Rattle.wire.specs.Test.{◌<?◌, ◌≤?◌, byTest}
+use Rattle.wire.specs.Test.{◌<?◌, ◌≤?◌, by_test}
 use Rattle.wire.specs.Number.{number4, number4_bytes}
 use Rattle.wire.specs.Buffer.{byte_at}
 use Rattle.wire.proofs.Bytes.{AllBytes}
@@ -59,7 +59,7 @@ four_read front b3 b2 b1 b0 n rest h e =
 pub length_read_back : (n : ℕ) (front rest : List ℕ) → n < 2147483648
     → length_at (front ++ (length_bytes n ++ rest)) (length front) ≡ Is n (length front + length (length_bytes n))
 unfolding length_bytes
-length_read_back n front rest h = byTest (ltb n 128) small large
+length_read_back n front rest h = by_test (ltb n 128) small large
   where
     small : ltb n 128 ≡ true → length_at (front ++ (length_bytes n ++ rest)) (length front) ≡ Is n (length front + length (length_bytes n))
     small t = simp t (one_read front n rest (ltb-true n 128 t))
@@ -80,7 +80,7 @@ written_pair at name value =
 -- A length takes a byte or more.
 length_some : (n : ℕ) → 1 ≤ length (length_bytes n)
 unfolding length_bytes
-length_some n = byTest (ltb n 128) (λ t. simp t (omega arith)) (λ t. simp t (omega arith))
+length_some n = by_test (ltb n 128) (λ t. simp t (omega arith)) (λ t. simp t (omega arith))
 
 -- A pair's bytes, one part after the other.
 apart : (front name value rest : List ℕ)
@@ -141,30 +141,30 @@ value_read_back name value front rest =
 length_no_longer : (s : List ℕ) (at n next : ℕ) → length_at s at ≡ Is n next → at + length (length_bytes n) ≤ next
 unfolding length_at length_bytes
 length_no_longer s at n next e =
-    byTest (length s ≤? at)
+    by_test (length s ≤? at)
     (λ t1. let z : ◌≡◌ {A = ℕ} 0 1 = cc (simp t1 at e) in absurd (omega arith))
-    (λ t1. byTest (byte_at s at <? 128)
+    (λ t1. by_test (byte_at s at <? 128)
     (λ t2.
     let p : byte_at s at ≡ n = cc (simp (t1, t2) at e) in
     let q : at + 1 ≡ next = cc (simp (t1, t2) at e) in
     rw (← p, t2) (omega arith))
-    (λ t2. byTest (length s - at <? 4)
+    (λ t2. by_test (length s - at <? 4)
     (λ t3. let z : ◌≡◌ {A = ℕ} 0 1 = cc (simp (t1, t2, t3) at e) in absurd (omega arith))
     (λ t3.
     let q : at + 4 ≡ next = cc (simp (t1, t2, t3) at e) in
-    byTest (n <? 128) (λ t4. simp t4 (omega arith)) (λ t4. simp t4 (omega arith)))))
+    by_test (n <? 128) (λ t4. simp t4 (omega arith)) (λ t4. simp t4 (omega arith)))))
 
 -- A length that was read from bytes can be written.
 length_writable : (s : List ℕ) → AllBytes s → (at n next : ℕ) → length_at s at ≡ Is n next → n < 2147483648
 unfolding length_at four_at number4
 length_writable s bytes at n next e =
-    byTest (length s ≤? at)
+    by_test (length s ≤? at)
     (λ t1. let z : ◌≡◌ {A = ℕ} 0 1 = cc (simp t1 at e) in absurd (omega arith))
-    (λ t1. byTest (byte_at s at <? 128)
+    (λ t1. by_test (byte_at s at <? 128)
     (λ t2.
     let p : byte_at s at ≡ n = cc (simp (t1, t2) at e) in
     omega (arith, ltb-true (byte_at s at) 128 t2))
-    (λ t2. byTest (length s - at <? 4)
+    (λ t2. by_test (length s - at <? 4)
     (λ t3. let z : ◌≡◌ {A = ℕ} 0 1 = cc (simp (t1, t2, t3) at e) in absurd (omega arith))
     (λ t3.
     let p : (byte_at s at - 128) * 16777216 + byte_at s (at + 1) * 65536 + byte_at s (at + 2) * 256 + byte_at s (at + 3) ≡ n = cc (simp (t1, t2, t3) at e) in
@@ -179,15 +179,15 @@ record Lengths (s : List ℕ) (at : ℕ) (p : Pair) : Type 0 where
 lengths : (s : List ℕ) (at : ℕ) (p : Pair) (next : ℕ) → pair_at s at ≡ Read.Pair p next → Lengths s at p
 unfolding pair_at
 lengths s at p next e =
-    byTest (length s ≤? at)
+    by_test (length s ≤? at)
     (λ t. let z : ◌≡◌ {A = ℕ} 0 1 = cc (simp t at e) in absurd (omega arith))
     (λ t. first (length_at s at) refl (simp t at e))
   where
     body : (n a v b : ℕ) → length_at s at ≡ Is n a → length_at s a ≡ Is v b → body_at s at n v b ≡ Read.Pair p next → Lengths s at p
     body n a v b q1 q2 e =
-        byTest (length s - b <? n)
+        by_test (length s - b <? n)
         (λ t1. let z : ◌≡◌ {A = ℕ} 0 1 = cc (simp t1 at e) in absurd (omega arith))
-        (λ t1. byTest (length s - (b + n) <? v)
+        (λ t1. by_test (length s - (b + n) <? v)
         (λ t2. let z : ◌≡◌ {A = ℕ} 0 1 = cc (simp (t1, t2) at e) in absurd (omega arith))
         (λ t2.
         let q : record { name = b; name_len = n; value = b + n; value_len = v } ≡ p = cc (simp (t1, t2) at e) in

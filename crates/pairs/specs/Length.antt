@@ -1,6 +1,6 @@
 -- The length of a name or a value (FastCGI 1.0, section 3.4).
-use Rattle.std.specs.Prelude.{ℕ, ◌+◌, ◌-◌, List, [], ◌∷◌, length}
-use Rattle.wire.specs.Test.{if◌then◌else◌, ◌<?◌, ◌≤?◌}
+use Rattle.std.specs.Prelude.{ℕ, ◌+◌, ◌-◌, List, [], ◌∷◌, length, if◌then◌else◌}
+use Rattle.wire.specs.Test.{◌<?◌, ◌≤?◌}
 use Rattle.wire.specs.Number.{number4, bytes4}
 use Rattle.wire.specs.Buffer.{byte_at}
 use Rattle.pairs.specs.declared.length.Length.{Length}

@@ -1,6 +1,6 @@
 -- A name-value pair in a list (FastCGI 1.0, section 3.4): both lengths, then the name, then the value.
-use Rattle.std.specs.Prelude.{ℕ, ◌+◌, ◌-◌, List, ◌++◌, length, take, drop}
-use Rattle.wire.specs.Test.{if◌then◌else◌, ◌<?◌, ◌≤?◌}
+use Rattle.std.specs.Prelude.{ℕ, ◌+◌, ◌-◌, List, ◌++◌, length, take, drop, if◌then◌else◌}
+use Rattle.wire.specs.Test.{◌<?◌, ◌≤?◌}
 use Rattle.pairs.specs.Length.{length_at, length_bytes}
 use Rattle.pairs.specs.declared.length.Length.{Length}
 use Rattle.pairs.specs.declared.pair.Pair.{Pair}

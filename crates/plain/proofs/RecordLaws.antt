@@ -1,9 +1,9 @@
 -- What holds of a connection asked by number, from a record on. The bound of the definition is seen in `enough` only.
-use Rattle.std.specs.Prelude.{ℕ, zero, suc, ◌+◌, ◌-◌, ◌≤◌, ◌<◌, min, ◌≡◌, refl, List, [], ◌∷◌, ◌++◌, length, take, drop, get_or, ltb, leb, eqb}
+use Rattle.std.specs.Prelude.{ℕ, zero, suc, ◌+◌, ◌-◌, ◌≤◌, ◌<◌, min, ◌≡◌, refl, List, [], ◌∷◌, ◌++◌, length, take, drop, get_or, ltb, leb, eqb, if◌then◌else◌}
 use Rattle.std.proofs.Common.{sym, ap, ◌∙◌, arith, length-drop, length-take, take_all, drop-drop, eq-eqb, ne_eqb, lt-ltb, le-ltb, ltb-true, ltb-false, leb-true, leb-false, le-leb}
 use Rattle.std.proofs.lemmas.List.{get_or-replicate}
 use Rattle.std.proofs.lemmas.Bool.{eqb-false, lt-leb}
-use Rattle.wire.specs.Test.{if◌then◌else◌, byTest, ◌<?◌, ◌≤?◌}
+use Rattle.wire.specs.Test.{by_test, ◌<?◌, ◌≤?◌}
 use Rattle.connection.specs.Bytewise.{Note, Shown}
 use Rattle.connection.specs.Codes.{stream_type}
 use Rattle.connection.specs.declared.event.Event.{Event as CodeEvent}
@@ -38,16 +38,16 @@ enough zero zero rs b h g = refl
 enough zero (suc m) rs b h g = simp (eq-eqb (length b) 0 (omega arith))
 enough (suc k) zero rs b h g = simp (eq-eqb (length b) 0 (omega arith))
 enough (suc k) (suc m) rs b h g =
-    byTest (eqb (length b) 0) (λ e. simp e)
+    by_test (eqb (length b) 0) (λ e. simp e)
     (λ e.
-    byTest (ltb (length b) 8) (λ f. simp (e, f))
+    by_test (ltb (length b) 8) (λ f. simp (e, f))
     (λ f.
     simp (e, f)
     (follow_same (first_says rs b) _ _
     (λ rs'.
     let d = length-drop (record_size b) b in
     let some = eqb-false (length b) 0 e in
-    byTest (leb (record_size b) (length b))
+    by_test (leb (record_size b) (length b))
     (λ w. simp w (enough k m rs' (drop (record_size b) b) (omega (arith, d, some)) (omega (arith, d, some))))
     (λ w. simp w)))))
 
@@ -62,7 +62,7 @@ answer_append (e ∷ es) fs w zero = simp (lt-ltb 0 (suc (length es)) (omega ari
 answer_append (e ∷ es) fs w (suc k) =
     let z : k - length es ≡ suc k - suc (length es) = omega arith in
     answer_append es fs w k
-    ∙ byTest (ltb k (length es))
+    ∙ by_test (ltb k (length es))
     (λ t. simp (t, lt-ltb (suc k) (suc (length es)) (omega (arith, ltb-true k (length es) t))))
     (λ t. simp (t, le-ltb (suc k) (suc (length es)) (omega (arith, ltb-false k (length es) t))) (ap (answer_in fs w) z))
 
@@ -169,7 +169,7 @@ hear_record rs b l =
     (λ rs'.
     let after = drop (record_size b) b in
     let d = length-drop (record_size b) b in
-    byTest (leb (record_size b) (length b))
+    by_test (leb (record_size b) (length b))
     (λ w. simp w (enough (length b) (length after) rs' after (omega (arith, d)) (omega arith)))
     (λ w. simp w)))
 
@@ -179,9 +179,9 @@ ask_follow : (s : Said) (b : List ℕ) (k : ℕ)
 unfolding ask answer_in
 ask_follow (Said.Goes es rs) b k =
     answer_append es _ _ k
-    ∙ byTest (ltb k (length es))
+    ∙ by_test (ltb k (length es))
     (λ t. simp t (answer_within es _ Word.Open k (ltb-true k (length es) t)))
-    (λ t. simp t (byTest (leb (record_size b) (length b)) (λ w. simp w) (λ w. simp w)))
+    (λ t. simp t (by_test (leb (record_size b) (length b)) (λ w. simp w) (λ w. simp w)))
 ask_follow (Said.Closes cause) b k = refl
 
 pub ask_record : (rs : List Request) (b : List ℕ) (k : ℕ) → 8 ≤ length b
@@ -195,7 +195,7 @@ pub content_part : (b : List ℕ) (n to : ℕ) → to ≡ 8 + min n (length b - 
     → take (to - 8) (drop 8 b) ≡ take n (drop 8 b)
 content_part b n to e =
     let d = length-drop 8 b in
-    byTest (leb n (length b - 8))
+    by_test (leb n (length b - 8))
     (λ t. let z : to - 8 ≡ n = omega (arith, leb-true n (length b - 8) t) in rw z)
     (λ t.
     let f = leb-false n (length b - 8) t in

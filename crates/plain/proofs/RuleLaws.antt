@@ -2,7 +2,7 @@
 use Rattle.std.specs.Prelude.{ℕ, ◌+◌, ◌*◌, ◌%◌, ◌≤◌, ◌<◌, ◌≡◌, true, false, List, [], ◌∷◌, length, take, drop, get_or, set, eqb, ltb}
 use Rattle.std.proofs.Common.{sym, ap, ◌∙◌, arith, length-drop, length-take-le, take-take}
 use borrow.Author.Tests.{eq-eqb, ne_eqb, lt-ltb, le-ltb, lt-leb, eqb-false, ltb-true, ltb-false}
-use Rattle.wire.specs.Test.{◌=?◌, byTest}
+use Rattle.wire.specs.Test.{◌=?◌, by_test}
 use Rattle.wire.specs.Buffer.{put_at}
 use Rattle.machine.specs.Cause.{Plain}
 use Rattle.connection.specs.Event.{Event}
@@ -54,7 +54,7 @@ pub opening_unknown : (rs : List Request) (id : ℕ) (x : List ℕ)
     → opening rs id x ≡ Goes (Told (Event.Refuse id 3) ∷ []) rs
 unfolding opening
 opening_unknown rs id x a b c =
-    byTest (eqb (two x 0) 0)
+    by_test (eqb (two x 0) 0)
     (λ e. simp e)
     (λ e. simp (e, lt-leb (two x 0) 3 (omega (arith, eqb-false (two x 0) 0 e))))
 
@@ -99,7 +99,7 @@ module _ (t : Table) (sound : Sound t ROOM) (store x : List ℕ) (size : length 
       let a = i * 4096 + own.length in
       let z : length y ≡ c.kept = length-take-le c.kept x b.kept in
       let g = sound.taken in
-      byTest (ltb k i)
+      by_test (ltb k i)
       (λ e. put_before store y a (k * 4096) n (omega (arith, b.low)) (omega (arith, ltb-true k i e)))
       (λ e.
       let after = put_after store y a (k * 4096) (omega (arith, b.low)) (omega (arith, b.low, ltb-false k i e)) in

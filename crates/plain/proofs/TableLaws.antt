@@ -7,7 +7,7 @@ use Rattle.std.proofs.Math.ListN.{drop_of_length-le}
 use Rattle.std.proofs.lemmas.List.{length-map}
 use Rattle.std.proofs.Math.Seq.{take-set-lt}
 use Rattle.std.proofs.lemmas.Bool.{eqb-false}
-use Rattle.wire.specs.Test.{byTest}
+use Rattle.wire.specs.Test.{by_test}
 use Rattle.plain.specs.declared.table.Entry.{Entry}
 use Rattle.plain.specs.declared.table.Table.{Table}
 use Rattle.plain.specs.Plain.{Request, nobody, place_of, opened}
@@ -15,9 +15,9 @@ use Rattle.plain.specs.Code.{request_of, list_at, requests_from, requests_of, no
 use Rattle.plain.specs.Promise.{Modest, Sound}
 
 -- the length of an array of structs
-pub mapped-length {ℓ κ} : {A : Type ℓ} {B : Type κ} (f : A → B) (l : List A) (n : ℕ)
+pub mapped_length {ℓ κ} : {A : Type ℓ} {B : Type κ} (f : A → B) (l : List A) (n : ℕ)
     → length (map f l) ≡ n → length l ≡ n
-mapped-length f l n e = sym (length-map l f) ∙ e
+mapped_length f l n e = sym (length-map l f) ∙ e
 
 -- ---- the requests by their places
 from_length : (es : List Entry) (store : List ℕ) (i : ℕ) → length (requests_from es store i) ≡ length es
@@ -106,7 +106,7 @@ from_set es store store' i j e low away =
     (λ k l.
     let l' : k < length es = omega (arith, m) in
     from_at (set es j e) store' i k (omega (arith, length-set es j e))
-    ∙ byTest (eqb k j)
+    ∙ by_test (eqb k j)
     (λ t.
     let same = get_or-set_same rs j r nobody (omega (arith, n)) in
     rw (eqb-true k j t, get_or-set_same es j e no_entry low, same))
@@ -146,7 +146,7 @@ sound_with t m n i e count s h l few modest =
       size = length-set t.entries i e ∙ s.size;
       taken = few;
       each = λ k j.
-          byTest (eqb k i)
+          by_test (eqb k i)
           (λ q. rw (eqb-true k i q, get_or-set_same t.entries i e no_entry (omega (arith, s.size))) modest)
           (λ q. rw (get_or-set_other t.entries i k e no_entry (eqb-false k i q)) ((sound_more t m n s h).each k j));
     }

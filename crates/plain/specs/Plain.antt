@@ -1,9 +1,9 @@
 -- The plain receiver (request [14]): a whole connection in one list of bytes, record by record. There are no phases
 -- here, no slots and no store. It is written from the text of the rules (docs/RULES.md) and shares with the stepping
 -- receiver the reading of pairs, and the type of events with its numbers; that both come to the same is a theorem.
-use Rattle.std.specs.Prelude.{ℕ, zero, suc, ◌+◌, ◌*◌, ◌%◌, Bool, true, false, List, [], ◌∷◌, ◌++◌, length, take, drop, get_or, set}
+use Rattle.std.specs.Prelude.{ℕ, zero, suc, ◌+◌, ◌*◌, ◌%◌, Bool, true, false, List, [], ◌∷◌, ◌++◌, length, take, drop, get_or, set, if◌then◌else◌}
 use Rattle.std.proofs.Math.Option.{Option, none, some}
-use Rattle.wire.specs.Test.{if◌then◌else◌, ◌<?◌, ◌≤?◌, ◌=?◌}
+use Rattle.wire.specs.Test.{◌<?◌, ◌≤?◌, ◌=?◌}
 use Rattle.pair_list.specs.List.{well_formed, broken_at, first_named, is_named}
 use Rattle.pair_repeats.specs.Repeats.{repeats}
 use Rattle.stated_length.specs.Stated.{stated_in}

@@ -1,6 +1,6 @@
 -- What the functions promise.
-use Rattle.std.specs.Prelude.{ℕ, ◌+◌, ◌-◌, ◌≤◌, ◌<◌, ◌≡◌, Bool, false, List, [], ◌∷◌, ◌++◌, length, take, drop, get_or}
-use Rattle.wire.specs.Test.{if◌then◌else◌, ◌<?◌, ◌≤?◌}
+use Rattle.std.specs.Prelude.{ℕ, ◌+◌, ◌-◌, ◌≤◌, ◌<◌, ◌≡◌, Bool, false, List, [], ◌∷◌, ◌++◌, length, take, drop, get_or, if◌then◌else◌}
+use Rattle.wire.specs.Test.{◌<?◌, ◌≤?◌}
 use Rattle.connection.specs.Event.{Event}
 use Rattle.connection.specs.Bytewise.{Told}
 use Rattle.plain.specs.declared.Next.{Next}

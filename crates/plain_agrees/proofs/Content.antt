@@ -7,7 +7,7 @@ use mathlib.Core.List.{List, [], ◌∷◌, ◌++◌, append-nil}
 use native.Mathlib.Omega.{arith}
 use Rattle.std.proofs.Math.Dec.{eqb}
 use borrow.Author.Tests.{ne_eqb}
-use Rattle.wire.specs.Test.{byTest}
+use Rattle.wire.specs.Test.{by_test}
 use Rattle.record.specs.declared.header.Header.{Header}
 use Rattle.connection.specs.declared.request.Due.{Due}
 use Rattle.connection.specs.declared.state.Table.{Table}
@@ -40,7 +40,7 @@ pub record EndsWith (t : Table) (g s : List ℕ) (l : List Note) (c p : ℕ) (r 
 
 -- what is skipped stays skipped, with content to come or without
 skip_stays : (n : ℕ) → target_if n Target.Skip ≡ Target.Skip
-skip_stays n = byTest (eqb n 0) (λ e. simp e) (λ e. simp e)
+skip_stays n = by_test (eqb n 0) (λ e. simp e) (λ e. simp e)
 
 -- the state in which the content after a header is read
 abbrev pub reader : Table → List ℕ → Header → Target → State

@@ -5,7 +5,7 @@ use Rattle.std.specs.Prelude.{ℕ, ◌+◌, ◌≤◌, ◌<◌, ◌≡◌, refl,
 use Rattle.std.proofs.Common.{sym, ap, ◌∙◌, arith, lt-ltb, le-ltb, ltb-true, ltb-false, eqb-true, ne_eqb}
 use Rattle.std.proofs.Math.Option.{Option, none, some}
 use Rattle.std.proofs.lemmas.Bool.{eqb-false}
-use Rattle.wire.specs.Test.{byTest}
+use Rattle.wire.specs.Test.{by_test}
 use Rattle.stated_length.specs.Stated.{LARGEST, stated_in}
 use Rattle.stated_length.proofs.Laws.{stated_largest}
 use Rattle.connection.specs.declared.request.Turn.{Turn}
@@ -51,16 +51,16 @@ counted_high n l = simp (le-ltb (0 + n) MOST (omega arith))
 same_tests : (n m : ℕ) → measured n (some m) ≡ against n (some m)
 unfolding measured against
 same_tests n m =
-    byTest (ltb n m)
+    by_test (ltb n m)
     (λ t. let ne = ne_eqb n m (λ e. omega (arith, ltb-true n m t)) in simp (t, ne))
     (λ t.
-    byTest (eqb n m)
+    by_test (eqb n m)
     (λ e. let le = le-ltb m n (omega (arith, eqb-true n m e)) in simp (t, e, le))
     (λ e. let lt = lt-ltb m n (over n m t e) in simp (t, e, lt)))
   where
     over : (n m : ℕ) → ltb n m ≡ false → eqb n m ≡ false → m < n
     over n m t e =
-        byTest (ltb m n) (λ w. ltb-true m n w)
+        by_test (ltb m n) (λ w. ltb-true m n w)
         (λ w. absurd (eqb-false n m e (omega (arith, ltb-false n m t, ltb-false m n w))))
 
 -- Both are over what any list can state.
@@ -83,7 +83,7 @@ same_measure n list name = go (stated_in list name) refl
     go : (o : Option ℕ) → stated_in list name ≡ o → measured (counted 0 n) o ≡ against n o
     go none e = refl
     go (some m) e =
-        byTest (ltb n MOST)
+        by_test (ltb n MOST)
         (λ t. ap (λ (k : ℕ). measured k (some m)) (counted_low n (ltb-true n MOST t)) ∙ same_tests n m)
         (λ t.
         let l = ltb-false n MOST t in

@@ -1,5 +1,5 @@
 -- One record, whole or cut: what the plain receiver says of it is what it means.
-use Rattle.std.specs.Prelude.{ℕ, zero, suc, ◌+◌, ◌-◌, ◌%◌, ◌≤◌, ◌<◌, ◌≡◌, true, take, drop, set, ltb}
+use Rattle.std.specs.Prelude.{ℕ, zero, suc, ◌+◌, ◌-◌, ◌%◌, ◌≤◌, ◌<◌, ◌≡◌, true, take, drop, set, ltb, if◌then◌else◌}
 use Rattle.std.proofs.Math.Path.{refl, sym, ap, subst}
 use Rattle.std.proofs.Common.{◌∙◌, take_at}
 use Rattle.std.proofs.Math.Bool.{false}
@@ -9,7 +9,7 @@ use native.Mathlib.Omega.{arith}
 use Rattle.std.proofs.Math.ListN.{length, get_or}
 use Rattle.std.proofs.Math.Dec.{eqb}
 use borrow.Author.Tests.{ltb-true, ltb-false, eqb-true, eqb-false, eq-eqb, ne_eqb, lt-leb}
-use Rattle.wire.specs.Test.{if◌then◌else◌, byTest, ◌=?◌}
+use Rattle.wire.specs.Test.{by_test, ◌=?◌}
 use Rattle.wire.specs.Buffer.{copied}
 use Rattle.wire.proofs.BufferLaws.{copied_room}
 use Rattle.record.specs.Body.{begin_body_of}
@@ -165,7 +165,7 @@ module _ (st : State) (store : List ℕ) (rs : List PlainRequest) (h : Header) (
   active i low =
       let r = get_or rs i nobody in
       let same = a.each i low in
-      byTest r.spent (λ e. simp e (spent i (same.spent ∙ e)))
+      by_test r.spent (λ e. simp e (spent i (same.spent ∙ e)))
       (λ e. simp e (live i _ _ low (lives r (held_at t store i) same e h.kind h.content x room)))
 
   -- ---- rule 4 and a BEGIN body
@@ -184,7 +184,7 @@ module _ (st : State) (store : List ℕ) (rs : List PlainRequest) (h : Header) (
   opens_role f at y role k =
       let known = role_known (P.two x 0) role k in
       let place = free_place rs t store a in
-      byTest (ltb (length rs) SLOTS)
+      by_test (ltb (length rs) SLOTS)
       (λ e. simp (known, place, e)
       (record {
         told = ap (λ n. Told (Event.Open h.id n (get_or x 2 0 % 2 =? 1)) ∷ []) (sym k);
@@ -220,11 +220,11 @@ module _ (st : State) (store : List ℕ) (rs : List PlainRequest) (h : Header) (
   unfolding S.begun begin_body_of
   begins f at y =
       let n = P.two x 0 in
-      byTest (eqb n 1) (λ e. simp e (opens_role f at y Role.Responder (eqb-true n 1 e)))
+      by_test (eqb n 1) (λ e. simp e (opens_role f at y Role.Responder (eqb-true n 1 e)))
       (λ e.
-      byTest (eqb n 2) (λ e2. simp (e, e2) (opens_role f at y Role.Authorizer (eqb-true n 2 e2)))
+      by_test (eqb n 2) (λ e2. simp (e, e2) (opens_role f at y Role.Authorizer (eqb-true n 2 e2)))
       (λ e2.
-      byTest (eqb n 3) (λ e3. simp (e, e2, e3) (opens_role f at y Role.Filter (eqb-true n 3 e3)))
+      by_test (eqb n 3) (λ e3. simp (e, e2, e3) (opens_role f at y Role.Filter (eqb-true n 3 e3)))
       (λ e3. simp (e, e2, e3)
       (refuses f at y (role_unknown n (eqb-false n 1 e) (eqb-false n 2 e2) (eqb-false n 3 e3))))))
 
@@ -242,7 +242,7 @@ module _ (st : State) (store : List ℕ) (rs : List PlainRequest) (h : Header) (
       (after c p x (goes_with t (frame_after h' (Target.Begin h.id)) g store Event.None))
   unfolding S.of_begin close_in
   begin_body_lem eight =
-      byTest (eqb (length x) 8)
+      by_test (eqb (length x) 8)
       (λ e.
       let l = eqb-true (length x) 8 e in
       let z : c ≡ 0 = omega arith in
@@ -250,7 +250,7 @@ module _ (st : State) (store : List ℕ) (rs : List PlainRequest) (h : Header) (
       (simp (e, eq-eqb c 0 z, body_all x l)
       (begins (record { position = to_come c p; target = Target.Skip; gathered = 0; body = no_body }) refl x)))
       (λ e.
-      byTest (eqb (length x) 0) (λ z. simp e (nothing (Target.Begin h.id) (eqb-true (length x) 0 z)))
+      by_test (eqb (length x) 0) (λ z. simp e (nothing (Target.Begin h.id) (eqb-true (length x) 0 z)))
       (λ z.
       let some : 0 < length x = omega (arith, eqb-false (length x) 0 z) in
       let more : eqb c 0 ≡ false = ne_eqb c 0 (λ w. eqb-false (length x) 8 e (omega arith)) in
@@ -261,9 +261,9 @@ module _ (st : State) (store : List ℕ) (rs : List PlainRequest) (h : Header) (
   inactive : Means (P.on_inactive rs h.id h.kind h.content x) c p (after c p x (S.on_inactive st store h'))
   unfolding P.on_inactive S.on_inactive close_in
   inactive =
-      byTest (eqb h.kind P.BEGIN)
+      by_test (eqb h.kind P.BEGIN)
       (λ e.
-      byTest (eqb h.content 8)
+      by_test (eqb h.content 8)
       (λ f. simp (e, f) (begin_body_lem (eqb-true h.content 8 f)))
       (λ f. simp (e, f) (closing (Plain 12))))
       (λ e. simp e (skipping Event.None [] refl refl))
@@ -280,7 +280,7 @@ module _ (st : State) (store : List ℕ) (rs : List PlainRequest) (h : Header) (
       let z : c ≡ 0 = omega arith in
       let all = gathered_all g x (omega (arith, q)) in
       rw (any_run t g store h' Event.None c p refl Target.Query x some room)
-      (byTest (well_formed x)
+      (by_test (well_formed x)
       (λ w. simp (eq-eqb c 0 z, all, w)
       (record {
         told = query_told x x;
@@ -314,7 +314,7 @@ module _ (st : State) (store : List ℕ) (rs : List PlainRequest) (h : Header) (
   query_none : x ≡ [] → Means answered c p (after c p x (S.queried st store [] (frame_after h' Target.Skip)))
   unfolding S.queried
   query_none e =
-      byTest (well_formed [])
+      by_test (well_formed [])
       (λ w.
       let w' = ap well_formed e ∙ w in
       simp (w, w')
@@ -332,38 +332,38 @@ module _ (st : State) (store : List ℕ) (rs : List PlainRequest) (h : Header) (
       else S.reads st store (frame_after h' Target.Query) Event.None))
   unfolding P.on_query
   query =
-      byTest (ltb QUERY h.content) (λ f. simp f (closing (Plain 13)))
+      by_test (ltb QUERY h.content) (λ f. simp f (closing (Plain 13)))
       (λ f.
       let l = ltb-false QUERY h.content f in
-      byTest (ltb (length x) h.content)
+      by_test (ltb (length x) h.content)
       (λ w.
       let less = ltb-true (length x) h.content w in
       let z = ne_eqb h.content 0 (λ e. omega arith) in
-      byTest (eqb (length x) 0)
+      by_test (eqb (length x) 0)
       (λ v. simp (f, w, z) (simp z at (nothing Target.Query (eqb-true (length x) 0 v))))
       (λ v. simp (f, w, z) (simp z at (query_cut l (omega (arith, eqb-false (length x) 0 v)) less))))
       (λ w.
       let more = ltb-false (length x) h.content w in
-      byTest (eqb h.content 0)
+      by_test (eqb h.content 0)
       (λ z. simp (f, w, z) (simp z at (query_none (nil_of x (omega (arith, eqb-true h.content 0 z))))))
       (λ z. simp (f, w, z) (simp z at (query_whole_lem l (omega (arith, eqb-false h.content 0 z)) (omega arith))))))
 
   management : Means (P.on_management rs h.kind h.content x) c p (after c p x (S.on_management st store h'))
   unfolding P.on_management S.on_management close_in
   management =
-      byTest (eqb h.kind P.GET_VALUES) (λ e. simp e query)
+      by_test (eqb h.kind P.GET_VALUES) (λ e. simp e query)
       (λ e. simp e (skipping (Event.Unknown h.kind) (Told (Event.Unknown h.kind) ∷ []) refl refl))
 
   -- ---- all rules
   pub record_means_lem : Means (P.says rs h.version h.kind h.id h.content x) c p (header_means st store h x c p)
   unfolding P.says judged header_means
   record_means_lem =
-      byTest (eqb h.version 1)
+      by_test (eqb h.version 1)
       (λ e.
-      byTest (eqb h.id 0) (λ f. simp (e, f) management)
+      by_test (eqb h.id 0) (λ f. simp (e, f) management)
       (λ f.
       let found = find_place rs t store h.id a in
-      byTest (ltb (place_of rs h.id) (length rs))
+      by_test (ltb (place_of rs h.id) (length rs))
       (λ k. simp (e, f, k, found) (active (place_of rs h.id) (ltb-true (place_of rs h.id) (length rs) k)))
       (λ k. simp (e, f, k, found) inactive)))
       (λ e. simp e (closing (Plain 11)))

@@ -1,11 +1,11 @@
 -- The requests of the plain receiver beside the table and the store of the stepping one: as long as nothing is
 -- finished, the request in place i of the list is the one in slot i.
-use Rattle.std.specs.Prelude.{ℕ, zero, suc, ◌+◌, ◌≤◌, ◌<◌, ◌%◌, ◌/◌, ◌≡◌, refl, Bool, true, false, List, [], ◌∷◌, ◌++◌, length, get_or, set, ltb, eqb}
+use Rattle.std.specs.Prelude.{ℕ, zero, suc, ◌+◌, ◌≤◌, ◌<◌, ◌%◌, ◌/◌, ◌≡◌, refl, Bool, true, false, List, [], ◌∷◌, ◌++◌, length, get_or, set, ltb, eqb, if◌then◌else◌}
 use Rattle.std.proofs.Common.{sym, ap, ◌∙◌, arith, length-append, length-set, get_or-set_same, get_or-set_other, lt-ltb, le-ltb, ltb-true, ltb-false, eqb-true}
 use Rattle.std.proofs.Math.ListN.{get_or-append}
 use Rattle.std.proofs.lemmas.List.{get_or_at}
 use Rattle.std.proofs.lemmas.Bool.{eqb-false}
-use Rattle.wire.specs.Test.{if◌then◌else◌, byTest, ◌<?◌, ◌=?◌}
+use Rattle.wire.specs.Test.{by_test, ◌<?◌, ◌=?◌}
 use Rattle.slot_word.specs.Word.{taken, lowest_free}
 use Rattle.slot_word.proofs.WordLaws.{least_free, least_below}
 use Rattle.connection.specs.declared.state.Table.{Table}
@@ -49,7 +49,7 @@ slot_if b b' m n p q = rw (p, q)
 
 ltb_suc : (m n : ℕ) → ltb m n ≡ ltb (suc m) (suc n)
 ltb_suc m n =
-    byTest (ltb m n)
+    by_test (ltb m n)
     (λ e. e ∙ sym (lt-ltb (suc m) (suc n) (omega (arith, ltb-true m n e))))
     (λ e. e ∙ sym (le-ltb (suc m) (suc n) (omega (arith, ltb-false m n e))))
 
@@ -57,7 +57,7 @@ slot_next : (i : ℕ) (r : PlainRequest) (rs : List PlainRequest) (id : ℕ)
     → slot_from i (r ∷ rs) id ≡ (if r.id =? id then Slot.At i else slot_from (i + 1) rs id)
 unfolding place_of
 slot_next i r rs id =
-    byTest (eqb r.id id)
+    by_test (eqb r.id id)
     (λ e.
     let z : i + 0 ≡ i = omega arith in
     let l = lt-ltb 0 (suc (length rs)) (omega arith) in
@@ -116,7 +116,7 @@ find_place rs t store id a =
 least_le : (k o : ℕ) → lowest_free k o ≤ k
 unfolding lowest_free
 least_le zero o = omega arith
-least_le (suc k) o = byTest (o % 2 =? 1) (λ e. simp e (omega (arith, least_le k (o / 2)))) (λ e. simp e (omega arith))
+least_le (suc k) o = by_test (o % 2 =? 1) (λ e. simp e (omega (arith, least_le k (o / 2)))) (λ e. simp e (omega arith))
 
 not_both : (b : Bool) → b ≡ true → b ≡ false → ⊥
 not_both b p q = let z : ◌≡◌ {A = ℕ} 0 1 = cc (sym p ∙ q) in omega arith
@@ -127,12 +127,12 @@ pub free_place : (rs : List PlainRequest) (t : Table) (store : List ℕ) → Sam
 free_place rs t store a =
     let o = t.occupied in
     let m = lowest_free SLOTS o in
-    byTest (ltb m (length rs))
+    by_test (ltb m (length rs))
     (λ e.
     let l = ltb-true m (length rs) e in
     absurd (not_both (taken m o) (a.used m l) (least_free SLOTS o (omega (arith, a.few)))))
     (λ e.
-    byTest (ltb (length rs) m)
+    by_test (ltb (length rs) m)
     (λ f.
     let l = ltb-true (length rs) m f in
     absurd
@@ -159,7 +159,7 @@ same_put rs t store i r h a low l =
       used = λ j k. ap (taken j) o ∙ a.used j (omega arith);
       free = λ j k m. ap (taken j) o ∙ a.free j (omega arith) m;
       each = λ j k.
-          byTest (eqb j i)
+          by_test (eqb j i)
           (λ e.
           let q = eqb-true j i e in
           let same : held_at t' store' i ≡ h = rw (request_of_put t i h.request a.sized low', area) in
@@ -184,14 +184,14 @@ same_open rs t store r q a low l =
       sized = take_sized t i q a.sized;
       full = a.full;
       used = λ j k.
-          byTest (eqb j i)
+          by_test (eqb j i)
           (λ e. rw (eqb-true j i e) (taken_of_take t i q low))
           (λ e. let ne = eqb-false j i e in taken_of_take_other t i j q ne ∙ a.used j (less j k ne));
       free = λ j k m.
           let ne : j ≡ i → ⊥ = λ z. omega arith in
           taken_of_take_other t i j q ne ∙ a.free j (omega arith) m;
       each = λ j k.
-          byTest (eqb j i)
+          by_test (eqb j i)
           (λ e.
           rw (eqb-true j i e, get_or_at rs r [] nobody i refl, request_of_take t i q a.sized low)
           (l (area_at store i) (area_length store i a.full low)))
@@ -203,5 +203,5 @@ same_open rs t store r q a low l =
   where
     less : (j : ℕ) → j < length (rs ++ (r ∷ [])) → (j ≡ length rs → ⊥) → j < length rs
     less j k ne =
-        byTest (ltb j (length rs)) (λ e. ltb-true j (length rs) e)
+        by_test (ltb j (length rs)) (λ e. ltb-true j (length rs) e)
         (λ e. absurd (ne (omega (arith, length-append rs (r ∷ []), ltb-false j (length rs) e))))

@@ -1,5 +1,5 @@
 -- One request: the rules of the plain receiver and those of the stepping one tell the same and leave the same request.
-use Rattle.std.specs.Prelude.{ℕ, ◌+◌, ◌≤◌, ◌≡◌, true, take, drop, ltb, eqb}
+use Rattle.std.specs.Prelude.{ℕ, ◌+◌, ◌≤◌, ◌≡◌, true, take, drop, ltb, eqb, if◌then◌else◌}
 use Rattle.std.proofs.Math.Path.{refl, sym, ap, ap₂, subst}
 use Rattle.std.proofs.Common.{◌∙◌, length-take}
 use Rattle.std.proofs.Math.Bool.{false}
@@ -9,7 +9,7 @@ use native.Mathlib.Omega.{arith}
 use Rattle.std.proofs.Math.ListN.{length, length-append, length-replicate}
 use Rattle.std.proofs.Math.Seq.{take_at, take-length}
 use borrow.Author.Tests.{ltb-false, eqb-true}
-use Rattle.wire.specs.Test.{if◌then◌else◌, byTest}
+use Rattle.wire.specs.Test.{by_test}
 use Rattle.wire.proofs.BufferLaws.{copied_room, put_length}
 use Rattle.pair_list.specs.List.{well_formed, broken_at}
 use Rattle.pair_repeats.specs.Repeats.{repeats}
@@ -201,9 +201,9 @@ module _ (r : PlainRequest) (h : Held) (l : SameRequest r h) where
   unfolding P.params_end R.params_ended R.params_fault
   ends_params live now x =
       let four : r.turn ≡ P.PARAMS = sym l.turn ∙ ap turn_type now in
-      byTest (well_formed r.list)
+      by_test (well_formed r.list)
       (λ w.
-      byTest (repeats r.list)
+      by_test (repeats r.list)
       (λ d. simp (l.list, w, d) (faults (Plain 26) x))
       (λ d. simp (l.list, w, d)
       (turns live (after_params h.request.state.role) (Event.Ready h.request.id h.request.length)
@@ -217,10 +217,10 @@ module _ (r : PlainRequest) (h : Held) (l : SameRequest r h) where
       → SameChange (P.on_params r n x) (R.on_params n h) x
   unfolding P.on_params R.on_params
   params live now n x room =
-      byTest (ltb AREA (length r.list + n))
+      by_test (ltb AREA (length r.list + n))
       (λ e. simp (l.long, e) (faults (Plain 24) x))
       (λ e.
-      byTest (eqb n 0)
+      by_test (eqb n 0)
       (λ z. simp (l.long, e, z) (ends_params live now x))
       (λ z. simp (l.long, e, z) (grows live x (omega (arith, l.long, ltb-false AREA (length r.list + n) e)))))
 
@@ -284,7 +284,7 @@ module _ (r : PlainRequest) (h : Held) (l : SameRequest r h) where
       let m : R.stdin_measure h ≡ P.measure r P.STDIN =
       ap₂ (λ (k : ℕ) (u : List ℕ). R.measured k (stated_in u R.CONTENT_LENGTH)) c.0 l.list
       ∙ same_measure r.shown r.list R.CONTENT_LENGTH in
-      byTest (eqb n 0)
+      by_test (eqb n 0)
       (λ z. simp z
       (turns live (after_stdin h.request.state.role) (Event.End h.request.id P.STDIN (R.stdin_measure h))
       (Event.End r.id P.STDIN (P.measure r P.STDIN)) x
@@ -304,7 +304,7 @@ module _ (r : PlainRequest) (h : Held) (l : SameRequest r h) where
       let m : R.data_measure h ≡ P.measure r P.DATA =
       ap₂ (λ (k : ℕ) (u : List ℕ). R.measured k (stated_in u R.DATA_LENGTH)) c l.list
       ∙ same_measure r.shown r.list R.DATA_LENGTH in
-      byTest (eqb n 0)
+      by_test (eqb n 0)
       (λ z. simp z
       (turns live Turn.Done (Event.End h.request.id P.DATA (R.data_measure h))
       (Event.End r.id P.DATA (P.measure r P.DATA)) x
@@ -335,13 +335,13 @@ module _ (r : PlainRequest) (h : Held) (l : SameRequest r h) where
   unfolding P.on_live P.on_stream R.on_header R.on_live R.on_input
   lives live kind n x room =
       let alive : is_spent h.request.state.life ≡ false = l.spent ∙ live in
-      byTest (eqb kind P.BEGIN) (λ a. simp (alive, a) (faults (Plain 21) x))
+      by_test (eqb kind P.BEGIN) (λ a. simp (alive, a) (faults (Plain 21) x))
       (λ a.
-      byTest (eqb kind P.ABORT) (λ b. simp (alive, a, b) (aborts x))
+      by_test (eqb kind P.ABORT) (λ b. simp (alive, a, b) (aborts x))
       (λ b.
-      byTest (is_input kind)
+      by_test (is_input kind)
       (λ i.
-      byTest (eqb kind r.turn)
+      by_test (eqb kind r.turn)
       (λ e. simp (alive, a, b, i, l.turn, e)
       (in_its_turn live kind n x room (eqb-true kind r.turn e) i turn refl))
       (λ e. simp (alive, a, b, i, l.turn, e) (faults (Plain 22) x)))

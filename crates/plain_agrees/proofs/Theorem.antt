@@ -1,6 +1,6 @@
 -- The two receivers agree: the proof.
 use Prim.Native.Nat.{ℕ, zero, suc, ◌+◌, ◌-◌, ◌≤◌, ◌<◌, min}
-use Rattle.std.specs.Prelude.{◌≡◌, true, take, drop, get_or, ltb, leb, eqb}
+use Rattle.std.specs.Prelude.{◌≡◌, true, take, drop, get_or, ltb, leb, eqb, if◌then◌else◌}
 use Rattle.std.proofs.Math.Path.{refl, ap, subst}
 use Rattle.std.proofs.Common.{sym, ap₂, ◌∙◌, length-take, length-drop, lt-ltb, le-ltb, ltb-true, ltb-false, leb-true, leb-false, eqb-true, eq-eqb, ne_eqb}
 use Rattle.std.proofs.Math.Bool.{false}
@@ -8,7 +8,7 @@ use mathlib.Core.List.{List, [], ◌∷◌, ◌++◌, append-nil, append_assoc}
 use Rattle.std.proofs.Math.Option.{Option, none, some}
 use native.Mathlib.Omega.{arith}
 use Rattle.std.proofs.Math.ListN.{length}
-use Rattle.wire.specs.Test.{if◌then◌else◌, byTest, ◌=?◌}
+use Rattle.wire.specs.Test.{by_test, ◌=?◌}
 use Rattle.record.specs.Header.{header_of}
 use Rattle.record.specs.Split.{Record, front_length, whole_front, front, split}
 use Rattle.record.proofs.SplitLaws.{front_whole, whole_front_lem, split_whole, split_cut}
@@ -102,13 +102,13 @@ rest_short : (b : List ℕ) (st : State) (store : List ℕ) → st.conn.«open»
 unfolding rest_means close_in
 rest_short b st store o l =
     rw (means_cut b st store o (short_front b l))
-    (byTest (eqb (length b) 0)
+    (by_test (eqb (length b) 0)
     (λ e. simp (lt-ltb (length b) 8 l, e) (record { told = refl; no_close = refl; stands = simp e }))
     (λ e. simp (lt-ltb (length b) 8 l, e) (record { told = refl; no_close = refl; stands = simp e })))
 
 not_between : (c p : ℕ) → 0 < c + p → is_between (to_come c p) ≡ false
 not_between c p more =
-    byTest (eqb c 0) (λ e. simp e (ne_eqb p 0 (λ z. omega (arith, eqb-true c 0 e)))) (λ e. simp e)
+    by_test (eqb c 0) (λ e. simp e (ne_eqb p 0 (λ z. omega (arith, eqb-true c 0 e)))) (λ e. simp e)
 
 -- a record of which something is yet to come
 cut_record : (s : Said) (c p : ℕ) (r : Run) → Means s c p r → 0 < c + p → HeardIn (follow s (λ rs. stops Cut)) r
@@ -157,7 +157,7 @@ module _ (b : List ℕ) (header : 8 ≤ length b) where
   rest_header rs st store o a q cut =
       let size = same_size in
       let t : whole_front b ≡ false =
-      byTest (whole_front b) (λ w. absurd (omega (arith, (whole_front_lem b w).within))) (λ w. w) in
+      by_test (whole_front b) (λ w. absurd (omega (arith, (whole_front_lem b w).within))) (λ w. w) in
       let c = n - (length b - 8) in
       let p = pad - (length b - 8 - n) in
       rw (means_cut b st store o t)
@@ -212,14 +212,14 @@ unfolding hear_in
 heard_means zero b rs st store l o a q =
     let e = eq-eqb (length b) 0 (omega arith) in simp e at (rest_short b st store o (omega arith))
 heard_means (suc k) b rs st store l o a q =
-    byTest (eqb (length b) 0)
+    by_test (eqb (length b) 0)
     (λ e. let d = eqb-true (length b) 0 e in simp e (simp e at (rest_short b st store o (omega arith))))
     (λ e.
-    byTest (ltb (length b) 8)
+    by_test (ltb (length b) 8)
     (λ f. simp (e, f) (simp e at (rest_short b st store o (ltb-true (length b) 8 f))))
     (λ f.
     let header = ltb-false (length b) 8 f in
-    byTest (leb (record_size b) (length b))
+    by_test (leb (record_size b) (length b))
     (λ w.
     simp (e, f, w)
     (whole_header b header rs st store o a q (leb-true (record_size b) (length b) w)

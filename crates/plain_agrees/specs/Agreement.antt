@@ -10,9 +10,9 @@
 --
 -- The stepping receiver tells a close as an event, its last one. To the plain receiver a close is a last word, and so
 -- closes are left out of the events here (`events_of`) and read as a last word (`last_word`).
-use Rattle.std.specs.Prelude.{ℕ, ◌≡◌, Bool, false, List, [], ◌∷◌, length}
+use Rattle.std.specs.Prelude.{ℕ, ◌≡◌, Bool, false, List, [], ◌∷◌, length, if◌then◌else◌}
 use Rattle.std.proofs.Math.Option.{Option, none, some}
-use Rattle.wire.specs.Test.{if◌then◌else◌, ◌=?◌}
+use Rattle.wire.specs.Test.{◌=?◌}
 use Rattle.record_reader.specs.declared.Position.{Position}
 use Rattle.machine.specs.Cause.{Cause}
 use Rattle.connection.specs.Sizes.{QUERY, STORE}

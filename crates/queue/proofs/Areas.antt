@@ -3,7 +3,7 @@ use Rattle.std.specs.Prelude.{◌≡◌, ℕ, ◌+◌, ◌-◌, ◌*◌, ◌≤�
 use Rattle.std.proofs.Common.{sym, ap, ◌∙◌, append_assoc, arith, length-append, length-take, length-drop, take-append-drop, length-take-le, take_at, drop_at, ltb-true, ltb-false}
 use Rattle.std.proofs.lemmas.List.{take-append-le, drop-append-le}
 use Rattle.std.proofs.Math.Seq.{drop-append-add}
-use Rattle.wire.specs.Test.{byTest}
+use Rattle.wire.specs.Test.{by_test}
 use Rattle.connection.specs.Sizes.{SLOTS}
 use Rattle.queue_slot.specs.Wait.{ROOM, Wait}
 use Rattle.queue_slot.proofs.WaitLaws.{Sized}
@@ -39,7 +39,7 @@ module _ (store : List ℕ) (i : ℕ) (area : List ℕ) (full : length store ≡
 
   -- Another slot's area stays.
   pub room_of_other : (j : ℕ) → (j ≡ i → ⊥) → room_at (put_room store i area) j ≡ room_at store j
-  room_of_other j other = byTest (ltb j i) before behind
+  room_of_other j other = by_test (ltb j i) before behind
     where
       before : ltb j i ≡ true → room_at (put_room store i area) j ≡ room_at store j
       before t =

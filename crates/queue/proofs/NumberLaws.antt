@@ -1,12 +1,12 @@
 -- The numbers of a slot: what is put is read back, and the other slots and the pump's place stay.
-use Rattle.std.specs.Prelude.{◌≡◌, refl, ℕ, suc, ◌+◌, ◌-◌, ◌*◌, ◌/◌, ◌%◌, ◌≤◌, ◌<◌, Bool, not, List, set}
+use Rattle.std.specs.Prelude.{◌≡◌, refl, ℕ, suc, ◌+◌, ◌-◌, ◌*◌, ◌/◌, ◌%◌, ◌≤◌, ◌<◌, Bool, not, List, set, if◌then◌else◌}
 use Rattle.std.proofs.Common.{sym, ◌∙◌, length-set, eqb-true}
 use Rattle.std.proofs.Math.Path.{ap, ap₂}
 use native.Mathlib.Omega.{arith}
 use Rattle.std.proofs.Math.ListN.{length, get_or}
 use Rattle.std.proofs.Math.Seq.{get_or-set_same, get_or-set_other}
 use Rattle.std.proofs.lemmas.Bool.{eqb-false}
-use Rattle.wire.specs.Test.{if◌then◌else◌, ◌=?◌, byTest}
+use Rattle.wire.specs.Test.{◌=?◌, by_test}
 use Rattle.slot_word.specs.Word.{taken, marked}
 use Rattle.slot_word.proofs.WordLaws.{mark_read, mark_other}
 use Rattle.connection.specs.Sizes.{SLOTS}
@@ -41,7 +41,7 @@ status_same v w j a b = ap₂ (λ (m n : ℕ). m * 65536 + n) a b
 -- ---- how many data bytes
 -- a count, read from what it says
 count_read : (n : ℕ) → (if not (n =? 0) then suc (n - 1) else 0) ≡ n
-count_read n = byTest (n =? 0) (λ e. rw e (sym (eqb-true n 0 e))) (λ e. let h : (n ≡ 0 → ⊥) = eqb-false n 0 e in rw e (omega arith))
+count_read n = by_test (n =? 0) (λ e. rw e (sym (eqb-true n 0 e))) (λ e. let h : (n ≡ 0 → ⊥) = eqb-false n 0 e in rw e (omega arith))
 
 -- What other places have stays, and the length.
 count_skips : (w : List ℕ) (i n q : ℕ) → (q ≡ i → ⊥) → (q ≡ HOLDING → ⊥) → get_or (put_count w i n) q 0 ≡ get_or w q 0

@@ -1,10 +1,10 @@
 -- The calls with a queue, on the whole state: queued say, end and finish; straight ones while something waits; the
 -- pump.
 -- Definitions only. What waits stands beside the connection's value, so that nothing below it changes.
-use Rattle.std.specs.Prelude.{ℕ, zero, suc, ◌+◌, ◌*◌, Bool, true, false, not, length, take, drop, get_or, set}
+use Rattle.std.specs.Prelude.{ℕ, zero, suc, ◌+◌, ◌*◌, Bool, true, false, not, length, take, drop, get_or, set, if◌then◌else◌}
 use mathlib.Core.List.{List, [], ◌∷◌, ◌++◌, flatten}
 use Rattle.std.proofs.Math.Option.{Option, none, some}
-use Rattle.wire.specs.Test.{if◌then◌else◌, ◌<?◌, ◌≤?◌, ◌=?◌}
+use Rattle.wire.specs.Test.{◌<?◌, ◌≤?◌, ◌=?◌}
 use Rattle.wire.specs.Buffer.{put_at, zeros}
 use Rattle.slot_word.specs.Word.{taken}
 use Rattle.record.specs.Names.{END_REQUEST, REQUEST_COMPLETE}

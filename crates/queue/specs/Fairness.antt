@@ -3,8 +3,8 @@
 -- Take any run, and any moment of it at which something of R waits. From then on the pump writes fewer than 16 records
 -- before the next one of R, whatever is read, said and finished in between and however the turns are cut. (Where the
 -- pump writes none of R any more, because the run ends or the connection closes, it writes fewer than 16 in all.)
-use Rattle.std.specs.Prelude.{◌≡◌, List, [], ◌∷◌, ◌++◌, ℕ, suc, ◌<◌}
-use Rattle.wire.specs.Test.{if◌then◌else◌, ◌=?◌}
+use Rattle.std.specs.Prelude.{◌≡◌, List, [], ◌∷◌, ◌++◌, ℕ, suc, ◌<◌, if◌then◌else◌}
+use Rattle.wire.specs.Test.{◌=?◌}
 use Rattle.record.specs.Split.{Record, split}
 use Rattle.connection.specs.Sizes.{SLOTS}
 use Rattle.queue.specs.Calls.{QueueMemory}

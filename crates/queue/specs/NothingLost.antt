@@ -4,9 +4,9 @@
 -- a say its data, an end the end of its stream, a finish the ends that are owed and END. It is told from what was asked
 -- and the refusal's number; what the calls wrote is not looked at. In any run that ends open, that is what was written
 -- of R, and then what still waits.
-use Rattle.std.specs.Prelude.{◌≡◌, true, List, [], ◌∷◌, ◌++◌, map, ℕ}
+use Rattle.std.specs.Prelude.{◌≡◌, true, List, [], ◌∷◌, ◌++◌, map, ℕ, if◌then◌else◌}
 use Rattle.std.proofs.Math.Option.{Option, none, some}
-use Rattle.wire.specs.Test.{if◌then◌else◌, ◌=?◌}
+use Rattle.wire.specs.Test.{◌=?◌}
 use Rattle.connection.specs.Request.{Held}
 use Rattle.connection.specs.Arguments.{Argument, ForRead, ForSay, ForEnd, ForFinish, RepliedWith, Wrote, FinishedWith}
 use Rattle.connection.specs.Run.{request_of}

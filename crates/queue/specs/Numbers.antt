@@ -3,8 +3,8 @@
 -- Five of them are words that have a bit for each slot: data waits there; the end of STDOUT waits before all data; that
 -- of STDERR; where both wait, STDERR's is first; END waits. So the words alone say whether anything waits in a slot.
 -- Whatever the numbers are, they say something.
-use Rattle.std.specs.Prelude.{ℕ, suc, ◌+◌, ◌-◌, ◌*◌, ◌/◌, ◌%◌, Bool, true, false, not, List, get_or, set, replicate}
-use Rattle.wire.specs.Test.{if◌then◌else◌, ◌=?◌}
+use Rattle.std.specs.Prelude.{ℕ, suc, ◌+◌, ◌-◌, ◌*◌, ◌/◌, ◌%◌, Bool, true, false, not, List, get_or, set, replicate, if◌then◌else◌}
+use Rattle.wire.specs.Test.{◌=?◌}
 use Rattle.slot_word.specs.Word.{taken, marked}
 use Rattle.queue_slot.specs.declared.Ends.{Ends}
 use Rattle.queue_slot.specs.Wait.{Wait}

@@ -1,8 +1,8 @@
 -- Runs with a queue: from a start, steps, straight and queued calls, and turns of the pump, in any order. Definitions
 -- only.
-use Rattle.std.specs.Prelude.{◌≡◌, Bool, false, List, [], ◌∷◌, ◌++◌, ℕ, length, take}
+use Rattle.std.specs.Prelude.{◌≡◌, Bool, false, List, [], ◌∷◌, ◌++◌, ℕ, length, take, if◌then◌else◌}
 use Rattle.std.proofs.Math.Option.{Option}
-use Rattle.wire.specs.Test.{if◌then◌else◌, ◌=?◌}
+use Rattle.wire.specs.Test.{◌=?◌}
 use Rattle.record.specs.Split.{Record, split}
 use Rattle.machine.specs.Timeline.{RequestCall, CountCall, Item, CallItem, byte_items}
 use Rattle.connection.specs.declared.answer.Output.{Output}
@@ -10,7 +10,7 @@ use Rattle.connection.specs.Sizes.{STORE, QUERY}
 use Rattle.connection.specs.Bytewise.{Note, notes}
 use Rattle.connection.specs.Request.{Held}
 use Rattle.connection.specs.Arguments.{Question, ValueOf, SourceOf, PairOf, WalkOf, Reply, ValueIs, SourceIs, PairAnswer, WalkIs, Argument, ForRead, ForSay, ForEnd, ForFinish, Answer, RepliedWith, Wrote, FinishedWith}
-use Rattle.connection.specs.Slots.{find, onSlot}
+use Rattle.connection.specs.Slots.{find, on_slot}
 use Rattle.connection.specs.Calls as C
 use Rattle.connection.specs.Run.{Memory, request_of, event_id, start_of}
 use Rattle.wire.proofs.Bytes.{AllBytes}
@@ -96,11 +96,11 @@ queue_after m (TurnWith allowance buffer) = (pump m allowance buffer).left
 -- ---- what is R's
 -- what waits of R, oldest first; nothing where R is not active or the connection is closed
 unfoldable pub waits_of : ℕ → QueueMemory → List Atom
-waits_of R m = if (conn_of m).«open» then onSlot (find (conn_of m).table R) (λ i. atoms_in (wait_at m i)) [] else []
+waits_of R m = if (conn_of m).«open» then on_slot (find (conn_of m).table R) (λ i. atoms_in (wait_at m i)) [] else []
 
 -- R is between its finish and its END
 unfoldable pub leaving_of : ℕ → QueueMemory → Bool
-leaving_of R m = if (conn_of m).«open» then onSlot (find (conn_of m).table R) (λ i. last_at m.waits i) false else false
+leaving_of R m = if (conn_of m).«open» then on_slot (find (conn_of m).table R) (λ i. last_at m.waits i) false else false
 
 -- what the buffer that was lent to a call holds after it; nothing where none was lent
 abbrev pub buffer_left : Answering → List ℕ

@@ -1,11 +1,11 @@
 -- What the admission of a call with a queue says of its refusal: of a call that is let through, the slot, and that its
 -- own rows decide; of a refused one, the row.
-use Rattle.std.specs.Prelude.{ℕ, zero, suc, ◌+◌, ◌≤◌, ◌<◌, Bool, false, not, List, ◌∷◌, length}
+use Rattle.std.specs.Prelude.{ℕ, zero, suc, ◌+◌, ◌≤◌, ◌<◌, Bool, false, not, List, ◌∷◌, length, if◌then◌else◌}
 use Rattle.std.proofs.Math.Path.{◌≡◌, sym, ap}
 use Rattle.std.proofs.Common.{◌∙◌, arith, leb-true, eqb-true, eq-eqb}
 use Rattle.std.proofs.Math.Bool.{true}
 use Rattle.std.proofs.lemmas.Bool.{eqb-false}
-use Rattle.wire.specs.Test.{if◌then◌else◌, ◌≤?◌, ◌=?◌, byTest}
+use Rattle.wire.specs.Test.{◌≤?◌, ◌=?◌, by_test}
 use Rattle.slot_word.specs.Word.{taken}
 use Rattle.connection.specs.declared.answer.Refusal.{Refusal}
 use Rattle.connection.specs.declared.state.Slot.{Slot}
@@ -49,7 +49,7 @@ unfolding waits_fit
 fits_at zero waits occupied k i e low high = absurd (omega arith)
 fits_at (suc n) waits occupied k i e low high =
     let both = and_true (wait_fits waits occupied k) (waits_fit n waits occupied (k + 1)) e in
-    byTest (k =? i)
+    by_test (k =? i)
     (λ t. ap (wait_fits waits occupied) (sym (eqb-true k i t)) ∙ both.0)
     (λ t. fits_at n waits occupied (k + 1) i both.1 (omega (arith, eqb-false k i t)) (omega arith))
 
@@ -83,9 +83,9 @@ module _ (m : QueueMemory) (id : ℕ) where
   unfolding queue_in_shape C.call_refusal
   unqueued rows n fits own e some =
       let c = conn_of m in
-      byTest (in_shape c)
-      (λ s. byTest c.«open»
-      (λ o. byTest (is_found (find c.table id))
+      by_test (in_shape c)
+      (λ s. by_test c.«open»
+      (λ o. by_test (is_found (find c.table id))
       (λ f. let z : ◌≡◌ {A = ℕ} 0 n = simp (s, o, f) at e in absurd (eqb-false n 0 some (sym z)))
       (λ f. simp (fits, own, s, o, f) (simp (s, o, f) at e)))
       (λ o. simp (fits, own, s, o) (simp (s, o) at e)))
@@ -97,23 +97,23 @@ module _ (m : QueueMemory) (id : ℕ) where
   unfolding queue_admission call_admission queue_in_shape
   refused_by_row why rows e own =
       let c = conn_of m in
-      byTest (waits_fit SLOTS m.waits c.table.occupied 0)
+      by_test (waits_fit SLOTS m.waits c.table.occupied 0)
       (λ fits. unqueued rows (refusal_number why) fits own (refused_by_lem (C.call_refusal c id) (C.slot_of c id) why (simp fits at e)) (refusal_some why))
       (λ fits.
       let n : 9 ≡ refusal_number why = ap (λ (a : Admission). a.refusal) (sym (simp fits at e)) in
-      byTest (in_shape c) (λ s. simp (own, s, fits) n) (λ s. simp (own, s) n))
+      by_test (in_shape c) (λ s. simp (own, s, fits) n) (λ s. simp (own, s) n))
 
   -- A call that is let through has its slot.
   pub through_at : (i : ℕ) → admitted_by (Admitted.At i) ≡ queue_admission (conn_of m) m.waits id → Through m id i
   unfolding queue_admission call_admission queue_in_shape C.call_refusal
   through_at i e =
       let c = conn_of m in
-      byTest (waits_fit SLOTS m.waits c.table.occupied 0)
+      by_test (waits_fit SLOTS m.waits c.table.occupied 0)
       (λ fits.
       let a = let_through (C.call_refusal c id) (C.slot_of c id) i (simp fits at e) in
-      byTest (in_shape c)
-      (λ s. byTest c.«open»
-      (λ o. byTest (is_found (find c.table id))
+      by_test (in_shape c)
+      (λ s. by_test c.«open»
+      (λ o. by_test (is_found (find c.table id))
       (λ f. facts fits s o (found_true (find c.table id) f) a.1)
       (λ f. let z : ◌≡◌ {A = ℕ} 3 0 = simp (s, o, f) at a.0 in absurd (omega arith)))
       (λ o. let z : ◌≡◌ {A = ℕ} 1 0 = simp (s, o) at a.0 in absurd (omega arith)))
@@ -134,7 +134,7 @@ module _ (m : QueueMemory) (id : ℕ) where
       → holds_in 2 rows ≡ false → refusal ((2 when not (length m.memory.store =? STORE)) ∷ rows_of m id rows) ≡ refusal_number why
   unfolding queue_lent_admission
   lent_refused_by_row why rows e own =
-      byTest (length m.memory.store =? STORE)
+      by_test (length m.memory.store =? STORE)
       (λ t. size_passes (not (length m.memory.store =? STORE)) (rows_of m id rows) (simp t) own ∙ refused_by_row why rows (simp t at e) own)
       (λ t.
       size_refuses (not (length m.memory.store =? STORE)) (rows_of m id rows) (simp t) ∙ ap (λ (a : Admission). a.refusal) (sym (simp t at e)))
@@ -144,7 +144,7 @@ module _ (m : QueueMemory) (id : ℕ) where
       → (length m.memory.store ≡ STORE) × Through m id i
   unfolding queue_lent_admission
   lent_through_at i e =
-      byTest (length m.memory.store =? STORE)
+      by_test (length m.memory.store =? STORE)
       (λ t. (eqb-true (length m.memory.store) STORE t, through_at i (simp t at e)))
       (λ t. let z : ◌≡◌ {A = ℕ} 0 2 = ap (λ (a : Admission). a.refusal) (simp t at e) in absurd (omega arith))
 

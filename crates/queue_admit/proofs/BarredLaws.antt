@@ -1,7 +1,7 @@
 -- A call that is lent the store and what waits: barred, it is refused by 9; else it is refused as without a queue.
-use Rattle.std.specs.Prelude.{ℕ, ◌≡◌, refl, Bool, true, false, not, List, length}
+use Rattle.std.specs.Prelude.{ℕ, ◌≡◌, refl, Bool, true, false, not, List, length, if◌then◌else◌}
 use Rattle.std.proofs.Common.{sym, arith}
-use Rattle.wire.specs.Test.{if◌then◌else◌, ◌=?◌, byTest}
+use Rattle.wire.specs.Test.{◌=?◌, by_test}
 use Rattle.connection.specs.Sizes.{SLOTS, STORE}
 use Rattle.connection.specs.Shape.{in_shape, ◌and◌}
 use Rattle.connection.specs.Step.{step_refusal}
@@ -43,8 +43,8 @@ pub record Barred (m : QueueMemory) : Type 0 where
 pub is_barred_lem : (m : QueueMemory) → barred m ≡ true → Barred m
 unfolding is_barred
 is_barred_lem m e =
-    byTest (length m.memory.store =? STORE)
-    (λ t. byTest (waits_well m)
+    by_test (length m.memory.store =? STORE)
+    (λ t. by_test (waits_well m)
     (λ u. let z : ◌≡◌ {A = ℕ} 0 1 = cc (simp (t, u) at e) in absurd (omega arith))
     (λ u. record { full = t; lost = shape_lost m u }))
     (λ t. let z : ◌≡◌ {A = ℕ} 0 1 = cc (simp t at e) in absurd (omega arith))
@@ -55,8 +55,8 @@ by_size : {P : Type 0} (m : QueueMemory) → barred m ≡ false
     → ((length m.memory.store =? STORE) ≡ true → queue_in_shape m ≡ in_shape (conn_of m) → P) → P
 unfolding is_barred
 by_size m e other full =
-    byTest (length m.memory.store =? STORE)
-    (λ t. byTest (waits_well m)
+    by_test (length m.memory.store =? STORE)
+    (λ t. by_test (waits_well m)
     (λ u. full t (shape_alone m u))
     (λ u. let z : ◌≡◌ {A = ℕ} 0 1 = cc (simp (t, u) at e) in absurd (omega arith)))
     (λ t. other t)
@@ -80,6 +80,6 @@ unfolding lent_refusal C.lent_refusal
 free_lent m id e = by_size m e (λ t. simp t) (λ t u. simp (t, u))
 
 -- A call that is refused as another one is, and answers as that one where it is not refused, is that one.
-pub as-alone {ℓ} : {A : Type ℓ} (k n : ℕ) (answered alone : A) (refused : ℕ → A) → k ≡ n → alone ≡ (if n =? 0 then answered else refused n)
+pub as_alone {ℓ} : {A : Type ℓ} (k n : ℕ) (answered alone : A) (refused : ℕ → A) → k ≡ n → alone ≡ (if n =? 0 then answered else refused n)
     → (if k =? 0 then alone else refused k) ≡ alone
-as-alone k n answered alone refused e h = byTest (n =? 0) (λ t. simp (e, t)) (λ t. simp (e, t) (sym (simp t at h)))
+as_alone k n answered alone refused e h = by_test (n =? 0) (λ t. simp (e, t)) (λ t. simp (e, t) (sym (simp t at h)))

@@ -1,7 +1,7 @@
 -- Whether a call with a queue is let through to its request: what waits is in shape, and the call is let through
 -- without a queue.
-use Rattle.std.specs.Prelude.{ℕ, Bool, false, not, List, length}
-use Rattle.wire.specs.Test.{if◌then◌else◌, ◌=?◌}
+use Rattle.std.specs.Prelude.{ℕ, Bool, false, not, List, length, if◌then◌else◌}
+use Rattle.wire.specs.Test.{◌=?◌}
 use Rattle.connection.specs.declared.state.Conn.{Conn}
 use Rattle.connection.specs.Sizes.{SLOTS, STORE}
 use Rattle.call_admit.specs.Admission.{Admission, call_admission}

@@ -2,8 +2,7 @@
 // its id, and rows 4 and 5 of what writes on a stream.
 #![tactic(auto)]
 
-ghost use Rattle.std.specs.Prelude.{◌≡◌, ◌∷◌, [], false, length};
-ghost use Rattle.wire.specs.Test.{if◌then◌else◌};
+ghost use Rattle.std.specs.Prelude.{◌≡◌, ◌∷◌, [], false, length, if◌then◌else◌};
 ghost use Rattle.connection.specs.Refusal.{◌when◌, refusal};
 ghost use Rattle.connection.specs.RequestCalls.{no_output, is_ended};
 ghost use Rattle.call_admit.specs.Admission.{admitted_by};

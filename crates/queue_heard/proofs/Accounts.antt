@@ -1,7 +1,7 @@
 -- What is heard of one request, as atoms; and that it is what the records of its id say in the bytes that were written.
-use Rattle.std.specs.Prelude.{ℕ, ◌≤◌, ◌<◌, ◌≡◌, refl, Bool, true, false, List, [], ◌∷◌, ◌++◌, map, length, take, drop, eqb}
+use Rattle.std.specs.Prelude.{ℕ, ◌≤◌, ◌<◌, ◌≡◌, refl, Bool, true, false, List, [], ◌∷◌, ◌++◌, map, length, take, drop, eqb, if◌then◌else◌}
 use Rattle.std.proofs.Common.{sym, ap, ap₂, ◌∙◌, subst, append_assoc, append-nil, arith, length-take, take-append-drop}
-use Rattle.wire.specs.Test.{if◌then◌else◌, ◌=?◌, byTest}
+use Rattle.wire.specs.Test.{◌=?◌, by_test}
 use Rattle.record.specs.Names.{STDOUT, STDERR, END_REQUEST, REQUEST_COMPLETE}
 use Rattle.record.specs.Body.{end_body_bytes}
 use Rattle.record.proofs.BodyLaws.{end_length}
@@ -85,9 +85,9 @@ tells_over id status hi =
 -- data in one record
 heard_shown : (R id : ℕ) (o : Output) (x : List ℕ) → heard_of R (showing id (output_type o) x) ≡ if_own R id (map (ByteOn o) x)
 unfolding heard_of showing
-heard_shown R id o [] = byTest (eqb id R) (λ e. simp e) (λ e. simp e)
+heard_shown R id o [] = by_test (eqb id R) (λ e. simp e) (λ e. simp e)
 heard_shown R id o (b ∷ x) =
-    ap₂ (λ (y z : List Atom). y ++ z) (ap (if_own R id) (on_stream_lem o (λ p. ByteOn p b))) (heard_shown R id o x) ∙ byTest (eqb id R) (λ e. simp e) (λ e. simp e)
+    ap₂ (λ (y z : List Atom). y ++ z) (ap (if_own R id) (on_stream_lem o (λ p. ByteOn p b))) (heard_shown R id o x) ∙ by_test (eqb id R) (λ e. simp e) (λ e. simp e)
 
 pub tells_data : (o : Output) (id : ℕ) (x : List ℕ) → id < 65536 → 0 < length x → length x < 65536 → Tells (record_bytes (output_type o) id x) (showing id (output_type o) x)
 tells_data o id x hi more hx =

@@ -2,7 +2,7 @@
 use Rattle.std.specs.Prelude.{ℕ, ◌<◌, ◌≡◌, true, false, List, [], eqb}
 use Rattle.std.proofs.Math.Path.{refl}
 use Rattle.std.proofs.Common.{sym, ap, ◌∙◌, subst, eqb-true}
-use Rattle.wire.specs.Test.{byTest}
+use Rattle.wire.specs.Test.{by_test}
 use Rattle.wire.proofs.Bytes.{AllBytes}
 use Rattle.connection.specs.declared.answer.Output.{Output}
 use Rattle.slot_word.specs.Word.{taken}
@@ -91,7 +91,7 @@ module _ (m : QueueMemory) (t : Table) (v : List ℕ) (fine : Fine m) (nothing :
   say_straight id o x buffer hi f =
       let rows = straight_rows m id (ForSay o x buffer) in
       let none = none_called id (D.Straight (ForSay o x buffer)) in
-      byTest (eqb (refusal rows) 0)
+      by_test (eqb (refusal rows) 0)
       (λ z.
       let e = let_through rows 10 (eqb-true (refusal rows) 0 z) refl in
       rw z (by_call id hi _ _ _ (quiet_at id e) (rw z at none) (say_heard (conn_of m) id t v ready (mine_at id e) hi o x buffer f)))
@@ -102,7 +102,7 @@ module _ (m : QueueMemory) (t : Table) (v : List ℕ) (fine : Fine m) (nothing :
   end_straight id o buffer hi =
       let rows = straight_rows m id (ForEnd o buffer) in
       let none = none_called id (D.Straight (ForEnd o buffer)) in
-      byTest (eqb (refusal rows) 0)
+      by_test (eqb (refusal rows) 0)
       (λ z.
       let e = let_through rows 10 (eqb-true (refusal rows) 0 z) refl in
       rw z (by_call id hi _ _ _ (quiet_at id e) (rw z at none) (end_heard (conn_of m) id t v ready (mine_at id e) hi o buffer)))
@@ -113,7 +113,7 @@ module _ (m : QueueMemory) (t : Table) (v : List ℕ) (fine : Fine m) (nothing :
   finish_straight id status buffer hi f =
       let rows = straight_rows m id (ForFinish status buffer) in
       let none = none_called id (D.Straight (ForFinish status buffer)) in
-      byTest (eqb (refusal rows) 0)
+      by_test (eqb (refusal rows) 0)
       (λ z.
       let e = let_through rows 10 (eqb-true (refusal rows) 0 z) refl in
       rw z (by_call id hi _ _ _ (quiet_at id e) (rw z at none) (finish_heard (conn_of m) m.memory.store id status buffer t v ready (mine_at id e) hi f)))
@@ -140,7 +140,7 @@ module _ (m : QueueMemory) (t : Table) (v : List ℕ) (fine : Fine m) (nothing :
   -- ---- a turn of the pump
   pub pump_heard : (allowance : ℕ) (buffer : List ℕ) → OperationHeard m t v (bytes_in m (TurnWith allowance buffer)) (unless (pump m allowance buffer).refusal (turn_means allowance m)) (pump m allowance buffer).left
   pump_heard allowance buffer =
-      byTest (eqb (pump_refusal m allowance buffer) 0)
+      by_test (eqb (pump_refusal m allowance buffer) 0)
       (λ z. rw (turn_bytes m allowance buffer fine z, pump_done m allowance buffer z) (turn_heard allowance m t v fine ready a))
       (λ z. rw (no_turn_bytes m allowance buffer z, pump_refused_lem m allowance buffer z, z) (nothing_heard m t v ready a))
 
@@ -154,7 +154,7 @@ module _ (m : QueueMemory) (t : Table) (v : List ℕ) (fine : Fine m) (nothing :
   opened_sends : (id i : ℕ) → i < SLOTS → taken i s.occupied ≡ false → OpenWith t id no_state → Sends t id (wait_at m i) no_state
   opened_sends id i low free o =
       silent_sends t id (wait_at m i) no_state
-      (byTest (conn_of m).«open»
+      (by_test (conn_of m).«open»
       (λ k. nothing_waits (wait_at m i) (slot_free m i fine.good.steady k low free))
       (λ k. nothing_waits (wait_at m i) (nobody_at m i (nothing.waits k))))
       o

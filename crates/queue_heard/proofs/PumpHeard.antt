@@ -4,7 +4,7 @@ use Rattle.std.proofs.Math.Path.{refl}
 use Rattle.std.proofs.Common.{sym, ap, ◌∙◌, subst, arith, drop_of_length-le, take_all}
 use mathlib.Core.List.{List, [], ◌∷◌, ◌++◌, flatten, append-nil}
 use Rattle.std.proofs.Math.Option.{Option, none, some}
-use Rattle.wire.specs.Test.{byTest}
+use Rattle.wire.specs.Test.{by_test}
 use Rattle.wire.proofs.Bytes.{AllBytes, append_bytes}
 use Rattle.record.specs.Names.{END_REQUEST, REQUEST_COMPLETE}
 use Rattle.record.specs.Body.{end_body_bytes}
@@ -97,7 +97,7 @@ StatusStays w (ServesLast status) = Unit {0}
 
 status_data : (w : Wait) → StatusStays w (serve_data w)
 unfolding serve_data serve_run without_first
-status_data w = byTest (eqb w.count 0) (λ e. byTest w.last (λ l. simp (e, l) tt) (λ l. simp (e, l) tt)) (λ e. simp e refl)
+status_data w = by_test (eqb w.count 0) (λ e. by_test w.last (λ l. simp (e, l) tt) (λ l. simp (e, l) tt)) (λ e. simp e refl)
 
 status_stays : (e : Ends) (w : Wait) → StatusStays w (serve_from e w)
 status_stays Ends.None w = status_data w

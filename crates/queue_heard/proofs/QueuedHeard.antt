@@ -4,7 +4,7 @@ use Rattle.std.proofs.Math.Path.{refl, ap, subst}
 use Rattle.std.proofs.Common.{sym, ◌∙◌, arith}
 use mathlib.Core.List.{List, [], ◌∷◌, ◌++◌, map}
 use borrow.Author.Tests.{eqb-true, not-false}
-use Rattle.wire.specs.Test.{byTest}
+use Rattle.wire.specs.Test.{by_test}
 use Rattle.wire.proofs.Bytes.{AllBytes}
 use Rattle.connection.specs.declared.answer.Output.{Output}
 use Rattle.connection.specs.declared.request.RequestState.{RequestState}
@@ -80,7 +80,7 @@ neither false c e = (refl, e)
 -- what comes to wait goes without a new status
 end_status : (w : Wait) (o : Output) → (wait_end w o).status ≡ w.status
 unfolding wait_end
-end_status w o = byTest (eqb w.count 0) (λ e. simp e) (λ e. simp e)
+end_status w o = by_test (eqb w.count 0) (λ e. simp e) (λ e. simp e)
 
 -- an end rests on the state alone
 ended_same : (r : Request) (o : Output) → SameEnds (ended_in r.state o) (Of.ended_on r o).state
@@ -168,7 +168,7 @@ module _ (m : QueueMemory) (t : Table) (fine : Fine m) (a : QueueAgree m t) (id 
   pub say_queued : (o : Output) (x : List ℕ) → AllBytes x → Comes m t (queue_called m id (ToSay o x)).left
   unfolding queue_called T.queue_say say_refusal
   say_queued o x all =
-      byTest (eqb (say_refusal m id o x) 0)
+      by_test (eqb (say_refusal m id o x) 0)
       (λ z.
       let e = eqb-true (say_refusal m id o x) 0 z in
       let rows = queued_rows m id (ToSay o x) in
@@ -182,7 +182,7 @@ module _ (m : QueueMemory) (t : Table) (fine : Fine m) (a : QueueAgree m t) (id 
   unfolding queue_called T.queue_end
   end_queued o =
       let rows = queued_rows m id (ToEnd o) in
-      byTest (eqb (refusal rows) 0)
+      by_test (eqb (refusal rows) 0)
       (λ z.
       let e = eqb-true (refusal rows) 0 z in
       let k = active m id (let_through rows 1 e refl) (let_through rows 3 e refl) in
@@ -194,7 +194,7 @@ module _ (m : QueueMemory) (t : Table) (fine : Fine m) (a : QueueAgree m t) (id 
   unfolding queue_called T.queue_finish
   finish_queued status small =
       let rows = queued_rows m id (ToFinish status) in
-      byTest (eqb (refusal rows) 0)
+      by_test (eqb (refusal rows) 0)
       (λ z.
       let e = eqb-true (refusal rows) 0 z in
       let k = active m id (let_through rows 1 e refl) (let_through rows 3 e refl) in

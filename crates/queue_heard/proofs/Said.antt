@@ -4,9 +4,8 @@
 --
 -- The connection is open at the end, as in `NothingLost`, and no END_REQUEST of a refused opening of that id is among
 -- the replies.
-use Rattle.std.specs.Prelude.{ℕ, ◌≡◌, refl, Bool, true, false, List, [], ◌∷◌, ◌++◌, eqb}
+use Rattle.std.specs.Prelude.{ℕ, ◌≡◌, refl, Bool, true, false, List, [], ◌∷◌, ◌++◌, eqb, if◌then◌else◌}
 use Rattle.std.proofs.Common.{sym, ap, ap₂, ◌∙◌, append_assoc, append-nil, ne_eqb}
-use Rattle.wire.specs.Test.{if◌then◌else◌}
 use Rattle.connection.specs.Event.{Event as StationEvent}
 use Rattle.connection.specs.Calls as C
 use Rattle.server.specs.Event.{Note}

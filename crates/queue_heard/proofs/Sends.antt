@@ -4,7 +4,7 @@
 use Rattle.std.specs.Prelude.{ℕ, ◌<◌, ◌≡◌, refl, true, [], eqb}
 use Rattle.std.proofs.Common.{sym, ap, ◌∙◌, subst, eqb-true}
 use Rattle.std.proofs.lemmas.Bool.{eqb-false}
-use Rattle.wire.specs.Test.{byTest}
+use Rattle.wire.specs.Test.{by_test}
 use Rattle.connection.specs.declared.request.RequestState.{RequestState}
 use Rattle.connection.specs.declared.request.Request.{Request}
 use Rattle.connection.specs.declared.state.Conn.{Conn}
@@ -81,7 +81,7 @@ module _ (m n : QueueMemory) (t u : Table) (id i : ℕ) (found : find (conn_of m
     where
       there : Each s (λ b k. Sends u b (wait_at n k))
       there b k f =
-          byTest (eqb k i)
+          by_test (eqb k i)
           (λ x. let is : k ≡ i = eqb-true k i x in subst (λ (c : ℕ). Sends u b (wait_at n c) (request_at s c).state) (sym is) (own_of (request_at s i).state own b (f ∙ ap Slot.At is)))
           (λ x. others b k (eqb-false k i x) f)
 
@@ -105,7 +105,7 @@ still_waits m n o k = rw (o, kept_open (conn_of m).«open» m.waits)
 
 pub with_agree : (m : QueueMemory) (n : Memory) (u : Table) → KeepsNothing (with_memory m n) → Each n.state.conn.table (λ id i. Sends u id (wait_at m i)) → QueueAgree (with_memory m n) u
 with_agree m n u nothing a =
-    byTest n.state.conn.«open»
+    by_test n.state.conn.«open»
     (λ o id i e. subst (λ w. Sends u id w (request_at n.state.conn.table i).state) (sym (still_waits m n o i)) (a id i e))
     (λ o. none_agree (with_memory m n) u (ap (λ (c : Conn). c.table) (nothing.connection o)))
 

@@ -10,8 +10,8 @@
 -- empty: what straight calls said, what the pump served (the bytes of each stream, the ends of streams, the ends of
 -- requests with their statuses), the replies to queries, to unknown types and to openings that were refused. No step of
 -- the server's end is refused, and it is open still. Definitions only; `JointTheorem` proves the statement.
-use Rattle.std.specs.Prelude.{ℕ, ◌≡◌, Bool, true, List, [], ◌∷◌, ◌++◌, length, take, drop}
-use Rattle.wire.specs.Test.{if◌then◌else◌, ◌=?◌}
+use Rattle.std.specs.Prelude.{ℕ, ◌≡◌, Bool, true, List, [], ◌∷◌, ◌++◌, length, take, drop, if◌then◌else◌}
+use Rattle.wire.specs.Test.{◌=?◌}
 use Rattle.connection.specs.Sizes.{QUERY, STORE}
 use Rattle.connection.specs.Calls.{replied}
 use Rattle.connection.specs.Run.{start_of}

@@ -4,12 +4,12 @@
 -- the one without a queue. A queued say or end leaves of state and store what a straight one leaves whose buffer is
 -- just long enough. New is the queued finish: it spends its request and skips the rest of its record, and every
 -- list stays.
-use Rattle.std.specs.Prelude.{◌≡◌, List, ◌⊎◌, Bool, true, ℕ, length, take, set, eqb}
+use Rattle.std.specs.Prelude.{◌≡◌, List, ◌⊎◌, Bool, true, ℕ, length, take, set, eqb, if◌then◌else◌}
 use Rattle.std.proofs.Math.Path.{refl, ap, sym, subst}
 use Rattle.std.proofs.Common.{ap₂, ◌∙◌, inl, inr, arith}
 use Rattle.std.proofs.Math.Bool.{false}
 use borrow.Author.Tests.{eqb-true, eqb-false, le-ltb}
-use Rattle.wire.specs.Test.{if◌then◌else◌, byTest}
+use Rattle.wire.specs.Test.{by_test}
 use Rattle.machine.specs.Slots.{Vacant, HeldBy, slot_at, lookup_set, slot_written}
 use Rattle.machine.specs.Timeline.{Scan}
 use Rattle.machine.specs.Machine.{Target, Skip, ToBegin, ToQuery, ToSlot, Reading, AtHeader, PastHeader, Slots, Open, target_without, reading_without}
@@ -96,7 +96,7 @@ module _ (T : Slots receiver) (i id : ℕ) (h : Held) (t : SlotsOk receiver rece
   spent_target (ToBegin j g) c s = (s.0, s.1, absent_kept receiver receiver_laws T i (HeldBy id (spent_held h)) j s.2 (λ x y. let z : id ≡ j = cc in s.2 i h (rw (← z) d)))
   spent_target (ToQuery g) c s = s
   spent_target (ToSlot j due) c s =
-      byTest (eqb i j) (λ e. rw e tt)
+      by_test (eqb i j) (λ e. rw e tt)
       (λ e. rw e (go (written_or_not (Vacant clean_area) T i j (HeldBy id (spent_held h))) (λ k. eqb-false i j e (sym k))))
     where
       go : ((j ≡ i) × (slot_at clean_area after j ≡ HeldBy id (spent_held h))) ⊎ (slot_at clean_area after j ≡ slot_at clean_area T j) → (j ≡ i → ⊥) → TargetOk receiver receiver_laws after (ToSlot j due) c
@@ -117,7 +117,7 @@ module _ (T : Slots receiver) (i id : ℕ) (h : Held) (t : SlotsOk receiver rece
     own_due (ToBegin j g) e = refl
     own_due (ToQuery g) e = refl
     own_due (ToSlot j due) e =
-        byTest (eqb i j) (λ k. rw k)
+        by_test (eqb i j) (λ k. rw k)
         (λ k. rw k (slot_absent R (slot_at clean_area after j) due
         (λ q w. eqb-false i j k (sym (spent_slots.once j i R q (spent_held h) w (slot_written clean_area T i id h (HeldBy id (spent_held h)) d ∙ ap (λ n. HeldBy n (spent_held h)) e))))))
 
@@ -130,13 +130,13 @@ module _ (T : Slots receiver) (i id : ℕ) (h : Held) (t : SlotsOk receiver rece
     other_due (ToSlot j due) n =
         let idle : (q : Held) (u : Due) → is_params_of R (HeldBy id q) u ≡ false = λ q u. slot_absent R (HeldBy id q) u (λ r e. n (cc)) in
         let here : (u : Due) → is_params_of R (slot_at clean_area T i) u ≡ false = λ u. ap (λ o. is_params_of R o u) d ∙ idle h u in
-        byTest (eqb i j)
+        by_test (eqb i j)
         (λ e. rw e (ap (λ k. is_params_of R (slot_at clean_area T k) due) (sym (eqb-true i j e)) ∙ here due))
         (λ e. rw e (due_written R T i (HeldBy id (spent_held h)) (ToSlot j due) (λ u. idle (spent_held h) u ∙ sym (here u))))
 
     -- R takes no PARAMS from then on, if it is spent; and the place in the bytes stays.
     spent_agrees : (F : Reading receiver) (m : Scan) (k : Bool) → Agrees R (Open T F) m k → Agrees R (Open after (reading_without receiver i F)) m (if eqb id R then false else k)
-    spent_agrees F m k a = byTest (eqb id R) own other
+    spent_agrees F m k a = by_test (eqb id R) own other
       where
         own : eqb id R ≡ true → Agrees R (Open after (reading_without receiver i F)) m (if eqb id R then false else k)
         own e =
@@ -204,7 +204,7 @@ module _ (m : Memory) (is_open : m.state.conn.«open» ≡ true) (id i : ℕ) (f
       let steady = steady_put (skipped m i) i (spent_by own.request) in_use.low (spent_list own.request) (steady_skip m i k.steady) in
       let shape = subst (λ s. WellShaped receiver receiver_laws s) (sym e) (spent_slots T i id own w.0 d, spent_reading T i id own w.0 d F w.1) in
       let list = ap list_found (request_loaded R (retired_by m i)) ∙ same ∙ ap list_found (sym (request_loaded R m)) ∙ k.list in
-      byTest (eqb id R)
+      by_test (eqb id R)
       (λ x. rw x (record { steady = steady; shape = shape; agrees = rw x at b; list = list }))
       (λ x. rw x (record { steady = steady; shape = shape; agrees = rw x at b; list = list }))
 
@@ -242,7 +242,7 @@ module _ (R : ℕ) where
   finish_holds m id status h k =
       let rows = queued_rows m id (D.ToFinish status) in
       let same = queued_keeps_lists R m id (D.ToFinish status) refl in
-      byTest (eqb (refusal rows) 0)
+      by_test (eqb (refusal rows) 0)
       (λ t.
       let e = eqb-true (refusal rows) 0 t in
       let q = active m id (let_through rows 1 e refl) (let_through rows 3 e refl) in
@@ -270,7 +270,7 @@ module _ (R : ℕ) where
   unfolding queue_called T.queue_say say_refusal put_wait called result_at Of.say_in
   say_holds m id o content h k =
       let rows = queued_rows m id (D.ToSay o content) in
-      byTest (eqb (refusal rows) 0)
+      by_test (eqb (refusal rows) 0)
       (λ t.
       let e = eqb-true (refusal rows) 0 t in
       let q = active m id (let_through rows 1 e refl) (let_through rows 3 e refl) in
@@ -285,7 +285,7 @@ module _ (R : ℕ) where
   unfolding queue_called T.queue_end put_wait called result_at Of.end_in
   end_holds m id o h k =
       let rows = queued_rows m id (D.ToEnd o) in
-      byTest (eqb (refusal rows) 0)
+      by_test (eqb (refusal rows) 0)
       (λ t.
       let e = eqb-true (refusal rows) 0 t in
       let q = active m id (let_through rows 1 e refl) (let_through rows 3 e refl) in
@@ -300,11 +300,11 @@ module _ (R : ℕ) where
   unfolding queue_called straight_say straight_end straight_finish called memory_after
   straight_holds m id (ForRead q) h k = k
   straight_holds m id (ForSay o content buffer) h k =
-      byTest (eqb (refusal (straight_rows m id (ForSay o content buffer))) 0) (λ t. rw t (holds_call R m.memory id (ForSay o content buffer) h k)) (λ t. rw t k)
+      by_test (eqb (refusal (straight_rows m id (ForSay o content buffer))) 0) (λ t. rw t (holds_call R m.memory id (ForSay o content buffer) h k)) (λ t. rw t k)
   straight_holds m id (ForEnd o buffer) h k =
-      byTest (eqb (refusal (straight_rows m id (ForEnd o buffer))) 0) (λ t. rw t (holds_call R m.memory id (ForEnd o buffer) h k)) (λ t. rw t k)
+      by_test (eqb (refusal (straight_rows m id (ForEnd o buffer))) 0) (λ t. rw t (holds_call R m.memory id (ForEnd o buffer) h k)) (λ t. rw t k)
   straight_holds m id (ForFinish status buffer) h k =
-      byTest (eqb (refusal (straight_rows m id (ForFinish status buffer))) 0) (λ t. rw t (holds_call R m.memory id (ForFinish status buffer) h k)) (λ t. rw (t, t) k)
+      by_test (eqb (refusal (straight_rows m id (ForFinish status buffer))) 0) (λ t. rw t (holds_call R m.memory id (ForFinish status buffer) h k)) (λ t. rw (t, t) k)
 
   -- Any call.
   pub call_holds : (m : QueueMemory) (id : ℕ) (a : Asking) (h : History) → Holds R m.memory h → HoldsCalled m id a h

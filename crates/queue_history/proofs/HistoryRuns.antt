@@ -4,7 +4,7 @@
 -- A step is the one without a queue. A record of the pump that is END leaves of state and store what a straight
 -- finish leaves whose buffer is just long enough, and other records leave them as they are. That END of R was
 -- written is read from the bytes of a turn.
-use Rattle.std.specs.Prelude.{◌≡◌, Bool, not, length, get_or}
+use Rattle.std.specs.Prelude.{◌≡◌, Bool, not, length, get_or, if◌then◌else◌}
 use Rattle.std.proofs.Math.Path.{refl, ap, ap₂, subst}
 use Rattle.std.proofs.Common.{sym, ◌∙◌, arith, eq-eqb, le-ltb}
 use mathlib.Core.List.{List, [], ◌∷◌, ◌++◌, flatten, append-nil}
@@ -12,7 +12,7 @@ use Rattle.std.proofs.Math.Option.{Option, none, some}
 use Rattle.std.proofs.Math.Bool.{true, false}
 use Prim.Native.Nat.{ℕ, zero, suc, ◌<◌}
 use Rattle.std.proofs.Math.Dec.{eqb}
-use Rattle.wire.specs.Test.{if◌then◌else◌, byTest}
+use Rattle.wire.specs.Test.{by_test}
 use Rattle.record.specs.Names.{END_REQUEST, REQUEST_COMPLETE}
 use Rattle.record.specs.Body.{end_body_bytes}
 use Rattle.record.proofs.BodyLaws.{end_length}
@@ -122,7 +122,7 @@ module _ (R : ℕ) where
   none_holds : (m : QueueMemory) (h : History) → Holds R m.memory h → HoldsWritten m [] h
   unfolding end_waits
   none_holds m h k =
-      byTest (conn_of m).«open» (λ o. holds_as m [] h true false o (ap end_waits (records_none R)) k) (λ o. holds_as m [] h false false o (ap end_waits (records_none R)) (holds_closed m.memory h o k))
+      by_test (conn_of m).«open» (λ o. holds_as m [] h true false o (ap end_waits (records_none R)) k) (λ o. holds_as m [] h false false o (ap end_waits (records_none R)) (holds_closed m.memory h o k))
 
   module _ (m : QueueMemory) (fine : Fine m) (o : (conn_of m).«open» ≡ true) (id i : ℕ) (f : find (conn_of m).table id ≡ Slot.At i) (h : History) (k : Holds R m.memory h) where
     -- the request that is served, whose id is a number of two bytes
@@ -206,7 +206,7 @@ module _ (R : ℕ) where
       → Holds R (pump m allowance buffer).left.memory (changed (change_turn R (pump m allowance buffer)) h)
   unfolding bytes_in end_waits
   pump_holds m allowance buffer h fine k =
-      byTest (eqb (pump_refusal m allowance buffer) 0)
+      by_test (eqb (pump_refusal m allowance buffer) 0)
       (λ e.
       let d = pump_done m allowance buffer e in
       let t = turned allowance m in

@@ -2,7 +2,7 @@
 use Rattle.std.specs.Prelude.{◌≡◌, refl, List, [], ◌∷◌, ◌++◌, map, Bool, true, false, ℕ, ◌<◌, length, eqb}
 use Rattle.std.proofs.Math.Path.{ap}
 use Rattle.std.proofs.Common.{◌∙◌}
-use Rattle.wire.specs.Test.{byTest}
+use Rattle.wire.specs.Test.{by_test}
 use Rattle.record.specs.Names.{END_REQUEST}
 use Rattle.record_writer.specs.Written.{record_bytes}
 use Rattle.connection.specs.declared.answer.Output.{Output}
@@ -61,11 +61,11 @@ module _ (R : ℕ) where
   unfolding end_waits
   stream_read o id x hi hx =
       ap end_waits (own_one R (output_type o) id x hi hx ∙ ap (if_own R id) (atoms_one (output_type o) id x hx ∙ output_atoms o x))
-      ∙ byTest (eqb id R) (λ e. rw e (no_end o x)) (λ e. rw e)
+      ∙ by_test (eqb id R) (λ e. rw e (no_end o x)) (λ e. rw e)
 
   -- END is R's where its id is R
   pub end_read : (id : ℕ) (x : List ℕ) → id < 65536 → length x < 65536 → end_waits (read_of R (record_bytes END_REQUEST id x)) ≡ eqb id R
   unfolding end_waits record_atoms
   end_read id x hi hx =
       ap end_waits (own_one R END_REQUEST id x hi hx ∙ ap (if_own R id) (atoms_one END_REQUEST id x hx))
-      ∙ byTest (eqb id R) (λ e. rw e) (λ e. rw e)
+      ∙ by_test (eqb id R) (λ e. rw e) (λ e. rw e)

@@ -9,8 +9,8 @@
 -- Content is skipped while R takes no PARAMS. R takes them from its opening on, until it is ready, is aborted,
 -- faults or is finished, straight or queued, or the connection closes. Between a queued finish of R and its END R
 -- takes none, and keeps those that it has.
-use Rattle.std.specs.Prelude.{List, [], ◌∷◌, ℕ, take}
-use Rattle.wire.specs.Test.{if◌then◌else◌, ◌=?◌}
+use Rattle.std.specs.Prelude.{List, [], ◌∷◌, ℕ, take, if◌then◌else◌}
+use Rattle.wire.specs.Test.{◌=?◌}
 use Rattle.record.specs.Split.{split}
 use Rattle.connection.specs.History.{History, no_history, with_bytes, ParamsChange, Keeps, Ends, Drops, changed, change_of, change_by}
 use Rattle.queue_slot.specs.Atoms.{Atom, end_waits}

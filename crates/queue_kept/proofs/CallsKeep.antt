@@ -3,12 +3,12 @@
 --
 -- A straight say or end, and a queued one, change the output marks of their request alone. So the fact stays, or R
 -- goes by a straight finish. A queued finish spends its request: the fact stays if that does not change it.
-use Rattle.std.specs.Prelude.{◌≡◌, List, Bool, true, false, ℕ, eqb}
+use Rattle.std.specs.Prelude.{◌≡◌, List, Bool, true, false, ℕ, eqb, if◌then◌else◌}
 use Rattle.std.proofs.Math.Path.{refl}
 use Rattle.std.proofs.Common.{ap, ap₂, sym, ◌∙◌, subst, eqb-true}
 use Rattle.std.proofs.Math.Option.{Option, none, some}
 use Rattle.std.proofs.lemmas.Bool.{eqb-false}
-use Rattle.wire.specs.Test.{if◌then◌else◌, byTest}
+use Rattle.wire.specs.Test.{by_test}
 use Rattle.connection.specs.declared.request.Request.{Request}
 use Rattle.connection.specs.declared.state.Table.{Table}
 use Rattle.connection.specs.declared.state.Slot.{Slot}
@@ -17,7 +17,7 @@ use Rattle.connection.specs.declared.answer.Output.{Output}
 use Rattle.connection.specs.Request.{Held}
 use Rattle.connection.specs.RequestCalls as Of
 use Rattle.connection.specs.Refusal.{refusal}
-use Rattle.connection.specs.Slots.{request_at, held_at, put_request, find, onSlot}
+use Rattle.connection.specs.Slots.{request_at, held_at, put_request, find, on_slot}
 use Rattle.connection.specs.Calls as C
 use Rattle.connection.specs.Arguments.{Argument, ForRead, ForSay, ForEnd, ForFinish}
 use Rattle.connection.specs.Run.{Memory, request_of, finished_by}
@@ -61,14 +61,14 @@ module _ {A : Type 0} (f : Request → A) (R : ℕ) where
       → (m.state.conn.«open» ≡ true → find m.state.conn.table R ≡ Slot.At i → f r ≡ f (request_at m.state.conn.table i))
       → fact_of f (request_of R (with_request m i r)) ≡ fact_of f (request_of R m)
   unfolding request_of
-  put_fact m i r sized id same = byTest m.state.conn.«open» (λ o. rw (o, find_put t i r R id) (go o (find t R) refl)) (λ o. rw o)
+  put_fact m i r sized id same = by_test m.state.conn.«open» (λ o. rw (o, find_put t i r R id) (go o (find t R) refl)) (λ o. rw o)
     where
       t : Table
       t = m.state.conn.table
 
       here : m.state.conn.«open» ≡ true → (j : ℕ) → find t R ≡ Slot.At j → f (request_at (put_request t i r) j) ≡ f (request_at t j)
       here o j e =
-          byTest (eqb j i)
+          by_test (eqb j i)
           (λ k.
           let q : j ≡ i = eqb-true j i k in
           subst (λ n. f (request_at (put_request t n r) j) ≡ f (request_at t j)) q
@@ -76,7 +76,7 @@ module _ {A : Type 0} (f : Request → A) (R : ℕ) where
           (λ k. ap f (request_of_other t i j r (eqb-false j i k)))
 
       go : m.state.conn.«open» ≡ true → (s : Slot) → find t R ≡ s
-          → fact_of f (onSlot s (λ j. some (held_at (put_request t i r) m.store j)) none) ≡ fact_of f (onSlot s (λ j. some (held_at t m.store j)) none)
+          → fact_of f (on_slot s (λ j. some (held_at (put_request t i r) m.store j)) none) ≡ fact_of f (on_slot s (λ j. some (held_at t m.store j)) none)
       go o Slot.Nowhere e = refl
       go o (Slot.At j) e = ap some (here o j e)
 
@@ -99,12 +99,12 @@ module _ {A : Type 0} (f : Request → A) (R : ℕ) where
     -- what a call that writes leaves of its request, refused or not: the id
     writes_id : (n : ℕ) (bytes : List ℕ) (after r : Request) (buffer : List ℕ) → after.id ≡ r.id → (Of.writes n bytes after r buffer).request.id ≡ r.id
     unfolding Of.writes
-    writes_id n bytes after r buffer s = byTest (eqb n 0) (λ e. simp e s) (λ e. simp e)
+    writes_id n bytes after r buffer s = by_test (eqb n 0) (λ e. simp e s) (λ e. simp e)
 
     -- and the fact
     writes_fact : (n : ℕ) (bytes : List ℕ) (after r : Request) (buffer : List ℕ) → f after ≡ f r → f (Of.writes n bytes after r buffer).request ≡ f r
     unfolding Of.writes
-    writes_fact n bytes after r buffer s = byTest (eqb n 0) (λ e. simp e s) (λ e. simp e)
+    writes_fact n bytes after r buffer s = by_test (eqb n 0) (λ e. simp e s) (λ e. simp e)
 
     -- a straight say
     say_fact : (m : Memory) (id : ℕ) (o : Output) (content buffer : List ℕ) → Sized m.state.conn.table
@@ -113,7 +113,7 @@ module _ {A : Type 0} (f : Request → A) (R : ℕ) where
     say_fact m id o content buffer sized =
         let c = m.state.conn in
         let r = request_at c.table (C.slot_of c id) in
-        byTest (eqb (C.call_refusal c id) 0)
+        by_test (eqb (C.call_refusal c id) 0)
         (λ t. rw t (put_fact m (C.slot_of c id) (Of.say_in r o content buffer).request sized (writes_id _ _ _ r buffer (said_id r o content)) (λ u e. writes_fact _ _ _ r buffer (said r o content))))
         (λ t. rw t)
 
@@ -124,7 +124,7 @@ module _ {A : Type 0} (f : Request → A) (R : ℕ) where
     end_fact m id o buffer sized =
         let c = m.state.conn in
         let r = request_at c.table (C.slot_of c id) in
-        byTest (eqb (C.call_refusal c id) 0)
+        by_test (eqb (C.call_refusal c id) 0)
         (λ t. rw t (put_fact m (C.slot_of c id) (Of.end_in r o buffer).request sized (writes_id _ _ _ r buffer (ended_id r o)) (λ u e. writes_fact _ _ _ r buffer (ended r o))))
         (λ t. rw t)
 
@@ -134,7 +134,7 @@ module _ {A : Type 0} (f : Request → A) (R : ℕ) where
         ≡ (if goes_by R id (D.Straightly (finished_by m (C.finish m.state.conn m.store id status buffer)).answer) then none else fact_of f (request_of R m))
     finish_fact m id status buffer =
         let w = C.finish m.state.conn m.store id status buffer in
-        byTest (eqb w.refusal 0)
+        by_test (eqb w.refusal 0)
         (λ t. rw t (ap (fact_of f) (finish_request R m id status buffer (eqb-true w.refusal 0 t)) ∙ goes_fact f (or w.closed (eqb id R)) (request_of R m)))
         (λ t.
         let k = finish_refused m.state.conn m.store id status buffer (eqb-false w.refusal 0 t) in
@@ -149,10 +149,10 @@ module _ {A : Type 0} (f : Request → A) (R : ℕ) where
     unfolding queue_called straight_say straight_end straight_finish
     straight_fact m id (ForRead q) sized = refl
     straight_fact m id (ForSay o content buffer) sized =
-        byTest (eqb (refusal (straight_rows m id (ForSay o content buffer))) 0) (λ t. rw t (say_fact m.memory id o content buffer sized)) (λ t. rw t)
-    straight_fact m id (ForEnd o buffer) sized = byTest (eqb (refusal (straight_rows m id (ForEnd o buffer))) 0) (λ t. rw t (end_fact m.memory id o buffer sized)) (λ t. rw t)
+        by_test (eqb (refusal (straight_rows m id (ForSay o content buffer))) 0) (λ t. rw t (say_fact m.memory id o content buffer sized)) (λ t. rw t)
+    straight_fact m id (ForEnd o buffer) sized = by_test (eqb (refusal (straight_rows m id (ForEnd o buffer))) 0) (λ t. rw t (end_fact m.memory id o buffer sized)) (λ t. rw t)
     straight_fact m id (ForFinish status buffer) sized =
-        byTest (eqb (refusal (straight_rows m id (ForFinish status buffer))) 0) (λ t. rw t (finish_fact m.memory id status buffer)) (λ t. rw (t, t))
+        by_test (eqb (refusal (straight_rows m id (ForFinish status buffer))) 0) (λ t. rw t (finish_fact m.memory id status buffer)) (λ t. rw (t, t))
 
     -- Any call leaves the fact, or R goes; if spending R's request does not change it.
     pub call_fact : (m : QueueMemory) (id : ℕ) (a : Asking) → Sized (conn_of m).table → ((h : Held) → request_of R m.memory ≡ some h → f (spent_by h.request) ≡ f h.request) → Answers m id a
@@ -160,13 +160,13 @@ module _ {A : Type 0} (f : Request → A) (R : ℕ) where
     call_fact m id (D.Straight a) sized spent = straight_fact m id a sized
     call_fact m id (D.ToSay o content) sized spent =
         let r = T.request_of m id in
-        byTest (eqb (refusal (queued_rows m id (D.ToSay o content))) 0) (λ t. rw t (put_fact m.memory (T.slot_of m id) (Of.said_on r o content) sized (said_id r o content) (λ u e. said r o content))) (λ t. rw t)
+        by_test (eqb (refusal (queued_rows m id (D.ToSay o content))) 0) (λ t. rw t (put_fact m.memory (T.slot_of m id) (Of.said_on r o content) sized (said_id r o content) (λ u e. said r o content))) (λ t. rw t)
     call_fact m id (D.ToEnd o) sized spent =
         let r = T.request_of m id in
-        byTest (eqb (refusal (queued_rows m id (D.ToEnd o))) 0) (λ t. rw t (put_fact m.memory (T.slot_of m id) (Of.ended_on r o) sized (ended_id r o) (λ u e. ended r o))) (λ t. rw t)
+        by_test (eqb (refusal (queued_rows m id (D.ToEnd o))) 0) (λ t. rw t (put_fact m.memory (T.slot_of m id) (Of.ended_on r o) sized (ended_id r o) (λ u e. ended r o))) (λ t. rw t)
     call_fact m id (D.ToFinish status) sized spent =
         let i = T.slot_of m id in
-        byTest (eqb (refusal (queued_rows m id (D.ToFinish status))) 0)
+        by_test (eqb (refusal (queued_rows m id (D.ToFinish status))) 0)
         (λ t. rw t (put_fact (skipped m.memory i) i (spent_by (T.request_of m id)) sized (spent_list (T.request_of m id)).id (λ u e. spent (held_at (conn_of m).table m.memory.store i) (found_at m.memory i u e))
         ∙ skip_fact m.memory i))
         (λ t. rw t)

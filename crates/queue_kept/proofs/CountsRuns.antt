@@ -2,12 +2,11 @@
 --
 -- A step is the one without a queue. No call changes the counts of a request, a queued finish neither, and a turn
 -- of the pump leaves R's request as it is, or R goes (`CallsKeep`, `GoingLaws`).
-use Rattle.std.specs.Prelude.{◌≡◌, Bool, ℕ, length}
+use Rattle.std.specs.Prelude.{◌≡◌, Bool, ℕ, length, if◌then◌else◌}
 use Rattle.std.proofs.Math.Path.{refl, ap}
 use Rattle.std.proofs.Common.{sym, ◌∙◌, subst, eq-eqb}
 use mathlib.Core.List.{List, [], ◌∷◌, ◌++◌}
 use Rattle.std.proofs.Math.Option.{Option, none, some}
-use Rattle.wire.specs.Test.{if◌then◌else◌}
 use Rattle.connection.specs.declared.request.Request.{Request}
 use Rattle.connection.specs.declared.request.Shown.{Shown}
 use Rattle.connection.specs.declared.answer.Output.{Output}

@@ -1,11 +1,11 @@
 -- The counts of an active request, told by the events of all steps of a run with a queue alone: the numbers of its
 -- bytes that were shown since it was opened.
-use Rattle.std.specs.Prelude.{◌≡◌, refl, Bool, true, false, ℕ}
+use Rattle.std.specs.Prelude.{◌≡◌, refl, Bool, true, false, ℕ, if◌then◌else◌}
 use Rattle.std.proofs.Common.{ap, ap₂, sym, ◌∙◌, arith}
 use Rattle.std.proofs.Math.Path.{subst}
 use mathlib.Core.List.{List, [], ◌∷◌, ◌++◌, map, append-nil}
 use Rattle.std.proofs.Math.Option.{Option, none, some}
-use Rattle.wire.specs.Test.{if◌then◌else◌, byTest}
+use Rattle.wire.specs.Test.{by_test}
 use Rattle.record.specs.Names.{STDIN, DATA}
 use Rattle.connection.specs.declared.request.Shown.{Shown}
 use Rattle.connection.specs.Event.{Event}
@@ -71,7 +71,7 @@ module _ (R : ℕ) where
       → If (if is_closing e then none else if opens_r R e then some unshown else with_heard R (heard_of e x) c) (shown_after R d (heard_of e x))
   step_if e x c d k =
       gone_or_kept (is_closing e) _ (shown_after R d (heard_of e x))
-      (byTest (opens_r R e) (λ o. rw o (some_are unshown (shown_after R d (heard_of e x)) (sym (heard_opens R e x d o)))) (λ o. rw o (with_heard_lem c d (heard_of e x) k)))
+      (by_test (opens_r R e) (λ o. rw o (some_are unshown (shown_after R d (heard_of e x)) (sym (heard_opens R e x d o)))) (λ o. rw o (with_heard_lem c d (heard_of e x) k)))
 
   -- The counts that are told after operations are those before them, with all that is heard on the way.
   told_heard : (os : List QueueOperation) (m : QueueMemory) (c : Option Shown) (d : Shown) → If c d → If (counts_from R m c os) (shown_after R d (map Heard (notes_all m os)))

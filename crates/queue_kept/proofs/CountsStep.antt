@@ -1,11 +1,11 @@
 -- A step changes R's counts as it tells: it closes the connection, or opens R, or leaves R active or not as it was,
 -- with its counts changed by what is heard.
-use Rattle.std.specs.Prelude.{◌≡◌, refl, List, Bool, true, false, ℕ, ◌+◌, ◌<◌, length, eqb, leb}
+use Rattle.std.specs.Prelude.{◌≡◌, refl, List, Bool, true, false, ℕ, ◌+◌, ◌<◌, length, eqb, leb, if◌then◌else◌}
 use Rattle.std.proofs.Math.Path.{ap, sym, subst}
 use Rattle.std.proofs.Common.{◌∙◌, arith}
 use Rattle.std.proofs.Math.Option.{none, some}
 use borrow.Author.Tests.{eqb-true, eqb-false, eq-eqb}
-use Rattle.wire.specs.Test.{if◌then◌else◌, byTest}
+use Rattle.wire.specs.Test.{by_test}
 use Rattle.slot_word.specs.Word.{taken}
 use Rattle.slot_word.proofs.WordLaws.{least_free}
 use Rattle.machine.specs.Cause.{Cause}
@@ -66,7 +66,7 @@ content_stays : (R : ℕ) (due : Due) (bytes : List ℕ) (h : Held) → ContentS
 unfolding grown
 content_stays R Due.Skip bytes h = record { goes_on_lem = refl; unopened = refl; id = refl }
 content_stays R Due.Params bytes h =
-    byTest (leb (h.request.length + length bytes) AREA) (λ e. simp e (record { goes_on_lem = refl; unopened = refl; id = refl })) (λ e. simp e (record { goes_on_lem = refl; unopened = refl; id = refl }))
+    by_test (leb (h.request.length + length bytes) AREA) (λ e. simp e (record { goes_on_lem = refl; unopened = refl; id = refl })) (λ e. simp e (record { goes_on_lem = refl; unopened = refl; id = refl }))
 content_stays R Due.Stdin bytes h = record { goes_on_lem = refl; unopened = refl; id = refl }
 content_stays R Due.Data bytes h = record { goes_on_lem = refl; unopened = refl; id = refl }
 
@@ -89,7 +89,7 @@ module _ (t : Table) (id : ℕ) (role : Role) (keep : Bool) (sized : Sized t) (l
     held_before : (j : ℕ) → Holds after R j → Holds t R j
     unfolding request_at opened
     held_before j h =
-        byTest (eqb j (free_slot_of t))
+        by_test (eqb j (free_slot_of t))
         (λ e.
         let q : j ≡ free_slot_of t = eqb-true j (free_slot_of t) e in
         absurd (other (ap (λ (x : Request). x.id) (sym (request_of_take t (free_slot_of t) (opened id role keep) sized low)) ∙ subst (λ n. (request_at after n).id ≡ R) q h.has_id)))
@@ -145,7 +145,7 @@ whereabouts R st store piece sized =
         let s = content_stays R due bytes (held_at t store j) in
         Stays (on_content due bytes (held_at t store j)).event (sym fits.is_open) (find_put t j (on_content due bytes (held_at t store j)).held.request R s.id) s.goes_on_lem s.unopened
     go fits used _ (Way.Takes id role keep f k low idle) =
-        byTest (eqb id R)
+        by_test (eqb id R)
         (λ e.
         let w = opened_found t id role keep sized low (find (after t id role keep sized low) id) refl in
         let q : id ≡ R = eqb-true id R e in
@@ -162,7 +162,7 @@ counts_at R m i o f = rw (o, f)
 -- and none, where it is not
 counts_nowhere : (R : ℕ) (m : Memory) → find m.state.conn.table R ≡ Slot.Nowhere → counts_of_r R m ≡ none
 unfolding request_of
-counts_nowhere R m f = byTest m.state.conn.«open» (λ o. rw (o, f)) (λ o. rw o)
+counts_nowhere R m f = by_test m.state.conn.«open» (λ o. rw (o, f)) (λ o. rw o)
 
 -- a closed connection has none
 counts_closed : (R : ℕ) (m : Memory) → m.state.conn.«open» ≡ false → counts_of_r R m ≡ none

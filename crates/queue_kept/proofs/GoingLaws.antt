@@ -1,6 +1,6 @@
 -- R's request stays through a finish of another and through a turn of the pump, with its whole area, or it goes; and
 -- which of the two is told.
-use Rattle.std.specs.Prelude.{◌≡◌, ◌⊎◌, Bool, not, length, get_or, eqb}
+use Rattle.std.specs.Prelude.{◌≡◌, ◌⊎◌, Bool, not, length, get_or, eqb, if◌then◌else◌}
 use Rattle.std.proofs.Math.Path.{refl, ap}
 use Rattle.std.proofs.Common.{ap₂, sym, ◌∙◌, subst, inl, inr, arith}
 use mathlib.Core.List.{List, [], ◌∷◌, ◌++◌, flatten, append-nil}
@@ -9,7 +9,7 @@ use Rattle.std.proofs.Math.Bool.{true, false}
 use Prim.Native.Nat.{ℕ, zero, suc, ◌<◌}
 use Rattle.std.proofs.lemmas.List.{length-replicate}
 use borrow.Author.Tests.{eqb-true, eqb-false}
-use Rattle.wire.specs.Test.{if◌then◌else◌, byTest}
+use Rattle.wire.specs.Test.{by_test}
 use Rattle.wire.specs.Buffer.{zeros}
 use Rattle.record.specs.Names.{END_REQUEST, REQUEST_COMPLETE}
 use Rattle.record.specs.Body.{end_body_bytes}
@@ -24,7 +24,7 @@ use Rattle.connection.specs.declared.state.Conn.{Conn}
 use Rattle.connection.specs.Sizes.{SLOTS, AREA}
 use Rattle.connection.specs.Codes.{output_type}
 use Rattle.connection.specs.Request.{Held}
-use Rattle.connection.specs.Slots.{request_at, area_at, held_at, put_area, free_slot, find, onSlot}
+use Rattle.connection.specs.Slots.{request_at, area_at, held_at, put_area, free_slot, find, on_slot}
 use Rattle.connection.specs.Calls as C
 use Rattle.connection.specs.Run.{Memory, request_of, finished_by}
 use Rattle.connection.proofs.Laws.SlotsLaws.{Holds, Distinct, find_at, find_nowhere, nowhere_find, only_slot, other_of_free, taken_of_free_other, area_length, area_of_other}
@@ -83,7 +83,7 @@ module _ (R : ℕ) (m : Memory) (id i : ℕ) (fits : Fits m.state.conn m.store) 
   pub freed_request : request_of R (without_request m i) ≡ (if eqb id R then none else request_of R m)
   unfolding request_of C.released
   freed_request =
-      byTest (eqb id R)
+      by_test (eqb id R)
       (λ e. rw (e, fits.is_open, own_nowhere (eqb-true id R e)))
       (λ e. let n = eqb-false id R e in rw (e, fits.is_open, other_found n) (go n (find t R) refl))
     where
@@ -94,7 +94,7 @@ module _ (R : ℕ) (m : Memory) (id i : ℕ) (fits : Fits m.state.conn m.store) 
       size = length-replicate (length (area_at m.store i)) 0 ∙ area_length m.store i fits.size (find_at t id i found).low
 
       go : (id ≡ R → ⊥) → (s : Slot) → find t R ≡ s
-          → onSlot s (λ j. some (held_at (free_slot t i) (put_area m.store i x) j)) none ≡ onSlot s (λ j. some (held_at t m.store j)) none
+          → on_slot s (λ j. some (held_at (free_slot t i) (put_area m.store i x) j)) none ≡ on_slot s (λ j. some (held_at t m.store j)) none
       go n Slot.Nowhere e = refl
       go n (Slot.At j) e =
           let d = elsewhere n j e in
@@ -143,7 +143,7 @@ module _ (R : ℕ) where
   unfolding end_waits
   none_after m n same =
       let f = ap end_waits (records_none R) in
-      byTest (conn_of n).«open» (λ o. after_as m [] n true false o f (ap (request_of R) same)) (λ o. after_as m [] n false false o f (closed_request n.memory o))
+      by_test (conn_of n).«open» (λ o. after_as m [] n true false o f (ap (request_of R) same)) (λ o. after_as m [] n false false o f (closed_request n.memory o))
 
   module _ (m : QueueMemory) (fine : Fine m) (o : (conn_of m).«open» ≡ true) (id i : ℕ) (f : find (conn_of m).table id ≡ Slot.At i) where
     -- the request that is served
@@ -235,7 +235,7 @@ pub turn_request : (R : ℕ) (m : QueueMemory) (allowance : ℕ) (buffer : List 
     → request_of R (pump m allowance buffer).left.memory ≡ (if goes_in R (pump m allowance buffer) then none else request_of R m.memory)
 unfolding bytes_in end_waits
 turn_request R m allowance buffer fine =
-    byTest (eqb (pump_refusal m allowance buffer) 0)
+    by_test (eqb (pump_refusal m allowance buffer) 0)
     (λ e.
     let d = pump_done m allowance buffer e in
     let t = turned allowance m in

@@ -4,10 +4,10 @@
 -- And while END of a request waits, that request is spent. Headers, content and straight calls do to a request what
 -- they do without a queue; a queued say or end changes nothing of it but its output; a queued finish spends it; and a
 -- serve changes nothing of it, or takes it away.
-use Rattle.std.specs.Prelude.{◌≡◌, refl, List, [], ◌∷◌, ◌++◌, map, Bool, true, false, ℕ, suc, ◌+◌, ◌≤◌, ◌<◌, length, eqb, ltb}
+use Rattle.std.specs.Prelude.{◌≡◌, refl, List, [], ◌∷◌, ◌++◌, map, Bool, true, false, ℕ, suc, ◌+◌, ◌≤◌, ◌<◌, length, eqb, ltb, if◌then◌else◌}
 use Rattle.std.proofs.Common.{ap, sym, ◌∙◌, arith}
 use Rattle.std.proofs.Math.Option.{Option, none, some}
-use Rattle.wire.specs.Test.{if◌then◌else◌, byTest}
+use Rattle.wire.specs.Test.{by_test}
 use Rattle.record.specs.Names.{END_REQUEST}
 use Rattle.record_writer.specs.Written.{record_bytes}
 use Rattle.machine.specs.Machine.{Decided, BeginOutcome, Declined, Accepted, CallOutcome, Stays, Retires, Leaves, Closes}
@@ -104,8 +104,8 @@ writer_kept : (a : Argument) (r : Queued) → Kept r → Ok r (straight_writer a
 unfolding straight_writer
 writer_kept a r ok =
     let x = receive_call a r.held in
-    byTest (end_waits r.waiting) (λ e. rw e (ok, λ due c u. u))
-    (λ e. byTest (held_up x r.waiting) (λ d. rw (e, d) (ok, λ due c u. u)) (λ d. rw (e, d) (lifted_kept r.held r.waiting x (call_list a r.held ok.list) e)))
+    by_test (end_waits r.waiting) (λ e. rw e (ok, λ due c u. u))
+    (λ e. by_test (held_up x r.waiting) (λ d. rw (e, d) (ok, λ due c u. u)) (λ d. rw (e, d) (lifted_kept r.held r.waiting x (call_list a r.held ok.list) e)))
 
 -- every straight call
 straight_kept : (a : Argument) (r : Queued) → Kept r → Ok r (straight_call a r)
@@ -119,7 +119,7 @@ straight_kept (ForFinish status buffer) r ok = writer_kept (ForFinish status buf
 -- a queued call that is let through is of a request whose END does not wait
 not_leaving : (r : Queued) (o : Output) → eqb (queue_refusal r o) 0 ≡ true → end_waits r.waiting ≡ false
 unfolding queue_refusal
-not_leaving r o e = byTest (end_waits r.waiting) (λ w. let z : ◌≡◌ {A = ℕ} 0 1 = cc (simp w at e) in absurd (omega arith)) (λ w. w)
+not_leaving r o e = by_test (end_waits r.waiting) (λ w. let z : ◌≡◌ {A = ℕ} 0 1 = cc (simp w at e) in absurd (omega arith)) (λ w. w)
 
 -- content goes on coming to a request with the turn and the life of another
 takes_same : (h q : Held) → q.request.state.turn ≡ h.request.state.turn → q.request.state.life ≡ h.request.state.life
@@ -133,8 +133,8 @@ takes_same h q t l Due.Data n r = ap is_spent l ∙ r
 say_kept : (r : Queued) (o : Output) (content : List ℕ) → Kept r → Ok r (queue_say r o content)
 unfolding queue_say Of.said_on
 say_kept r o content ok =
-    byTest (eqb (queue_refusal r o) 0)
-    (λ e. byTest (ltb ROOM (data_in r.waiting + length content)) (λ d. rw (e, d) (ok, λ due c u. u))
+    by_test (eqb (queue_refusal r o) 0)
+    (λ e. by_test (ltb ROOM (data_in r.waiting + length content)) (λ d. rw (e, d) (ok, λ due c u. u))
     (λ d.
     let x = map (ByteOn o) content in
     let none : end_waits (r.waiting ++ x) ≡ false = waits_append r.waiting x (not_leaving r o e) ∙ (bytes_wait o content).0 in
@@ -146,7 +146,7 @@ say_kept r o content ok =
 end_kept : (r : Queued) (o : Output) → Kept r → Ok r (queue_end r o)
 unfolding queue_end Of.ended_on end_waits
 end_kept r o ok =
-    byTest (eqb (queue_refusal r o) 0)
+    by_test (eqb (queue_refusal r o) 0)
     (λ e.
     let none : end_waits (r.waiting ++ EndOf o ∷ []) ≡ false = waits_append r.waiting (EndOf o ∷ []) (not_leaving r o e) in
     let q = with_request r.held (Of.ended_on r.held.request o) in
@@ -170,7 +170,7 @@ spent_kept h l ok =
 finish_kept : (r : Queued) (status : ℕ) → Kept r → Ok r (queue_finish r status)
 unfolding queue_finish
 finish_kept r status ok =
-    byTest (end_waits r.waiting) (λ e. rw e (ok, λ due c u. u))
+    by_test (end_waits r.waiting) (λ e. rw e (ok, λ due c u. u))
     (λ e. rw e (spent_kept r.held (r.waiting ++ last_words r.held.request.state status) ok.list))
 
 -- ---- a serve

@@ -5,11 +5,11 @@
 use Rattle.std.specs.Prelude.{◌≡◌, refl, [], true, ℕ}
 use Rattle.std.proofs.Common.{ap, ◌∙◌, arith}
 use Rattle.std.proofs.Math.Option.{Option, none, some}
-use Rattle.wire.specs.Test.{byTest}
+use Rattle.wire.specs.Test.{by_test}
 use Rattle.connection.specs.declared.state.Slot.{Slot}
 use Rattle.connection.specs.declared.state.Conn.{Conn}
 use Rattle.connection.specs.Request.{Held}
-use Rattle.connection.specs.Slots.{held_at, find, onSlot}
+use Rattle.connection.specs.Slots.{held_at, find, on_slot}
 use Rattle.connection.specs.Run.{Memory, request_of}
 use Rattle.connection.proofs.Runs.Freed.{empty_nowhere}
 use Rattle.queue.specs.Calls.{QueueMemory, conn_of}
@@ -36,19 +36,19 @@ open_unfound : (R : ℕ) (m : Memory) → m.state.conn.«open» ≡ true → req
 unfolding request_of
 open_unfound R m o e = go (find m.state.conn.table R) (rw o at e)
   where
-    go : (s : Slot) → onSlot s (λ i. some (held_at m.state.conn.table m.store i)) none ≡ none → s ≡ Slot.Nowhere
+    go : (s : Slot) → on_slot s (λ i. some (held_at m.state.conn.table m.store i)) none ≡ none → s ≡ Slot.Nowhere
     go Slot.Nowhere e = refl
     go (Slot.At i) e = let z : ◌≡◌ {A = ℕ} 0 1 = cc in absurd (omega arith)
 
 -- of whom nothing is found, nothing waits
 unfound_waits : (R : ℕ) (m : QueueMemory) → find (conn_of m).table R ≡ Slot.Nowhere → waits_of R m ≡ []
 unfolding waits_of
-unfound_waits R m f = byTest (conn_of m).«open» (λ o. rw (o, f)) (λ o. rw o)
+unfound_waits R m f = by_test (conn_of m).«open» (λ o. rw (o, f)) (λ o. rw o)
 
 -- In a memory whose closed connection keeps nothing, who is not active is nowhere.
 nowhere : (R : ℕ) (m : QueueMemory) → KeepsNothing m → request_of R m.memory ≡ none → Nowhere R m
 nowhere R m k e =
-    let f = byTest (conn_of m).«open» (λ o. open_unfound R m.memory o e) (λ o. ap (λ (c : Conn). find c.table R) (k.connection o) ∙ empty_nowhere R) in
+    let f = by_test (conn_of m).«open» (λ o. open_unfound R m.memory o e) (λ o. ap (λ (c : Conn). find c.table R) (k.connection o) ∙ empty_nowhere R) in
     record { unfound = f; inactive = e; nothing_waits = unfound_waits R m f }
 
 -- After any run: an operation that tells that R goes leaves R nowhere.

@@ -5,7 +5,7 @@
 use Rattle.std.specs.Prelude.{◌≡◌, true, ℕ, eqb}
 use Rattle.std.proofs.Common.{ap, sym, ◌∙◌, subst, eqb-true}
 use mathlib.Core.List.{List, [], ◌∷◌, Memᴰ}
-use Rattle.wire.specs.Test.{byTest}
+use Rattle.wire.specs.Test.{by_test}
 use Rattle.wire.proofs.Bytes.{take_bytes}
 use Rattle.pairs.specs.Pair.{name_of, value_of}
 use Rattle.pairs.specs.declared.pair.Pair.{Pair}
@@ -130,14 +130,14 @@ unfolding queue_source queue_value C.source Of.source_in C.value Of.value_in
 value_one_match r id name q given there named =
     let m = ending r in
     let h = asked_in r id in
-    byTest (eqb (lent_refusal m id) 0)
+    by_test (eqb (lent_refusal m id) 0)
     (λ s.
-    byTest (eqb (C.lent_refusal (conn_of m) m.memory.store id) 0)
+    by_test (eqb (C.lent_refusal (conn_of m) m.memory.store id) 0)
     (λ t.
-    byTest (in_params h.request.state.turn)
+    by_test (in_params h.request.state.turn)
     (λ p. absurd (given 4 (simp (s, t, p))))
     (λ p.
-    byTest (no_list h.request)
+    by_test (no_list h.request)
     (λ n. absurd (given 4 (simp (s, t, n))))
     (λ n.
     let one = named_once (list_of h) name q (at_slot r id (eqb-true (C.lent_refusal (conn_of m) m.memory.store id) 0 t) p (simp p at n)).once there named in

@@ -8,7 +8,7 @@ use Rattle.std.specs.Prelude.{◌≡◌, refl, List, [], ◌∷◌, ◌++◌, Bo
 use Rattle.std.proofs.Math.Path.{ap}
 use Rattle.std.proofs.Common.{sym, ◌∙◌, subst, inl, inr, arith, length-append, length-take-le, eq-eqb}
 use Rattle.std.proofs.lemmas.Bool.{eqb-false}
-use Rattle.wire.specs.Test.{byTest}
+use Rattle.wire.specs.Test.{by_test}
 use Rattle.record_reader.specs.declared.Position.{Position}
 use Rattle.machine.specs.Timeline.{Item, byte_items, item_bytes}
 use Rattle.machine.proofs.TimelineLaws.{bytes_of_items}
@@ -82,7 +82,7 @@ skips_on n m o q k = change_skips n m (queue_after m o) o q k (change m o)
 pub queue_silent : (n : ℕ) (m : QueueMemory) (piece : List ℕ) → Skips n m.memory → (queue_step m piece).used ≤ n → Silent n m.memory.state m.memory.store (queue_step m piece)
 unfolding queue_step
 queue_silent n m piece k u =
-    byTest (eqb (queue_step_refusal m) 0)
+    by_test (eqb (queue_step_refusal m) 0)
     (λ t. rw t (silent_step n m.memory.state m.memory.store piece k (rw t at u)))
     (λ t. rw t (record { event = refl; table = refl; store_same = refl; skips = fewer k }))
   where
@@ -93,7 +93,7 @@ queue_silent n m piece k u =
 -- it uses no more than there is
 uses_no_more : (m : QueueMemory) (piece : List ℕ) → (queue_step m piece).used ≤ length piece
 unfolding queue_step
-uses_no_more m piece = byTest (eqb (queue_step_refusal m) 0) (λ t. rw t (step_uses_no_more m.memory.state m.memory.store piece)) (λ t. rw t (omega arith))
+uses_no_more m piece = by_test (eqb (queue_step_refusal m) 0) (λ t. rw t (step_uses_no_more m.memory.state m.memory.store piece)) (λ t. rw t (omega arith))
 
 used_and_rest : (m : QueueMemory) (piece : List ℕ) (rest : List (Item Asking)) → length (item_bytes (byte_items (used_of m piece) ++ rest)) ≡ (queue_step m piece).used + length (item_bytes rest)
 used_and_rest m piece rest =
@@ -183,7 +183,7 @@ module _ (m : QueueMemory) (R status : ℕ) (due : Due) (aimed : (conn_of m).fra
     straight_is : straight_finish m R status buffer ≡ C.finish (conn_of m) m.memory.store R status buffer
     unfolding straight_finish
     straight_is =
-        byTest (eqb (refusal (straight_rows m R (ForFinish status buffer))) 0) (λ t. rw t)
+        by_test (eqb (refusal (straight_rows m R (ForFinish status buffer))) 0) (λ t. rw t)
         (λ t. let n = rw t at done in absurd (eqb-false (refusal (straight_rows m R (ForFinish status buffer))) 0 t n))
 
     -- and leaves what that one leaves

@@ -5,7 +5,7 @@
 use Rattle.std.specs.Prelude.{◌≡◌, refl, List, [], ◌∷◌, ◌++◌, true, false, ℕ, zero, suc, ◌<◌, take, eqb}
 use Rattle.std.proofs.Common.{ap, ap₂, sym, ◌∙◌, subst, arith, eq-eqb, eqb-true, ne_eqb}
 use Rattle.std.proofs.Math.Option.{some}
-use Rattle.wire.specs.Test.{byTest}
+use Rattle.wire.specs.Test.{by_test}
 use Rattle.machine.specs.Slots.{HeldBy, slot_at}
 use Rattle.machine.specs.Machine.{Slots}
 use Rattle.machine.specs.Shape.{ReadingOk, WellShaped}
@@ -60,7 +60,7 @@ spent_now r = (spent_life_lem r.state.life).0
 finish_through : (m : QueueMemory) (id status : ℕ) → (queue_called m id (D.ToFinish status)).answer ≡ D.Queued 0 → refusal (queued_rows m id (D.ToFinish status)) ≡ 0
 unfolding queue_called T.queue_finish
 finish_through m id status e =
-    byTest (eqb (refusal (queued_rows m id (D.ToFinish status))) 0)
+    by_test (eqb (refusal (queued_rows m id (D.ToFinish status))) 0)
     (λ t. eqb-true (refusal (queued_rows m id (D.ToFinish status))) 0 t) (λ t. let n = rw t at e in cc)
 
 -- A queued finish that is not refused: its request is active, and this is left.
@@ -135,7 +135,7 @@ spent_silent R r h piece some_id e spent = silent_step R (ending r) h piece (run
 notes_append : (R : ℕ) (x y : List Note) → notes_of R (x ++ y) ≡ notes_of R x ++ notes_of R y
 unfolding notes_of
 notes_append R [] y = refl
-notes_append R (n ∷ x) y = byTest (eqb (note_id n) R) (λ e. rw e (ap (λ l. ShownNote n ∷ l) (notes_append R x y))) (λ e. rw e (notes_append R x y))
+notes_append R (n ∷ x) y = by_test (eqb (note_id n) R) (λ e. rw e (ap (λ l. ShownNote n ∷ l) (notes_append R x y))) (λ e. rw e (notes_append R x y))
 
 -- bytes of another request, and what an event tells of another
 shown_silent : (R id stream : ℕ) (x : List ℕ) → (id ≡ R → ⊥) → notes_of R (showing id stream x) ≡ []

@@ -7,7 +7,7 @@ use Rattle.std.proofs.Math.Path.{◌≡◌, refl}
 use Rattle.std.proofs.Common.{ap, sym, ◌∙◌, arith}
 use Rattle.std.specs.Prelude.{List, [], ◌∷◌, true, false, ℕ}
 use Rattle.std.proofs.Math.Option.{Option, none, some}
-use Rattle.wire.specs.Test.{byTest}
+use Rattle.wire.specs.Test.{by_test}
 use Rattle.connection.specs.declared.request.Life.{Life}
 use Rattle.connection.specs.declared.request.Request.{Request}
 use Rattle.connection.specs.declared.answer.Output.{Output}
@@ -75,7 +75,7 @@ module _ (R : ℕ) (h : Held) (spent : is_spent h.request.state.life ≡ true) w
   -- a step that does not close the connection leaves it open
   step_open : (m : Memory) (piece : List ℕ) → m.state.conn.«open» ≡ true → is_closing (step_of m piece).event ≡ false → (step_of m piece).state.conn.«open» ≡ true
   step_open m piece o e =
-      byTest (step_of m piece).state.conn.«open» (λ t. t)
+      by_test (step_of m piece).state.conn.«open» (λ t. t)
       (λ t. let k = closes_by_cause m.state m.store piece o t in both_ways (is_closing (step_of m piece).event) (ap is_closing k.2) e)
 
   -- a step that does not close the connection leaves R spent

@@ -3,8 +3,8 @@
 -- R goes with END, or with the connection: a straight finish of R that is not refused, END of R among the records
 -- that a turn of the pump wrote, and a close, whether a step, a straight finish or a turn tells it. A queued finish
 -- of R alone does not tell it: R is active until its END is written.
-use Rattle.std.specs.Prelude.{Bool, false, ℕ}
-use Rattle.wire.specs.Test.{if◌then◌else◌, ◌=?◌}
+use Rattle.std.specs.Prelude.{Bool, false, ℕ, if◌then◌else◌}
+use Rattle.wire.specs.Test.{◌=?◌}
 use Rattle.connection.specs.Arguments.{RepliedWith, Wrote, FinishedWith}
 use Rattle.connection.proofs.Laws.Closing.{is_closing}
 use Rattle.queue_slot.specs.Atoms.{end_waits}

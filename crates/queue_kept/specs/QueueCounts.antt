@@ -5,9 +5,9 @@
 -- stays at; a fault of R sets them to 0, as without a queue (`Counts.count_after`). They are gone with what tells
 -- that R goes (`Going`): END of R, by a straight finish or by the pump, or a close. A queued finish of R changes
 -- nothing of them: they stay until END.
-use Rattle.std.specs.Prelude.{◌≡◌, List, [], ◌∷◌, ◌++◌, map, Bool, false, ℕ}
+use Rattle.std.specs.Prelude.{◌≡◌, List, [], ◌∷◌, ◌++◌, map, Bool, false, ℕ, if◌then◌else◌}
 use Rattle.std.proofs.Math.Option.{Option, none, some}
-use Rattle.wire.specs.Test.{if◌then◌else◌, ◌=?◌}
+use Rattle.wire.specs.Test.{◌=?◌}
 use Rattle.record.specs.Names.{STDIN, DATA}
 use Rattle.connection.specs.declared.request.Shown.{Shown}
 use Rattle.connection.specs.Event.{Event}

@@ -2,13 +2,13 @@
 use Rattle.std.specs.Prelude.{◌≡◌, refl, List, [], ◌∷◌, Bool, true, false, not, ℕ, eqb}
 use Rattle.std.proofs.Common.{arith}
 use Rattle.std.proofs.Math.ListN.{length}
-use Rattle.wire.specs.Test.{byTest, ◌<?◌, ◌=?◌}
+use Rattle.wire.specs.Test.{by_test, ◌<?◌, ◌=?◌}
 use Rattle.connection.specs.declared.state.Slot.{Slot}
 use Rattle.connection.specs.declared.answer.Output.{Output}
 use Rattle.connection.specs.Sizes.{SLOTS, STORE}
 use Rattle.connection.specs.Refusal.{◌when◌, refusal}
 use Rattle.connection.specs.RequestCalls as Of
-use Rattle.connection.specs.Slots.{find, onSlot, is_found}
+use Rattle.connection.specs.Slots.{find, on_slot, is_found}
 use Rattle.connection.specs.Arguments.{ForRead, ForSay, ForEnd, ForFinish}
 use Rattle.queue_slot.specs.Wait.{anything}
 use Rattle.queue.specs.Numbers.{last_at}
@@ -31,9 +31,9 @@ buffer_lent (D.ToFinish status) = []
 -- the number of the slot says so
 leaving_slot : (m : QueueMemory) (id : ℕ) → leaving_of id m ≡ true → is_leaving m id ≡ true
 unfolding leaving_of
-leaving_slot m id e = byTest (conn_of m).«open» (λ o. go (find (conn_of m).table id) (rw o at e)) (λ o. let z : ◌≡◌ {A = ℕ} 0 1 = cc (rw o at e) in absurd (omega arith))
+leaving_slot m id e = by_test (conn_of m).«open» (λ o. go (find (conn_of m).table id) (rw o at e)) (λ o. let z : ◌≡◌ {A = ℕ} 0 1 = cc (rw o at e) in absurd (omega arith))
   where
-    go : (s : Slot) → onSlot s (λ i. last_at m.waits i) false ≡ true → last_at m.waits (onSlot s (λ i. i) SLOTS) ≡ true
+    go : (s : Slot) → on_slot s (λ i. last_at m.waits i) false ≡ true → last_at m.waits (on_slot s (λ i. i) SLOTS) ≡ true
     go (Slot.At i) d = d
     go Slot.Nowhere d = let z : ◌≡◌ {A = ℕ} 0 1 = cc in absurd (omega arith)
 

@@ -1,9 +1,9 @@
 -- Queued finish on the whole state is the machine's; calls that are refused by 1 and 3; every call.
-use Rattle.std.specs.Prelude.{◌≡◌, List, [], ◌∷◌, ◌++◌, true, false, not, ℕ, suc, ◌<◌, length, set, take, eqb, ltb}
+use Rattle.std.specs.Prelude.{◌≡◌, List, [], ◌∷◌, ◌++◌, true, false, not, ℕ, suc, ◌<◌, length, set, take, eqb, ltb, if◌then◌else◌}
 use Rattle.std.proofs.Math.Path.{refl, ap, ap₂, sym, subst}
 use Rattle.std.proofs.Common.{◌∙◌, arith, eq-eqb, ne_eqb}
 use Rattle.std.proofs.Math.Option.{none, some}
-use Rattle.wire.specs.Test.{if◌then◌else◌, byTest}
+use Rattle.wire.specs.Test.{by_test}
 use Rattle.machine.specs.Timeline.{RequestCall, CallItem}
 use Rattle.connection.specs.declared.request.Request.{Request}
 use Rattle.connection.specs.declared.state.Table.{Table}
@@ -59,9 +59,9 @@ aimed_skip : (t : Table) (i : ℕ) (target : Aim) (gathered left : ℕ) → Aime
 aimed_skip t i Aim.Skip gathered left a = tt
 aimed_skip t i (Aim.Begin id) gathered left a = a
 aimed_skip t i Aim.Query gathered left a = a
-aimed_skip t i (Aim.Params j) gathered left a = byTest (eqb j i) (λ e. simp e tt) (λ e. simp e a)
-aimed_skip t i (Aim.Stdin j) gathered left a = byTest (eqb j i) (λ e. simp e tt) (λ e. simp e a)
-aimed_skip t i (Aim.Data j) gathered left a = byTest (eqb j i) (λ e. simp e tt) (λ e. simp e a)
+aimed_skip t i (Aim.Params j) gathered left a = by_test (eqb j i) (λ e. simp e tt) (λ e. simp e a)
+aimed_skip t i (Aim.Stdin j) gathered left a = by_test (eqb j i) (λ e. simp e tt) (λ e. simp e a)
+aimed_skip t i (Aim.Data j) gathered left a = by_test (eqb j i) (λ e. simp e tt) (λ e. simp e a)
 
 -- with the rest of a half-read record of slot i skipped
 abbrev pub skipped : Memory → ℕ → Memory
@@ -198,7 +198,7 @@ module _ (m : QueueMemory) (g : Good m) (is_open : (conn_of m).«open» ≡ true
   -- Queued finish.
   pub queue_finish_is : (status : ℕ) → WellShaped queueing_receiver ends_laws (loaded_queue m) → CallIs m id (D.ToFinish status)
   unfolding queued_call
-  queue_finish_is status w = byTest (end_waits (waiting_of m i)) (λ e. stays_is m g is_open id i found (D.ToFinish status) (D.Queued 5) (finish_refused status e) (leaving_five status e)) (λ e. finish_is status w e)
+  queue_finish_is status w = by_test (end_waits (waiting_of m i)) (λ e. stays_is m g is_open id i found (D.ToFinish status) (D.Queued 5) (finish_refused status e) (leaving_five status e)) (λ e. finish_is status w e)
 
 -- ---- refused
 -- the answer of a call that is refused by n
@@ -306,7 +306,7 @@ found_is m id i (D.ToFinish status) g w o f = queue_finish_is m g o id i f statu
 
 -- Every call on the whole state of a run is the machine's.
 pub call_is : (m : QueueMemory) (id : ℕ) (a : Asking) → Good m → WellShaped queueing_receiver ends_laws (loaded_queue m) → CallIs m id a
-call_is m id a g w = byTest (conn_of m).«open» (λ o. go o (find (conn_of m).table id) refl) (λ o. closed_is m id a g o)
+call_is m id a g w = by_test (conn_of m).«open» (λ o. go o (find (conn_of m).table id) refl) (λ o. closed_is m id a g o)
   where
     go : (conn_of m).«open» ≡ true → (s : Slot) → find (conn_of m).table id ≡ s → CallIs m id a
     go o (Slot.At i) f = found_is m id i a g w o f

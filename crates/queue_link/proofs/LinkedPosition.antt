@@ -1,10 +1,10 @@
 -- Where a run with a queue stands, by the records that its used bytes make.
-use Rattle.std.specs.Prelude.{◌≡◌, List, [], ◌∷◌, Bool, ℕ, zero, suc, length, take, get_or, eqb}
+use Rattle.std.specs.Prelude.{◌≡◌, List, [], ◌∷◌, Bool, ℕ, zero, suc, length, take, get_or, eqb, if◌then◌else◌}
 use Rattle.std.proofs.Math.Path.{refl}
 use Rattle.std.proofs.Common.{ap, sym, ◌∙◌, subst, arith}
 use Rattle.std.proofs.Math.Option.{Option, none, some}
 use Rattle.std.proofs.Math.Bool.{true, false}
-use Rattle.wire.specs.Test.{if◌then◌else◌, byTest}
+use Rattle.wire.specs.Test.{by_test}
 use Rattle.record_reader.specs.Position.{after}
 use Rattle.record_reader.proofs.PositionLaws.{after_append}
 use Rattle.record_reader.proofs.PositionSplit.{unfinished}
@@ -215,7 +215,7 @@ turn_stands q (suc k) m h = go (next_waiting SLOTS SLOTS (slot_waits m) (first_s
 turn_left_lem : (q : Position) (m : QueueMemory) (allowance : ℕ) (buffer : List ℕ) → Stands q m → Stands q (queue_after m (TurnWith allowance buffer))
 unfolding queue_after
 turn_left_lem q m allowance buffer h =
-    byTest (eqb (pump_refusal m allowance buffer) 0) (λ e. subst (λ (x : T.Pumped). Stands q x.left) (sym (pump_done m allowance buffer e)) (turn_stands q allowance m h))
+    by_test (eqb (pump_refusal m allowance buffer) 0) (λ e. subst (λ (x : T.Pumped). Stands q x.left) (sym (pump_done m allowance buffer e)) (turn_stands q allowance m h))
     (λ e. subst (λ (x : T.Pumped). Stands q x.left) (sym (pump_refused_lem m allowance buffer e)) h)
 
 -- ---- runs
@@ -250,12 +250,12 @@ run_place (D.StepOver piece ∷ os) m q k ok h =
     let o = D.StepOver piece in
     let n = queue_after m o in
     let here : Stands (after q (used_of m piece)) n =
-    λ e. byTest (conn_of m).«open» (λ c. step_stands m piece k c e ∙ ap (λ r. after r (used_of m piece)) (h c)) (λ c. absurd (still_closed m o k ok.0 c e)) in
+    λ e. by_test (conn_of m).«open» (λ c. step_stands m piece k c e ∙ ap (λ r. after r (used_of m piece)) (h c)) (λ c. absurd (still_closed m o k ok.0 c e)) in
     let r = run_place os n (after q (used_of m piece)) (op_fine m o k ok.0) ok.1 here in
     λ e. r e ∙ sym (after_append q (used_of m piece) (item_bytes (queue_timeline n os))) ∙ ap (after q) (sym (bytes_of_items (used_of m piece) (queue_timeline n os)))
 run_place (CallFor id a ∷ os) m q k ok h =
     let o = CallFor id a in
-    let here : Stands q (queue_after m o) = λ e. byTest (conn_of m).«open» (λ c. call_here m id a e ∙ h c) (λ c. absurd (still_closed m o k tt c e)) in
+    let here : Stands q (queue_after m o) = λ e. by_test (conn_of m).«open» (λ c. call_here m id a e ∙ h c) (λ c. absurd (still_closed m o k tt c e)) in
     run_place os (queue_after m o) q (op_fine m o k tt) ok here
 run_place (CountActive ∷ os) m q k ok h = run_place os (queue_after m CountActive) q (op_fine m CountActive k tt) ok (count_here m q h)
 run_place (TurnWith allowance buffer ∷ os) m q k ok h =

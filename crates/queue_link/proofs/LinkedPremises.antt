@@ -4,7 +4,7 @@ use Rattle.std.proofs.Common.{ap, sym, ◌∙◌, subst, inl, inr, arith, eqb-tr
 use mathlib.Core.List.Memᴰ
 use mathlib.Core.List.{List, [], ◌∷◌, ◌++◌, map, Memᴰ}
 use Rattle.std.proofs.Math.Option.{Option}
-use Rattle.wire.specs.Test.{byTest}
+use Rattle.wire.specs.Test.{by_test}
 use Rattle.record.specs.Names.{OVERLOADED}
 use Rattle.machine.specs.Timeline.{RequestCall, CountCall, CallItem, byte_items}
 use Rattle.machine.specs.Machine.{Connection, Open, Closed, Observation, RequestEvent, NoticeEvent, CloseEvent, CountAnswer, CallAnswer, on_item, observations, as_list, concerns, observed}
@@ -152,12 +152,12 @@ unheld_both R x y a b = subst (λ l. NoneHeldUp queueing_receiver waiting_queue 
 
 unheld_one : (R id : ℕ) (a : Asked) (n : QueueAnswer) (v w : Option Queued) → (id ≡ R → Q.is_ten n ≡ false) → Unheld R (CallAnswer id a n v w ∷ [])
 unfolding observed concerns
-unheld_one R id a n v w h = byTest (eqb id R) (λ e. rw e (h (eqb-true id R e), tt)) (λ e. rw e tt)
+unheld_one R id a n v w h = by_test (eqb id R) (λ e. rw e (h (eqb-true id R e), tt)) (λ e. rw e tt)
 
 unheld_bytes : (R : ℕ) (f : Waiting) (os : List (Observation receiver)) → Unheld R (lift_seen f os)
 unfolding lift_seen observed concerns as_list
 unheld_bytes R f [] = tt
-unheld_bytes R f (RequestEvent id e ∷ os) = byTest (eqb id R) (λ d. rw d (unheld_bytes R f os)) (λ d. rw d (unheld_bytes R f os))
+unheld_bytes R f (RequestEvent id e ∷ os) = by_test (eqb id R) (λ d. rw d (unheld_bytes R f os)) (λ d. rw d (unheld_bytes R f os))
 unheld_bytes R f (NoticeEvent w ∷ os) = unheld_bytes R f os
 unheld_bytes R f (CloseEvent n ∷ os) = unheld_bytes R f os
 unheld_bytes R f (CountAnswer n ∷ os) = unheld_bytes R f os

@@ -1,12 +1,12 @@
 -- Queued say and end on the whole state are the machine's, with their answers, and keep what every state fulfils.
-use Rattle.std.specs.Prelude.{◌≡◌, List, [], Bool, ℕ, ◌+◌, ◌≤◌, ◌<◌, set, eqb}
+use Rattle.std.specs.Prelude.{◌≡◌, List, [], Bool, ℕ, ◌+◌, ◌≤◌, ◌<◌, set, eqb, if◌then◌else◌}
 use Rattle.std.proofs.Math.Path.{refl, ap, sym, subst}
 use Rattle.std.proofs.Common.{◌∙◌, arith, eqb-true}
 use Rattle.std.proofs.Math.Bool.{true, false, not}
 use Rattle.std.proofs.Math.ListN.{length}
 use Rattle.std.proofs.Math.Dec.{ltb}
 use Rattle.std.proofs.lemmas.Bool.{eqb-false}
-use Rattle.wire.specs.Test.{if◌then◌else◌, byTest}
+use Rattle.wire.specs.Test.{by_test}
 use Rattle.connection.specs.Refusal.{refusal}
 use Rattle.connection.specs.declared.request.Request.{Request}
 use Rattle.connection.specs.declared.state.Slot.{Slot}
@@ -107,7 +107,7 @@ module _ (m : QueueMemory) (g : Good m) (is_open : (conn_of m).«open» ≡ true
       record {
         steady = record {
           steady = both_memory r w same;
-          sized = λ j h. byTest (eqb j i) (λ e. let x : wait_at n j ≡ w = ap (wait_at n) (eqb-true j i e) ∙ wait_of_put k i w ky low s in subst (λ x. Sized x) (sym x) s)
+          sized = λ j h. by_test (eqb j i) (λ e. let x : wait_at n j ≡ w = ap (wait_at n) (eqb-true j i e) ∙ wait_of_put k i w ky low s in subst (λ x. Sized x) (sym x) s)
               (λ e. subst (λ x. Sized x) (sym (there j h (eqb-false j i e))) (z.sized j h));
           free = subst (λ w. FreeIn (waiting_of n) w) (sym (L.put_memory m z y is_open id i found r w))
               (subst (λ T. NothingFree (waiting_of n) T) (sym t) (free_changed (waiting_of n) i (HeldBy r.id (record { request = r; area = area_at m.memory.store i })) (λ j h d. ap atoms_in (there j (slot_below (conn_of m).table m.memory.store j h) d)) tt slots_free));
@@ -130,7 +130,7 @@ module _ (m : QueueMemory) (g : Good m) (is_open : (conn_of m).«open» ≡ true
 
   -- ---- say
   same_number : (n : ℕ) (x x' : QueueMemory) → refusal_among (if eqb n 0 then record { refusal = 0; left = x } else record { refusal = n; left = x' }) ≡ n
-  same_number n x x' = byTest (eqb n 0) (λ e. rw e (sym (eqb-true n 0 e))) (λ e. rw e)
+  same_number n x x' = by_test (eqb n 0) (λ e. rw e (sym (eqb-true n 0 e))) (λ e. rw e)
 
   say_told : (o : Output) (content : List ℕ) → (T.queue_say m id o content).refusal ≡ say_refusal m id o content
   unfolding T.queue_say
@@ -157,12 +157,12 @@ module _ (m : QueueMemory) (g : Good m) (is_open : (conn_of m).«open» ≡ true
     where
       go : (h : Bool) (k : ℕ) → (if eqb k 0 then (if h then 0 else 10) else k) ≡ 0 → h ≡ true
       go true k e = refl
-      go false k e = byTest (eqb k 0) (λ d. let q : ◌≡◌ {A = ℕ} 10 0 = rw d at e in absurd (omega arith)) (λ d. let q : k ≡ 0 = rw d at e in absurd (eqb-false k 0 d q))
+      go false k e = by_test (eqb k 0) (λ d. let q : ◌≡◌ {A = ℕ} 10 0 = rw d at e in absurd (omega arith)) (λ d. let q : k ≡ 0 = rw d at e in absurd (eqb-false k 0 d q))
 
   say_good : (o : Output) (content : List ℕ) → Good (T.queue_say m id o content).left
   unfolding T.queue_say
   say_good o content =
-      byTest (eqb (say_refusal m id o content) 0)
+      by_test (eqb (say_refusal m id o content) 0)
       (λ e. rw (e, slot_found (conn_of m) id i found) (both_good (Of.said_on request o content) (wait_data (wait_at m i) o content) (L.said_same m z y is_open id i found o content) (data_sized (wait_at m i) o content (z.sized i low) (say_room o content e))))
       (λ e. rw e g)
 
@@ -185,12 +185,12 @@ module _ (m : QueueMemory) (g : Good m) (is_open : (conn_of m).«open» ≡ true
 
   end_outcome : (o : Output) → outcome_answer (Q.queue_end mine o) ≡ Q.Queueing (end_number o)
   unfolding Q.queue_end
-  end_outcome o = byTest (eqb (Q.queue_refusal mine o) 0) (λ e. rw e (ap Q.Queueing (sym (eqb-true _ 0 e) ∙ sym (L.end_refusal m z y is_open id i found o)))) (λ e. rw e (ap Q.Queueing (sym (L.end_refusal m z y is_open id i found o))))
+  end_outcome o = by_test (eqb (Q.queue_refusal mine o) 0) (λ e. rw e (ap Q.Queueing (sym (eqb-true _ 0 e) ∙ sym (L.end_refusal m z y is_open id i found o)))) (λ e. rw e (ap Q.Queueing (sym (L.end_refusal m z y is_open id i found o))))
 
   end_good : (o : Output) → Good (T.queue_end m id o).left
   unfolding T.queue_end
   end_good o =
-      byTest (eqb (end_number o) 0)
+      by_test (eqb (end_number o) 0)
       (λ e. rw (e, slot_found (conn_of m) id i found) (both_good (Of.ended_on request o) (wait_end (wait_at m i) o) (L.ended_same m z y is_open id i found o) (end_sized (wait_at m i) o (z.sized i low))))
       (λ e. rw e g)
 

@@ -1,10 +1,10 @@
 -- A run with a queue is the machine's run of its timeline, where a turn of the pump is its serves; what waits of R,
 -- whether R is leaving and R's request are the machine's.
-use Rattle.std.specs.Prelude.{◌≡◌, List, [], ◌∷◌, ◌++◌, Bool, true, false, ℕ, eqb}
+use Rattle.std.specs.Prelude.{◌≡◌, List, [], ◌∷◌, ◌++◌, Bool, true, false, ℕ, eqb, if◌then◌else◌}
 use Rattle.std.proofs.Math.Path.{refl, ap, sym}
 use Rattle.std.proofs.Common.{◌∙◌, subst}
 use Rattle.std.proofs.Math.Option.{Option, none, some}
-use Rattle.wire.specs.Test.{if◌then◌else◌, byTest}
+use Rattle.wire.specs.Test.{by_test}
 use Rattle.machine.specs.Slots.{Lookup, Absent, FoundAt, lookup}
 use Rattle.machine.specs.Timeline.{RequestCall, CountCall, Item, CallItem, byte_items}
 use Rattle.machine.specs.Machine.{Connection, Open, Closed, on_item, state_after, request_found, request_in}
@@ -15,7 +15,7 @@ use Rattle.machine_queue.specs.Waiting.{is_leaving, waits_in, core_of}
 use Rattle.connection.specs.declared.state.Table.{Table}
 use Rattle.connection.specs.declared.state.Slot.{Slot}
 use Rattle.connection.specs.Request.{Held}
-use Rattle.connection.specs.Slots.{held_at, find, onSlot}
+use Rattle.connection.specs.Slots.{held_at, find, on_slot}
 use Rattle.wire.proofs.Bytes.{AllBytes, take_bytes}
 use Rattle.connection.specs.Run as Run
 use Rattle.connection.specs.Run.{StepOver}
@@ -170,20 +170,20 @@ run_is (o ∷ os) m k p =
     }
 
 -- ---- the request of an id
-found_some : (t : Table) (store : List ℕ) (f : Waiting) (s : Slot) (o : Lookup Queued) → o ≡ onSlot s (λ i. FoundAt i (queued (held_at t store i) (f i))) Absent
-    → request_found queueing_receiver o ≡ onSlot s (λ i. some (queued (held_at t store i) (f i))) none
+found_some : (t : Table) (store : List ℕ) (f : Waiting) (s : Slot) (o : Lookup Queued) → o ≡ on_slot s (λ i. FoundAt i (queued (held_at t store i) (f i))) Absent
+    → request_found queueing_receiver o ≡ on_slot s (λ i. some (queued (held_at t store i) (f i))) none
 unfolding request_found
 found_some t store f (Slot.At i) o e = rw e
 found_some t store f Slot.Nowhere o e = rw e
 
-request_open : (R : ℕ) (m : QueueMemory) → (conn_of m).«open» ≡ true → request_in queueing_receiver R (loaded_queue m) ≡ onSlot (find (conn_of m).table R) (λ i. some (queued (held_at (conn_of m).table m.memory.store i) (waiting_of m i))) none
+request_open : (R : ℕ) (m : QueueMemory) → (conn_of m).«open» ≡ true → request_in queueing_receiver R (loaded_queue m) ≡ on_slot (find (conn_of m).table R) (λ i. some (queued (held_at (conn_of m).table m.memory.store i) (waiting_of m i))) none
 unfolding request_in
 request_open R m o =
     let T = loaded_slots (conn_of m).table m.memory.store in
     let there : loaded_queue m ≡ Open (lift_slots (waiting_of m) T) (lift_reading (loaded_reading (conn_of m).frame m.memory.state.gathered)) = ap (lift_connection (waiting_of m)) (open_loaded m.memory o) in
     ap (request_in queueing_receiver R) there ∙ found_some (conn_of m).table m.memory.store (waiting_of m) (find (conn_of m).table R) (lookup R (lift_slots (waiting_of m) T)) (lift_lookup_lem (waiting_of m) R T ∙ go (find (conn_of m).table R) (lookup R T) (lookup_loaded (conn_of m).table m.memory.store R))
   where
-    go : (s : Slot) (o : Lookup Held) → o ≡ found_as (conn_of m).table m.memory.store s → lift_lookup (waiting_of m) o ≡ onSlot s (λ i. FoundAt i (queued (held_at (conn_of m).table m.memory.store i) (waiting_of m i))) Absent
+    go : (s : Slot) (o : Lookup Held) → o ≡ found_as (conn_of m).table m.memory.store s → lift_lookup (waiting_of m) o ≡ on_slot s (λ i. FoundAt i (queued (held_at (conn_of m).table m.memory.store i) (waiting_of m i))) Absent
     go (Slot.At i) o e = rw e
     go Slot.Nowhere o e = rw e
 
@@ -194,18 +194,18 @@ request_closed R m o = ap (request_in queueing_receiver R) (ap (lift_connection 
 -- whether R is leaving, what of it waits, and its core
 module _ (R : ℕ) (m : QueueMemory) where
   abbrev there : Slot → Option Queued
-  there s = onSlot s (λ i. some (queued (held_at (conn_of m).table m.memory.store i) (waiting_of m i))) none
+  there s = on_slot s (λ i. some (queued (held_at (conn_of m).table m.memory.store i) (waiting_of m i))) none
 
   last : (i : ℕ) → end_waits (atoms_in (wait_at m i)) ≡ last_at m.waits i
   unfolding wait_at
   last i = last_is (wait_at m i)
 
-  leaving_slot : (s : Slot) → is_leaving queueing_receiver waiting_queue (there s) ≡ onSlot s (λ i. last_at m.waits i) false
+  leaving_slot : (s : Slot) → is_leaving queueing_receiver waiting_queue (there s) ≡ on_slot s (λ i. last_at m.waits i) false
   unfolding is_leaving
   leaving_slot (Slot.At i) = last i
   leaving_slot Slot.Nowhere = refl
 
-  leaving_open : (conn_of m).«open» ≡ true → leaving_of R m ≡ onSlot (find (conn_of m).table R) (λ i. last_at m.waits i) false
+  leaving_open : (conn_of m).«open» ≡ true → leaving_of R m ≡ on_slot (find (conn_of m).table R) (λ i. last_at m.waits i) false
   unfolding leaving_of
   leaving_open o = rw o
 
@@ -216,15 +216,15 @@ module _ (R : ℕ) (m : QueueMemory) where
   -- whether R is leaving
   pub leaving_is : is_leaving queueing_receiver waiting_queue (request_in queueing_receiver R (loaded_queue m)) ≡ leaving_of R m
   unfolding is_leaving
-  leaving_is = byTest (conn_of m).«open» (λ o. ap (is_leaving queueing_receiver waiting_queue) (request_open R m o) ∙ leaving_slot (find (conn_of m).table R) ∙ sym (leaving_open o))
+  leaving_is = by_test (conn_of m).«open» (λ o. ap (is_leaving queueing_receiver waiting_queue) (request_open R m o) ∙ leaving_slot (find (conn_of m).table R) ∙ sym (leaving_open o))
       (λ o. ap (is_leaving queueing_receiver waiting_queue) (request_closed R m o) ∙ sym (leaving_closed o))
 
-  waits_slot : (s : Slot) → waits_in queueing_receiver waiting_queue (there s) ≡ onSlot s (λ i. atoms_in (wait_at m i)) []
+  waits_slot : (s : Slot) → waits_in queueing_receiver waiting_queue (there s) ≡ on_slot s (λ i. atoms_in (wait_at m i)) []
   unfolding waits_in
   waits_slot (Slot.At i) = refl
   waits_slot Slot.Nowhere = refl
 
-  waits_open : (conn_of m).«open» ≡ true → waits_of R m ≡ onSlot (find (conn_of m).table R) (λ i. atoms_in (wait_at m i)) []
+  waits_open : (conn_of m).«open» ≡ true → waits_of R m ≡ on_slot (find (conn_of m).table R) (λ i. atoms_in (wait_at m i)) []
   unfolding waits_of
   waits_open o = rw o
 
@@ -235,15 +235,15 @@ module _ (R : ℕ) (m : QueueMemory) where
   -- what waits of R
   pub waits_are : waits_in queueing_receiver waiting_queue (request_in queueing_receiver R (loaded_queue m)) ≡ waits_of R m
   unfolding waits_in
-  waits_are = byTest (conn_of m).«open» (λ o. ap (waits_in queueing_receiver waiting_queue) (request_open R m o) ∙ waits_slot (find (conn_of m).table R) ∙ sym (waits_open o))
+  waits_are = by_test (conn_of m).«open» (λ o. ap (waits_in queueing_receiver waiting_queue) (request_open R m o) ∙ waits_slot (find (conn_of m).table R) ∙ sym (waits_open o))
       (λ o. ap (waits_in queueing_receiver waiting_queue) (request_closed R m o) ∙ sym (waits_closed o))
 
-  core_slot : (s : Slot) → core_of queueing_receiver waiting_queue (there s) ≡ onSlot s (λ i. some (held_at (conn_of m).table m.memory.store i)) none
+  core_slot : (s : Slot) → core_of queueing_receiver waiting_queue (there s) ≡ on_slot s (λ i. some (held_at (conn_of m).table m.memory.store i)) none
   unfolding core_of
   core_slot (Slot.At i) = refl
   core_slot Slot.Nowhere = refl
 
-  held_open : (conn_of m).«open» ≡ true → Run.request_of R m.memory ≡ onSlot (find (conn_of m).table R) (λ i. some (held_at (conn_of m).table m.memory.store i)) none
+  held_open : (conn_of m).«open» ≡ true → Run.request_of R m.memory ≡ on_slot (find (conn_of m).table R) (λ i. some (held_at (conn_of m).table m.memory.store i)) none
   unfolding Run.request_of
   held_open o = rw o
 
@@ -254,5 +254,5 @@ module _ (R : ℕ) (m : QueueMemory) where
   -- R's request
   pub core_is : core_of queueing_receiver waiting_queue (request_in queueing_receiver R (loaded_queue m)) ≡ Run.request_of R m.memory
   unfolding core_of
-  core_is = byTest (conn_of m).«open» (λ o. ap (core_of queueing_receiver waiting_queue) (request_open R m o) ∙ core_slot (find (conn_of m).table R) ∙ sym (held_open o))
+  core_is = by_test (conn_of m).«open» (λ o. ap (core_of queueing_receiver waiting_queue) (request_open R m o) ∙ core_slot (find (conn_of m).table R) ∙ sym (held_open o))
       (λ o. ap (core_of queueing_receiver waiting_queue) (request_closed R m o) ∙ sym (held_closed o))

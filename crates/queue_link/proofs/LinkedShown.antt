@@ -1,8 +1,8 @@
 -- What is shown of R in a run with a queue is what is heard of R on the machine.
-use Rattle.std.specs.Prelude.{◌≡◌, refl, List, [], ◌∷◌, ◌++◌, map, Bool, true, false, ℕ, ◌<◌, take, eqb}
+use Rattle.std.specs.Prelude.{◌≡◌, refl, List, [], ◌∷◌, ◌++◌, map, Bool, true, false, ℕ, ◌<◌, take, eqb, if◌then◌else◌}
 use Rattle.std.proofs.Common.{ap, ap₂, sym, ◌∙◌, subst, arith, eqb-true, ne_eqb}
 use Rattle.std.proofs.Math.Option.{Option}
-use Rattle.wire.specs.Test.{if◌then◌else◌, byTest}
+use Rattle.wire.specs.Test.{by_test}
 use Rattle.machine.specs.Timeline.{RequestCall, CountCall, CallItem, byte_items}
 use Rattle.machine.specs.Machine.{Connection, Open, Closed, Observation, RequestEvent, NoticeEvent, CloseEvent, CountAnswer, CallAnswer, on_item, state_after, observations, as_list, concerns, observed, request_in}
 use Rattle.machine.proofs.RunLaws.{observations_append, observed_append}
@@ -107,7 +107,7 @@ told_shown R f [] h = refl
 told_shown R f (RequestEvent id n ∷ os) h =
     let k : note_id (note_with_id id n) ≡ id = note_id_lem (note_with_id id n) ∙ names_id id n in
     let i = told_shown R f os h in
-    byTest (eqb id R) (λ e. rw (k, e) (ap₂ (λ x l. ShownNote x ∷ l) (ap (λ j. note_with_id j n) (eqb-true id R e)) i)) (λ e. rw (k, e) i)
+    by_test (eqb id R) (λ e. rw (k, e) (ap₂ (λ x l. ShownNote x ∷ l) (ap (λ j. note_with_id j n) (eqb-true id R e)) i)) (λ e. rw (k, e) i)
 told_shown R f (NoticeEvent (QueryWith list) ∷ os) h = rw (query_nobody R list h) (told_shown R f os h)
 told_shown R f (NoticeEvent (UnknownType kind) ∷ os) h = rw (ne_eqb 0 R (λ e. omega arith)) (told_shown R f os h)
 told_shown R f (CloseEvent n ∷ os) h = rw (ne_eqb 0 R (λ e. omega arith)) (told_shown R f os h)
@@ -145,12 +145,12 @@ call_observed m id a k =
 heard_one : (R id : ℕ) (a : Asked) (n : QueueAnswer) (v w : Option Queued) → Q.is_serve_call a ≡ false
     → heard_of R (CallAnswer id a n v w ∷ []) ≡ (if eqb id R then shown_of R (heard_at queueing_receiver waiting_queue (is_leaving queueing_receiver waiting_queue v) a n v w) ∷ [] else [])
 unfolding observed concerns heard_all heard_in
-heard_one R id a n v w s = byTest (eqb id R) (λ e. rw (e, s)) (λ e. rw e)
+heard_one R id a n v w s = by_test (eqb id R) (λ e. rw (e, s)) (λ e. rw e)
 
 call_shown_lem : (R : ℕ) (m : QueueMemory) (id : ℕ) (a : Asking) → Fine m → shown_in R m (CallFor id a) ≡ heard_of R (observations queueing_receiver (loaded_queue m) (machine_items m (CallFor id a)))
 unfolding shown_in machine_items heard_at
 call_shown_lem R m id a k =
-    byTest (eqb id R) own (λ e. rw e (sym (ap (heard_of R) (call_observed m id a k) ∙ heard_one R id (asked a) _ _ _ (no_serve a) ∙ rw e)))
+    by_test (eqb id R) own (λ e. rw e (sym (ap (heard_of R) (call_observed m id a k) ∙ heard_one R id (asked a) _ _ _ (no_serve a) ∙ rw e)))
   where
     left : QueueMemory
     left = (queue_called m id a).left
@@ -193,7 +193,7 @@ heard_append R os ps = ap (λ l. map (shown_of R) (heard_all queueing_receiver w
 
 serve_heard : (R id : ℕ) (n : QueueAnswer) (v w : Option Queued) → heard_of R (CallAnswer id Serve n v w ∷ []) ≡ []
 unfolding observed concerns heard_all heard_in
-serve_heard R id n v w = byTest (eqb id R) (λ e. rw e) (λ e. rw e)
+serve_heard R id n v w = by_test (eqb id R) (λ e. rw e) (λ e. rw e)
 
 serves_heard : (R : ℕ) (ids : List ℕ) (s : Connection queueing_receiver) → heard_of R (observations queueing_receiver s (serves_of ids)) ≡ []
 unfolding observations serves_of observed heard_all as_list

@@ -1,7 +1,7 @@
 -- The machine's timeline without its serves is the run's; purged or not.
-use Rattle.std.specs.Prelude.{◌≡◌, refl, List, [], ◌∷◌, ◌++◌, map, Bool, true, false, ℕ, eqb}
+use Rattle.std.specs.Prelude.{◌≡◌, refl, List, [], ◌∷◌, ◌++◌, map, Bool, true, false, ℕ, eqb, if◌then◌else◌}
 use Rattle.std.proofs.Common.{ap, ap₂, sym, ◌∙◌}
-use Rattle.wire.specs.Test.{if◌then◌else◌, byTest}
+use Rattle.wire.specs.Test.{by_test}
 use Rattle.machine.specs.Timeline.{RequestCall, CountCall, Item, ByteItem, CallItem, byte_items, item_bytes, Scan, ScanHeader, scan_next, is_own, is_own_call, purge_from, purge}
 use Rattle.machine_queue.specs.Waiting.{unserved}
 use Rattle.queue_machine.specs.Queued as Q
@@ -101,11 +101,11 @@ unserved_purged R k [] = refl
 unserved_purged R k (ByteItem b ∷ t) =
     let e = unserved_bytes t in
     let i = unserved_purged R (scan_next R k b) t in
-    rw e (byTest (is_own R k (b ∷ item_bytes t)) (λ d. rw d (ap (λ l. ByteItem b ∷ l) i)) (λ d. rw d i))
+    rw e (by_test (is_own R k (b ∷ item_bytes t)) (λ d. rw d (ap (λ l. ByteItem b ∷ l) i)) (λ d. rw d i))
 unserved_purged R k (CallItem CountCall ∷ t) = unserved_purged R k t
 unserved_purged R k (CallItem (RequestCall id a) ∷ t) =
     let i = unserved_purged R k t in
-    byTest (Q.is_serve_call a) (λ s. byTest (eqb id R) (λ e. rw (e, s) i) (λ e. rw (e, s) i)) (λ s. byTest (eqb id R) (λ e. rw (e, s) (rw e (ap (λ l. CallItem (RequestCall id a) ∷ l) i))) (λ e. rw (e, s) (rw e i)))
+    by_test (Q.is_serve_call a) (λ s. by_test (eqb id R) (λ e. rw (e, s) i) (λ e. rw (e, s) i)) (λ s. by_test (eqb id R) (λ e. rw (e, s) (rw e (ap (λ l. CallItem (RequestCall id a) ∷ l) i))) (λ e. rw (e, s) (rw e i)))
 
 asked_purged : (R : ℕ) (k : Scan) (t : List (Item Asking)) → purge_from R k (asked_items t) ≡ asked_items (purge_from R k t)
 unfolding purge_from is_own_call
@@ -113,11 +113,11 @@ asked_purged R k [] = refl
 asked_purged R k (ByteItem b ∷ t) =
     let e = asked_bytes_lem t in
     let i = asked_purged R (scan_next R k b) t in
-    rw e (byTest (is_own R k (b ∷ item_bytes t)) (λ d. rw d (ap (λ l. ByteItem b ∷ l) i)) (λ d. rw d i))
+    rw e (by_test (is_own R k (b ∷ item_bytes t)) (λ d. rw d (ap (λ l. ByteItem b ∷ l) i)) (λ d. rw d i))
 asked_purged R k (CallItem CountCall ∷ t) = asked_purged R k t
 asked_purged R k (CallItem (RequestCall id a) ∷ t) =
     let i = asked_purged R k t in
-    byTest (eqb id R) (λ e. rw e (ap (λ l. CallItem (RequestCall id (asked a)) ∷ l) i)) (λ e. rw e i)
+    by_test (eqb id R) (λ e. rw e (ap (λ l. CallItem (RequestCall id (asked a)) ∷ l) i)) (λ e. rw e i)
 
 -- also where what is not of R is struck out
 pub run_purged : (R : ℕ) (os : List QueueOperation) (m : QueueMemory) → unserved queueing_receiver waiting_queue (purge R (machine_timeline m os)) ≡ asked_items (purge R (queue_timeline m os))

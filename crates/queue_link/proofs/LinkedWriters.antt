@@ -1,10 +1,10 @@
 -- Straight say, end and finish on the whole state are the machine's: row 5 while END waits, row 10 last.
-use Rattle.std.specs.Prelude.{◌≡◌, List, [], ◌∷◌, Bool, not, ℕ, ◌<◌, length, eqb, ltb}
+use Rattle.std.specs.Prelude.{◌≡◌, List, [], ◌∷◌, Bool, not, ℕ, ◌<◌, length, eqb, ltb, if◌then◌else◌}
 use Rattle.std.proofs.Math.Path.{refl, ap, ap₂}
 use Rattle.std.proofs.Common.{sym, ◌∙◌, inr}
 use Rattle.std.proofs.Math.Bool.{true, false}
 use borrow.Author.Tests.{eqb-true, eq-eqb, eqb-false}
-use Rattle.wire.specs.Test.{if◌then◌else◌, byTest}
+use Rattle.wire.specs.Test.{by_test}
 use Rattle.machine.specs.Machine.{Stays, Leaves, Closes}
 use Rattle.connection.specs.declared.state.Slot.{Slot}
 use Rattle.connection.specs.declared.answer.Output.{Output}
@@ -40,7 +40,7 @@ use Rattle.queue_link.proofs.LinkedStraight.{CallIs, same_with, as_before, as_is
 
 some_is : (w : Wait) → Sized w → is_some (atoms_in w) ≡ anything w
 unfolding is_some
-some_is w s = byTest (anything w) (λ e. go (atoms_in w) refl e) (λ e. rw (nothing_waits w e, e))
+some_is w s = by_test (anything w) (λ e. go (atoms_in w) refl e) (λ e. rw (nothing_waits w e, e))
   where
     go : (l : List Atom) → atoms_in w ≡ l → anything w ≡ true → is_some l ≡ anything w
     go [] e d = absurd (not_both d (anything_is w s e))
@@ -48,7 +48,7 @@ some_is w s = byTest (anything w) (λ e. go (atoms_in w) refl e) (λ e. rw (noth
 
 finish_refusal_lem : (keep : Bool) (h : Held) (w : Of.Writing) → refusal_of (finished_as keep h w) ≡ w.refusal
 unfolding finished_as
-finish_refusal_lem keep h w = byTest (eqb w.refusal 0) (λ e. rw e (go keep (sym (eqb-true w.refusal 0 e)))) (λ e. rw e)
+finish_refusal_lem keep h w = by_test (eqb w.refusal 0) (λ e. rw e (go keep (sym (eqb-true w.refusal 0 e)))) (λ e. rw e)
   where
     go : (k : Bool) → 0 ≡ w.refusal → refusal_of (if k then Leaves (FinishedWith 0 w.written false w.buffer) else Closes (FinishedWith 0 w.written true w.buffer)) ≡ w.refusal
     go true e = e
@@ -117,16 +117,16 @@ module _ (m : QueueMemory) (g : Good m) (is_open : (conn_of m).«open» ≡ true
 
   not_held : (a : Argument) → is_some (waiting_of m i) ≡ false → held_up (receive_call a own) (waiting_of m i) ≡ false
   unfolding held_up
-  not_held a s = byTest (eqb (refusal_of (receive_call a own)) 0) (λ e. rw (e, s)) (λ e. rw e)
+  not_held a s = by_test (eqb (refusal_of (receive_call a own)) 0) (λ e. rw (e, s)) (λ e. rw e)
 
   writer_is : (a : Argument) → is_writer a ≡ true → queue_called m id (D.Straight a) ≡ pick (refusal_with (refusal_of (receive_call a own))) a
       → ((refusal_of (receive_call a own) ≡ 0 → ⊥) → receive_call a own ≡ Stays own (refused (refusal_of (receive_call a own)) a)) → CallIs m id (D.Straight a)
   unfolding queued_call
   writer_is a w c s =
-      byTest (end_waits (waiting_of m i))
+      by_test (end_waits (waiting_of m i))
       (λ e. stays_is m g is_open id i found (D.Straight a) (D.Straightly (refused 5 a)) (rw e at c) (by_leaving a w e))
-      (λ e. byTest (eqb (refusal_of (receive_call a own)) 0)
-      (λ k. byTest (is_some (waiting_of m i))
+      (λ e. by_test (eqb (refusal_of (receive_call a own)) 0)
+      (λ k. by_test (is_some (waiting_of m i))
       (λ x. stays_is m g is_open id i found (D.Straight a) (D.Straightly (refused 10 a)) (rw (e, k, x) at c) (by_waiting a w e k x))
       (λ x. before_is m g is_open id i found a (rw (e, k, x) at c) (by_nothing a true false w e k x refl) (writer_clear a own (waiting_of m i) w (not_held a x))))
       (λ k.
@@ -175,7 +175,7 @@ module _ (m : QueueMemory) (g : Good m) (is_open : (conn_of m).«open» ≡ true
       → receive_call (ForSay o content buffer) own ≡ Stays own (refused (refusal_of (receive_call (ForSay o content buffer) own)) (ForSay o content buffer))
   unfolding receive_call Of.say_in Of.writes refused
   say_refused o content buffer d =
-      byTest (eqb (Of.output_refusal (request_at (conn_of m).table i) o (Of.say_bytes (request_at (conn_of m).table i) o content) buffer) 0)
+      by_test (eqb (Of.output_refusal (request_at (conn_of m).table i) o (Of.say_bytes (request_at (conn_of m).table i) o content) buffer) 0)
       (λ e. absurd (d (rw e))) (λ e. rw e)
 
   -- say
@@ -211,7 +211,7 @@ module _ (m : QueueMemory) (g : Good m) (is_open : (conn_of m).«open» ≡ true
       → receive_call (ForEnd o buffer) own ≡ Stays own (refused (refusal_of (receive_call (ForEnd o buffer) own)) (ForEnd o buffer))
   unfolding receive_call Of.end_in Of.writes refused
   end_refused o buffer d =
-      byTest (eqb (Of.output_refusal (request_at (conn_of m).table i) o (Of.end_bytes (request_at (conn_of m).table i) o) buffer) 0)
+      by_test (eqb (Of.output_refusal (request_at (conn_of m).table i) o (Of.end_bytes (request_at (conn_of m).table i) o) buffer) 0)
       (λ e. absurd (d (rw e))) (λ e. rw e)
 
   -- end
@@ -257,7 +257,7 @@ module _ (m : QueueMemory) (g : Good m) (is_open : (conn_of m).«open» ≡ true
       → receive_call (ForFinish status buffer) own ≡ Stays own (refused (refusal_of (receive_call (ForFinish status buffer) own)) (ForFinish status buffer))
   unfolding receive_call Of.finish_in Of.writes refused finished_as
   finish_refused status buffer d =
-      byTest (ltb (length buffer) (length (Of.finish_bytes (request_at (conn_of m).table i) status)))
+      by_test (ltb (length buffer) (length (Of.finish_bytes (request_at (conn_of m).table i) status)))
       (λ e. rw e) (λ e. absurd (d (finish_own status buffer ∙ rw e)))
 
   -- finish

@@ -1,12 +1,12 @@
 -- What was written of R in calls, turns and whole runs.
-use Rattle.std.specs.Prelude.{◌≡◌, Bool, not, ℕ, zero, suc, ◌*◌, ◌≤◌, ◌<◌, get_or, take, eqb, ltb}
+use Rattle.std.specs.Prelude.{◌≡◌, Bool, not, ℕ, zero, suc, ◌*◌, ◌≤◌, ◌<◌, get_or, take, eqb, ltb, if◌then◌else◌}
 use Rattle.std.proofs.Math.Path.{refl, ap, sym, subst}
 use Rattle.std.proofs.Common.{ap₂, ◌∙◌, arith, length-append, eqb-true, ltb-false}
 use mathlib.Core.List.{List, [], ◌∷◌, ◌++◌, flatten, append-nil}
 use Rattle.std.proofs.Math.Option.{Option, none, some}
 use Rattle.std.proofs.Math.Bool.{true, false}
 use Rattle.std.proofs.Math.ListN.{length}
-use Rattle.wire.specs.Test.{if◌then◌else◌, byTest}
+use Rattle.wire.specs.Test.{by_test}
 use Rattle.record.specs.Names.{END_REQUEST, REQUEST_COMPLETE}
 use Rattle.record.specs.Body.{end_body_bytes}
 use Rattle.record.proofs.BodyLaws.{end_length}
@@ -70,14 +70,14 @@ written_append R os ps = ap (written_all queueing_receiver waiting_queue) (obser
 -- by one call
 pub written_one : (R id : ℕ) (a : Asked) (n : QueueAnswer) (v w : Option Queued) → written_of R (CallAnswer id a n v w ∷ []) ≡ if_own R id (wrote_by a n)
 unfolding observed concerns written_all written_in
-written_one R id a n v w = byTest (eqb id R) (λ e. rw e (append-nil (wrote_by a n))) (λ e. rw e)
+written_one R id a n v w = by_test (eqb id R) (λ e. rw e (append-nil (wrote_by a n))) (λ e. rw e)
 
 -- ---- a step
 -- it writes nothing
 pub step_writes : (R : ℕ) (f : Waiting) (os : List (Observation receiver)) → written_of R (lift_seen f os) ≡ []
 unfolding lift_seen observed concerns written_all written_in as_list
 step_writes R f [] = refl
-step_writes R f (RequestEvent id e ∷ os) = byTest (eqb id R) (λ d. rw d (step_writes R f os)) (λ d. rw d (step_writes R f os))
+step_writes R f (RequestEvent id e ∷ os) = by_test (eqb id R) (λ d. rw d (step_writes R f os)) (λ d. rw d (step_writes R f os))
 step_writes R f (NoticeEvent w ∷ os) = step_writes R f os
 step_writes R f (CloseEvent n ∷ os) = step_writes R f os
 step_writes R f (CountAnswer n ∷ os) = step_writes R f os
@@ -97,7 +97,7 @@ module _ (R : ℕ) (m : QueueMemory) (k : Fine m) where
 
   answer_own : (id : ℕ) (a : Asking) → Own R id (told_bytes R (answer_in (on_item queueing_receiver (loaded_queue m) (CallItem (RequestCall id (asked a)))).1))
   unfolding on_item request_called answer_in
-  answer_own id a = byTest (conn_of m).«open» (λ o. go o (find (conn_of m).table id) refl)
+  answer_own id a = by_test (conn_of m).«open» (λ o. go o (find (conn_of m).table id) refl)
       (λ o. let shut : loaded_queue m ≡ Closed = ap (lift_connection (waiting_of m)) (closed_loaded m.memory o) in
       subst (λ s. Own R id (told_bytes R (answer_in (on_item queueing_receiver s (CallItem (RequestCall id (asked a)))).1))) (sym shut) (own_refusal_lem R 1 id a))
     where
@@ -133,7 +133,7 @@ abbrev Piece : ℕ → ℕ → List ℕ → Type 0
 Piece R id bytes = (rest : List ℕ) → read_of R (bytes ++ rest) ≡ if_own R id (atoms_of bytes) ++ read_of R rest
 
 piece_none : (R id : ℕ) → Piece R id []
-piece_none R id rest = byTest (eqb id R) (λ e. rw (e, atoms_none)) (λ e. rw e)
+piece_none R id rest = by_test (eqb id R) (λ e. rw (e, atoms_none)) (λ e. rw e)
 
 piece_one : (R kind id : ℕ) (x : List ℕ) → id < 65536 → length x < 65536 → Piece R id (record_bytes kind id x)
 piece_one R kind id x hi hx rest =
@@ -289,7 +289,7 @@ no_turn_bytes m allowance buffer e = ap (λ (p : T.Pumped). take p.written p.buf
 op_turn : (R : ℕ) (m : QueueMemory) (allowance : ℕ) (buffer : List ℕ) → Fine m → read_of R (bytes_in m (TurnWith allowance buffer)) ≡ written_of R (observations queueing_receiver (loaded_queue m) (machine_items m (TurnWith allowance buffer)))
 unfolding machine_items served_by
 op_turn R m allowance buffer k =
-    byTest (eqb (pump_refusal m allowance buffer) 0)
+    by_test (eqb (pump_refusal m allowance buffer) 0)
     (λ e. rw e (ap (read_of R) (turn_bytes m allowance buffer k e) ∙ (turn_writes R allowance m k).written))
     (λ e. rw e (ap (read_of R) (no_turn_bytes m allowance buffer e) ∙ records_none R ∙ sym (none_written R (loaded_queue m))))
 

@@ -1,11 +1,11 @@
 -- What was written of R's output in a run, read from the bytes of calls and turns, is what the machine's run wrote.
-use Rattle.std.specs.Prelude.{◌≡◌, refl, Bool, ℕ, ◌+◌, ◌≤◌, ◌<◌, take, drop, eqb, ltb}
+use Rattle.std.specs.Prelude.{◌≡◌, refl, Bool, ℕ, ◌+◌, ◌≤◌, ◌<◌, take, drop, eqb, ltb, if◌then◌else◌}
 use Rattle.std.proofs.Common.{ap, sym, ◌∙◌, subst, arith, length-take}
 use mathlib.Core.List.{List, [], ◌++◌, append-nil}
 use Rattle.std.proofs.Math.Bool.{true, false}
 use Rattle.std.proofs.Math.ListN.{length}
 use borrow.Author.Tests.{eqb-true, ltb-false}
-use Rattle.wire.specs.Test.{if◌then◌else◌, byTest}
+use Rattle.wire.specs.Test.{by_test}
 use Rattle.record.specs.Names.{STDOUT, STDERR, END_REQUEST, REQUEST_COMPLETE}
 use Rattle.record.specs.Body.{end_body_bytes}
 use Rattle.record.proofs.BodyLaws.{end_length}
@@ -57,7 +57,7 @@ module _ (R : ℕ) where
 
   -- no bytes
   pub own_none : (id : ℕ) → Own id []
-  own_none id = byTest (eqb id R) (λ e. rw e (records_none R ∙ sym atoms_none)) (λ e. rw e (records_none R))
+  own_none id = by_test (eqb id R) (λ e. rw e (records_none R ∙ sym atoms_none)) (λ e. rw e (records_none R))
 
   -- one record more
   pub own_more : (kind id : ℕ) (x rest : List ℕ) → id < 65536 → length x < 65536 → Own id rest → Own id (record_bytes kind id x ++ rest)
@@ -102,7 +102,7 @@ module _ (R : ℕ) where
       → Own id (take (Of.writes n bytes after r buffer).written (Of.writes n bytes after r buffer).buffer)
   unfolding Of.writes
   own_writes n bytes after r buffer id f h =
-      byTest (eqb n 0) (λ e. rw e (subst (λ l. Own id l) (sym (put_front_lem buffer bytes (f (eqb-true n 0 e)))) h)) (λ e. rw e (own_none id))
+      by_test (eqb n 0) (λ e. rw e (subst (λ l. Own id l) (sym (put_front_lem buffer bytes (f (eqb-true n 0 e)))) h)) (λ e. rw e (own_none id))
 
   fits_output : (a b c : Bool) → ◌≡◌ {A = ℕ} (if a then 4 else if b then 5 else if c then 6 else 0) 0 → c ≡ false
   fits_output true b c e = absurd (omega arith)
@@ -174,28 +174,28 @@ module _ (R : ℕ) where
   own_writer : (a : Argument) (x : CallOutcome Held Answer) (r : Queued) (id : ℕ) → AnswerOwn id (answer_of x) → Own id (told_bytes (outcome_answer (straight_writer a x r)))
   unfolding straight_writer
   own_writer a x r id h =
-      byTest (end_waits r.waiting) (λ e. rw e (own_refused 5 id a))
-      (λ e. byTest (held_up x r.waiting) (λ d. rw (e, d) (own_refused 10 id a)) (λ d. rw (e, d) (subst (λ n. Own id (told_bytes n)) (sym (lifted_answer x r.waiting)) h)))
+      by_test (end_waits r.waiting) (λ e. rw e (own_refused 5 id a))
+      (λ e. by_test (held_up x r.waiting) (λ d. rw (e, d) (own_refused 10 id a)) (λ d. rw (e, d) (subst (λ n. Own id (told_bytes n)) (sym (lifted_answer x r.waiting)) h)))
 
   own_straight : (a : Argument) (r : Queued) → r.held.request.id < 65536 → Own r.held.request.id (told_bytes (outcome_answer (straight_call a r)))
   unfolding straight_call
   own_straight a r hi =
       let id = r.held.request.id in
       let h = own_call a r.held hi in
-      byTest (is_writer a) (λ w. rw w (own_writer a (receive_call a r.held) r id h)) (λ w. rw w (subst (λ n. Own id (told_bytes n)) (sym (lifted_answer (receive_call a r.held) r.waiting)) h))
+      by_test (is_writer a) (λ w. rw w (own_writer a (receive_call a r.held) r id h)) (λ w. rw w (subst (λ n. Own id (told_bytes n)) (sym (lifted_answer (receive_call a r.held) r.waiting)) h))
 
   own_queue_say : (r : Queued) (o : Output) (content : List ℕ) (id : ℕ) → Own id (told_bytes (outcome_answer (Q.queue_say r o content)))
   unfolding Q.queue_say
   own_queue_say r o content id =
-      byTest (eqb (queue_refusal r o) 0) (λ e. byTest (ltb ROOM (data_in r.waiting + length content)) (λ d. rw (e, d) (own_none id)) (λ d. rw (e, d) (own_none id))) (λ e. rw e (own_none id))
+      by_test (eqb (queue_refusal r o) 0) (λ e. by_test (ltb ROOM (data_in r.waiting + length content)) (λ d. rw (e, d) (own_none id)) (λ d. rw (e, d) (own_none id))) (λ e. rw e (own_none id))
 
   own_queue_end : (r : Queued) (o : Output) (id : ℕ) → Own id (told_bytes (outcome_answer (Q.queue_end r o)))
   unfolding Q.queue_end
-  own_queue_end r o id = byTest (eqb (queue_refusal r o) 0) (λ e. rw e (own_none id)) (λ e. rw e (own_none id))
+  own_queue_end r o id = by_test (eqb (queue_refusal r o) 0) (λ e. rw e (own_none id)) (λ e. rw e (own_none id))
 
   own_queue_finish : (r : Queued) (status id : ℕ) → Own id (told_bytes (outcome_answer (Q.queue_finish r status)))
   unfolding Q.queue_finish
-  own_queue_finish r status id = byTest (end_waits r.waiting) (λ e. rw e (own_none id)) (λ e. rw e (own_none id))
+  own_queue_finish r status id = by_test (end_waits r.waiting) (λ e. rw e (own_none id)) (λ e. rw e (own_none id))
 
   -- A call writes records of its request alone.
   pub own_asked : (a : Asking) (r : Queued) → r.held.request.id < 65536 → Own r.held.request.id (told_bytes (outcome_answer (queued_call (asked a) r)))

@@ -1,8 +1,8 @@
 -- The whole state, read as the connection of the machine with a queue; a step is the items of the bytes that it used.
-use Rattle.std.specs.Prelude.{◌≡◌, refl, List, [], ◌∷◌, Bool, true, false, not, ℕ, zero, suc, ◌+◌, ◌<◌, length, take}
+use Rattle.std.specs.Prelude.{◌≡◌, refl, List, [], ◌∷◌, Bool, true, false, not, ℕ, zero, suc, ◌+◌, ◌<◌, length, take, if◌then◌else◌}
 use Rattle.std.proofs.Common.{ap, sym, ◌∙◌, subst, arith, eq-eqb, le-leb}
 use Rattle.std.proofs.Math.Option.{none}
-use Rattle.wire.specs.Test.{if◌then◌else◌, byTest}
+use Rattle.wire.specs.Test.{by_test}
 use Rattle.slot_word.specs.Word.{taken}
 use Rattle.slot_word.proofs.WordLaws.{taken_out}
 use Rattle.machine.specs.Slots.{SlotState, Vacant, HeldBy}
@@ -156,7 +156,7 @@ refusal_closed m z o = rw (eq-eqb (length m.memory.store) STORE z.steady.sizes.f
 -- In a run the queue changes nothing of a step.
 pub queue_step_is : (m : QueueMemory) (piece : List ℕ) → QueueSteady m → queue_step m piece ≡ stepped m.memory.state m.memory.store piece
 unfolding queue_step
-queue_step_is m piece z = byTest (conn_of m).«open» (λ o. rw (refusal_open m z o))
+queue_step_is m piece z = by_test (conn_of m).«open» (λ o. rw (refusal_open m z o))
     (λ o.
     let one = closed_refusal m.memory z.steady o in
     let none : step_refusal (conn_of m) m.memory.store ≡ 0 → ⊥ = λ e. let y : ◌≡◌ {A = ℕ} 1 0 = sym one ∙ e in omega arith in

@@ -1,12 +1,12 @@
 -- A queued call on the whole state is the machine's call of the request in its slot.
 use Rattle.std.proofs.Math.Path.{◌≡◌, refl, ap, sym}
 use Rattle.std.proofs.Common.{◌∙◌, arith}
-use Rattle.std.specs.Prelude.{List, [], ◌++◌, map, Bool, ℕ, ◌+◌, ◌≤◌, ◌<◌, set}
+use Rattle.std.specs.Prelude.{List, [], ◌++◌, map, Bool, ℕ, ◌+◌, ◌≤◌, ◌<◌, set, if◌then◌else◌}
 use Rattle.std.proofs.Math.Bool.{true, false, not}
 use Rattle.std.proofs.Math.ListN.{length}
 use Rattle.std.proofs.Math.Dec.{eqb, ltb}
 use borrow.Author.Tests.{eqb-true, eq-eqb, ne_eqb, eqb-false, leb-true}
-use Rattle.wire.specs.Test.{if◌then◌else◌, byTest}
+use Rattle.wire.specs.Test.{by_test}
 use Rattle.machine.specs.Slots.{HeldBy, FoundAt, lookup}
 use Rattle.machine.specs.Timeline.{RequestCall, CallItem}
 use Rattle.machine.specs.Machine.{Slots, Reading, Open, Stays, call_decided, request_called, on_item}
@@ -156,7 +156,7 @@ module _ (m : QueueMemory) (z : QueueSteady m) (y : Roomy m) (is_open : (conn_of
 
   not_leaving : (o : Output) → Q.queue_refusal mine o ≡ 0 → end_waits (waiting_of m i) ≡ false
   unfolding Q.queue_refusal
-  not_leaving o e = byTest (end_waits (waiting_of m i)) (λ l. let z : ◌≡◌ {A = ℕ} 5 0 = rw l at e in absurd (omega arith)) (λ l. l)
+  not_leaving o e = by_test (end_waits (waiting_of m i)) (λ l. let z : ◌≡◌ {A = ℕ} 5 0 = rw l at e in absurd (omega arith)) (λ l. l)
 
   -- the call, where nothing but room may refuse it
   say_decided : (o : Output) (content : List ℕ) (r : Bool) → has_room_for (wait_at m i) content ≡ r → Q.queue_refusal mine o ≡ 0 → say_refusal m id o content ≡ (if r then 0 else 10)
@@ -194,7 +194,7 @@ module _ (m : QueueMemory) (z : QueueSteady m) (y : Roomy m) (is_open : (conn_of
   pub say_loaded : (o : Output) (content : List ℕ) → loaded_queue (T.queue_say m id o content).left ≡ (on_item queueing_receiver (loaded_queue m) (CallItem (RequestCall id (QueueSay o content)))).0
   unfolding queued_call
   say_loaded o content =
-      byTest (eqb (Q.queue_refusal mine o) 0) (λ e. say_open o content e) (λ e. say_refused o content e) ∙ sym (ap (λ e. e.0) (call_decided_lem (QueueSay o content)))
+      by_test (eqb (Q.queue_refusal mine o) 0) (λ e. say_open o content e) (λ e. say_refused o content e) ∙ sym (ap (λ e. e.0) (call_decided_lem (QueueSay o content)))
 
   -- ---- queued end
   pub end_refusal : (o : Output) → refusal (T.rows_of m id (T.stream_rows m id o [])) ≡ Q.queue_refusal mine o
@@ -216,9 +216,9 @@ module _ (m : QueueMemory) (z : QueueSteady m) (y : Roomy m) (is_open : (conn_of
   not_ended : (o : Output) → Q.queue_refusal mine o ≡ 0 → Of.is_ended o (request_at table i).state ≡ false
   unfolding Q.queue_refusal
   not_ended o e =
-      byTest (end_waits (waiting_of m i)) (λ l. let q : ◌≡◌ {A = ℕ} 5 0 = rw l at e in absurd (omega arith))
-      (λ l. byTest (Of.no_output (request_at table i)) (λ n. let q : ◌≡◌ {A = ℕ} 4 0 = rw (l, n) at e in absurd (omega arith))
-      (λ n. byTest (Of.is_ended o (request_at table i).state) (λ d. let q : ◌≡◌ {A = ℕ} 5 0 = rw (l, n, d) at e in absurd (omega arith)) (λ d. d)))
+      by_test (end_waits (waiting_of m i)) (λ l. let q : ◌≡◌ {A = ℕ} 5 0 = rw l at e in absurd (omega arith))
+      (λ l. by_test (Of.no_output (request_at table i)) (λ n. let q : ◌≡◌ {A = ℕ} 4 0 = rw (l, n) at e in absurd (omega arith))
+      (λ n. by_test (Of.is_ended o (request_at table i).state) (λ d. let q : ◌≡◌ {A = ℕ} 5 0 = rw (l, n, d) at e in absurd (omega arith)) (λ d. d)))
 
   end_open : (o : Output) → Kept (request_at table i).state (wait_at m i) → Q.queue_refusal mine o ≡ 0
       → loaded_queue (T.queue_end m id o).left ≡ (call_decided queueing_receiver (Q.queue_end mine o) i mine id (QueueEnd o) (lift_slots (waiting_of m) slots) (lift_reading reading)).0
@@ -243,4 +243,4 @@ module _ (m : QueueMemory) (z : QueueSteady m) (y : Roomy m) (is_open : (conn_of
   pub end_loaded : (o : Output) → Kept (request_at table i).state (wait_at m i) → loaded_queue (T.queue_end m id o).left ≡ (on_item queueing_receiver (loaded_queue m) (CallItem (RequestCall id (QueueEnd o)))).0
   unfolding queued_call
   end_loaded o k =
-      byTest (eqb (Q.queue_refusal mine o) 0) (λ e. end_open o k (eqb-true (Q.queue_refusal mine o) 0 e)) (λ e. end_refused o (eqb-false (Q.queue_refusal mine o) 0 e)) ∙ sym (ap (λ e. e.0) (call_decided_lem (QueueEnd o)))
+      by_test (eqb (Q.queue_refusal mine o) 0) (λ e. end_open o k (eqb-true (Q.queue_refusal mine o) 0 e)) (λ e. end_refused o (eqb-false (Q.queue_refusal mine o) 0 e)) ∙ sym (ap (λ e. e.0) (call_decided_lem (QueueEnd o)))

@@ -1,11 +1,10 @@
 -- A record of the pump on the whole state is the machine's serve of the request in that slot.
-use Rattle.std.specs.Prelude.{◌≡◌, Bool, ℕ, ◌<◌, length, take}
+use Rattle.std.specs.Prelude.{◌≡◌, Bool, ℕ, ◌<◌, length, take, if◌then◌else◌}
 use Rattle.std.proofs.Math.Path.{refl, ap, sym}
 use Rattle.std.proofs.Common.{ap₂, ◌∙◌, length-set}
 use mathlib.Core.List.{List, []}
 use Rattle.std.proofs.Math.Bool.{true, false}
 use Rattle.std.proofs.Math.ListN.{set}
-use Rattle.wire.specs.Test.{if◌then◌else◌}
 use Rattle.record.specs.Names.{END_REQUEST, REQUEST_COMPLETE}
 use Rattle.record.specs.Body.{end_body_bytes}
 use Rattle.record_writer.specs.Written.{record_bytes}

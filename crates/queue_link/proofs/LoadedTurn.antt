@@ -1,12 +1,12 @@
 -- A turn of the pump on the whole state is a list of the machine's serves.
-use Rattle.std.specs.Prelude.{◌≡◌, Bool, ℕ, zero, suc, ◌<◌, length, get_or, set, eqb, ltb}
+use Rattle.std.specs.Prelude.{◌≡◌, Bool, ℕ, zero, suc, ◌<◌, length, get_or, set, eqb, ltb, if◌then◌else◌}
 use Rattle.std.proofs.Math.Path.{refl}
 use Rattle.std.proofs.Common.{ap, sym, ◌∙◌, subst, arith, eqb-true, ltb-true}
 use mathlib.Core.List.{List, [], ◌∷◌}
 use Rattle.std.proofs.Math.Option.{Option, none, some}
 use Rattle.std.proofs.Math.Bool.{true, false}
 use Rattle.std.proofs.lemmas.Bool.{eqb-false}
-use Rattle.wire.specs.Test.{if◌then◌else◌, byTest}
+use Rattle.wire.specs.Test.{by_test}
 use Rattle.machine.specs.Slots.{SlotState, Vacant, HeldBy}
 use Rattle.machine.specs.Machine.{Slots, state_after}
 use Rattle.machine.specs.Timeline.{RequestCall, CallItem, Item}
@@ -108,7 +108,7 @@ module _ (m : QueueMemory) (k : Good m) (is_open : (conn_of m).«open» ≡ true
       record {
         steady = record {
           steady = put_steady v s;
-          sized = λ j h. byTest (eqb j i) (λ e. let w : wait_at n j ≡ v = ap (wait_at n) (eqb-true j i e) ∙ wait_of_put (served_last m i) i v r low s in subst (λ x. Sized x) (sym w) s)
+          sized = λ j h. by_test (eqb j i) (λ e. let w : wait_at n j ≡ v = ap (wait_at n) (eqb-true j i e) ∙ wait_of_put (served_last m i) i v r low s in subst (λ x. Sized x) (sym w) s)
               (λ e. subst (λ x. Sized x) (sym (there j h (eqb-false j i e))) (z.sized j h));
           free = subst (λ w. FreeIn (waiting_of n) w) (sym (P.put_memory m z y is_open id i found v))
               (subst (λ T. NothingFree (waiting_of n) T) (sym t) (free_changed (waiting_of n) i (HeldBy id (L.own m z y is_open id i found)) (λ j h d. ap atoms_in (there j (below j h) d)) tt slots_free));
@@ -147,7 +147,7 @@ module _ (m : QueueMemory) (k : Good m) (is_open : (conn_of m).«open» ≡ true
       record {
         steady = record {
           steady = steady_free m.memory i low z.steady;
-          sized = λ j h. byTest (eqb j i) (λ e. subst (λ x. Sized (wait_at n x)) (sym (eqb-true j i e)) freed_wait) (λ e. subst (λ x. Sized x) (sym (there j h (eqb-false j i e))) (z.sized j h));
+          sized = λ j h. by_test (eqb j i) (λ e. subst (λ x. Sized (wait_at n x)) (sym (eqb-true j i e)) freed_wait) (λ e. subst (λ x. Sized x) (sym (there j h (eqb-false j i e))) (z.sized j h));
           free = subst (λ w. FreeIn (waiting_of n) w) (sym (P.free_memory m z y is_open id i found))
               (free_changed (waiting_of n) i (Vacant clean_area) (λ j h d. ap atoms_in (there j (below j h) d)) freed_none slots_free);
           dropped = λ o. let q : ◌≡◌ {A = ℕ} 0 1 = cc (freed_open, o) in absurd (omega arith);
@@ -209,10 +209,10 @@ waiting_is N (suc k) waits p i e = go (waits p) refl e (λ d. waiting_is N k wai
 
 -- whoever waits is active, on an open connection
 pub waits_open : (m : QueueMemory) (i : ℕ) → QueueSteady m → anything (wait_at m i) ≡ true → (conn_of m).«open» ≡ true
-waits_open m i z w = byTest (conn_of m).«open» (λ o. o) (λ o. let q : ◌≡◌ {A = ℕ} 0 1 = cc (nobody_at m i (z.dropped o), w) in absurd (omega arith))
+waits_open m i z w = by_test (conn_of m).«open» (λ o. o) (λ o. let q : ◌≡◌ {A = ℕ} 0 1 = cc (nobody_at m i (z.dropped o), w) in absurd (omega arith))
 
 waits_taken : (m : QueueMemory) (i : ℕ) → QueueSteady m → i < SLOTS → (conn_of m).«open» ≡ true → anything (wait_at m i) ≡ true → taken i (conn_of m).table.occupied ≡ true
-waits_taken m i z h o w = byTest (taken i (conn_of m).table.occupied) (λ e. e) (λ e. let q : ◌≡◌ {A = ℕ} 0 1 = cc (slot_free m i z o h e, w) in absurd (omega arith))
+waits_taken m i z h o w = by_test (taken i (conn_of m).table.occupied) (λ e. e) (λ e. let q : ◌≡◌ {A = ℕ} 0 1 = cc (slot_free m i z o h e, w) in absurd (omega arith))
 
 -- and it is found
 pub waits_found_lem : (m : QueueMemory) (i : ℕ) → QueueSteady m → i < SLOTS → (conn_of m).«open» ≡ true → anything (wait_at m i) ≡ true → find (conn_of m).table (get_or (conn_of m).table.ids i 0) ≡ Slot.At i
@@ -244,7 +244,7 @@ pub record TurnFrom (m n : QueueMemory) (records : List (List ℕ)) (ids : List 
 
 -- it is a slot
 pub first_below : (n : ℕ) → first_slot n < SLOTS
-first_below n = byTest (ltb n SLOTS) (λ e. let h = ltb-true n SLOTS e in rw e h) (λ e. rw e (omega arith))
+first_below n = by_test (ltb n SLOTS) (λ e. let h = ltb-true n SLOTS e in rw e h) (λ e. rw e (omega arith))
 
 -- A turn of the pump is the machine's serves of these ids, one after another.
 pub turn_is : (k : ℕ) (m : QueueMemory) → Good m → TurnFrom m (turned k m).left (turned k m).records (served_in k m)

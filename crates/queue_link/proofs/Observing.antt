@@ -1,9 +1,9 @@
 -- What is observed of calls and serves on the machine with a queue.
-use Rattle.std.specs.Prelude.{◌≡◌, refl, [], ◌∷◌, Bool, true, false, ℕ, suc, set, eqb}
+use Rattle.std.specs.Prelude.{◌≡◌, refl, [], ◌∷◌, Bool, true, false, ℕ, suc, set, eqb, if◌then◌else◌}
 use Rattle.std.proofs.Common.{ap, sym, ◌∙◌, subst, arith, get_or-set_other, eqb-true, eq-eqb}
 use Rattle.std.proofs.Math.Option.{Option, none, some}
 use Rattle.std.proofs.lemmas.Bool.{eqb-false}
-use Rattle.wire.specs.Test.{if◌then◌else◌, byTest}
+use Rattle.wire.specs.Test.{by_test}
 use Rattle.machine.specs.Slots.{Vacant, HeldBy, Lookup, Absent, FoundAt, lookup_further, lookup, slot_at, LookupRight, lookup_right, slot_written}
 use Rattle.machine.specs.Timeline.{RequestCall, CallItem}
 use Rattle.machine.specs.Machine.{Slots, Reading, Connection, Open, Closed, CallOutcome, Stays, Retires, Leaves, Closes, Observation, CallAnswer, call_decided, request_called, on_item, request_found, request_in}
@@ -50,7 +50,7 @@ gone id T i r ok e = go (lookup id U) refl
     go Absent d = d
     go (FoundAt j q) d =
         let there : slot_at queueing_receiver.clean U j ≡ HeldBy id q = subst (λ o. LookupRight queueing_receiver.clean id U o) d (lookup_right queueing_receiver.clean id U) in
-        byTest (eqb j i)
+        by_test (eqb j i)
         (λ s.
         let w : slot_at queueing_receiver.clean U j ≡ Vacant queueing_receiver.clean = ap (slot_at queueing_receiver.clean U) (eqb-true j i s) ∙ slot_written queueing_receiver.clean T i id r (Vacant queueing_receiver.clean) here in
         let z : ◌≡◌ {A = ℕ} 0 1 = cc (w, there) in absurd (omega arith))

@@ -1,7 +1,6 @@
 -- Where the answers of calls that read lie in the store, and reading on from a place, with what waits in shape.
-use Rattle.std.specs.Prelude.{ℕ, List, length}
+use Rattle.std.specs.Prelude.{ℕ, List, length, if◌then◌else◌}
 use Rattle.std.proofs.Math.Option.{Option, none}
-use Rattle.wire.specs.Test.{if◌then◌else◌}
 use Rattle.connection.specs.declared.state.Conn.{Conn}
 use Rattle.call_list.specs.Listing.{listing}
 use Rattle.call_list.specs.Part.{value_place}

@@ -1,8 +1,8 @@
 -- In a run the end of a stream waits only where the stream is marked as ended: a second instance of the laws of shape.
-use Rattle.std.specs.Prelude.{◌≡◌, refl, List, [], ◌∷◌, ◌++◌, map, Bool, true, false, ℕ, suc, ◌+◌, ◌≤◌, ◌<◌, length, eqb, ltb}
+use Rattle.std.specs.Prelude.{◌≡◌, refl, List, [], ◌∷◌, ◌++◌, map, Bool, true, false, ℕ, suc, ◌+◌, ◌≤◌, ◌<◌, length, eqb, ltb, if◌then◌else◌}
 use Rattle.std.proofs.Common.{ap, sym, ◌∙◌, subst, arith}
 use Rattle.std.proofs.Math.Option.{Option, none, some}
-use Rattle.wire.specs.Test.{if◌then◌else◌, byTest}
+use Rattle.wire.specs.Test.{by_test}
 use Rattle.record_writer.specs.Written.{record_bytes}
 use Rattle.record.specs.Names.{END_REQUEST}
 use Rattle.machine.specs.Machine.{HeaderOutcome, Decided, BeginOutcome, Declined, Accepted, CallOutcome, Stays, Retires, Leaves, Closes}
@@ -109,7 +109,7 @@ begin_ends id body = begin_lifted (receive_begin id body)
 -- ---- straight calls
 writes_grows : (n : ℕ) (bytes : List ℕ) (after r : Request) (buffer : List ℕ) → Grows r.state after.state → Grows r.state (Of.writes n bytes after r buffer).request.state
 unfolding Of.writes
-writes_grows n bytes after r buffer g = byTest (eqb n 0) (λ e. simp e g) (λ e. simp e (λ o d. d))
+writes_grows n bytes after r buffer g = by_test (eqb n 0) (λ e. simp e g) (λ e. simp e (λ o d. d))
 
 say_grows : (r : Request) (output : Output) (bytes buffer : List ℕ) → Grows r.state (Of.say_in r output bytes buffer).request.state
 unfolding Of.say_in
@@ -153,14 +153,14 @@ lifted_ok h l (Closes n) g r = tt
 writer_ok : (a : Argument) (x : CallOutcome Held Answer) (r : Queued) → OutcomeGrows r.held x → EndsRight r → Ok r (straight_writer a x r)
 unfolding straight_writer
 writer_ok a x r g ok =
-    byTest (end_waits r.waiting) (λ e. rw e (ok, λ k c u. tt))
-    (λ e. byTest (held_up x r.waiting) (λ d. rw (e, d) (ok, λ k c u. tt)) (λ d. rw (e, d) (lifted_ok r.held r.waiting x g ok)))
+    by_test (end_waits r.waiting) (λ e. rw e (ok, λ k c u. tt))
+    (λ e. by_test (held_up x r.waiting) (λ d. rw (e, d) (ok, λ k c u. tt)) (λ d. rw (e, d) (lifted_ok r.held r.waiting x g ok)))
 
 straight_ok : (a : Argument) (r : Queued) → EndsRight r → Ok r (straight_call a r)
 unfolding straight_call
 straight_ok a r ok =
     let g = call_grows a r.held in
-    byTest (is_writer a) (λ w. rw w (writer_ok a (receive_call a r.held) r g ok)) (λ w. rw w (lifted_ok r.held r.waiting (receive_call a r.held) g ok))
+    by_test (is_writer a) (λ w. rw w (writer_ok a (receive_call a r.held) r g ok)) (λ w. rw w (lifted_ok r.held r.waiting (receive_call a r.held) g ok))
 
 -- ---- queued calls
 waits_left : (l k : List Atom) → end_waits (l ++ k) ≡ false → end_waits l ≡ false
@@ -180,15 +180,15 @@ waits_right (EndRequest c ∷ l) k e = let z : ◌≡◌ {A = ℕ} 0 1 = cc in a
 say_ok : (r : Queued) (o : Output) (content : List ℕ) → EndsRight r → Ok r (queue_say r o content)
 unfolding queue_say
 say_ok r o content ok =
-    byTest (eqb (queue_refusal r o) 0)
-    (λ e. byTest (ltb ROOM (data_in r.waiting + length content)) (λ d. rw (e, d) (ok, λ k c u. tt))
+    by_test (eqb (queue_refusal r o) 0)
+    (λ e. by_test (ltb ROOM (data_in r.waiting + length content)) (λ d. rw (e, d) (ok, λ k c u. tt))
     (λ d. rw (e, d) ((λ p w f. unended_append p r.waiting (map (ByteOn o) content) (ok p (waits_left r.waiting (map (ByteOn o) content) w) (sym (said_ended r.held.request o p content) ∙ f)) (unended_bytes p o content)), λ k c u. tt)))
     (λ e. rw e (ok, λ k c u. tt))
 
 end_ok : (r : Queued) (o : Output) → EndsRight r → Ok r (queue_end r o)
 unfolding queue_end
 end_ok r o ok =
-    byTest (eqb (queue_refusal r o) 0)
+    by_test (eqb (queue_refusal r o) 0)
     (λ e. rw e ((λ p w f. let g = ended_before r.held.request o p f in unended_append p r.waiting (EndOf o ∷ []) (ok p (waits_left r.waiting (EndOf o ∷ []) w) g.0) (g.1, tt)), λ k c u. tt))
     (λ e. rw e (ok, λ k c u. tt))
 
@@ -196,7 +196,7 @@ finish_ok : (r : Queued) (status : ℕ) → EndsRight r → Ok r (queue_finish r
 unfolding queue_finish
 finish_ok r status ok =
     let m = r.held.request.state in
-    byTest (end_waits r.waiting) (λ e. rw e (ok, λ k c u. tt))
+    by_test (end_waits r.waiting) (λ e. rw e (ok, λ k c u. tt))
     (λ e. rw e (λ p w f. absurd (not_both (last_waits m status).0 (waits_right r.waiting (last_words m status) w))))
 
 -- ---- a serve

@@ -1,7 +1,7 @@
 -- What the receiver with a queue says is what it writes, and then what waits.
-use Rattle.std.specs.Prelude.{◌≡◌, refl, Bool, true, false, List, [], ◌∷◌, ◌++◌, map, ℕ, ◌+◌, length, eqb, ltb}
+use Rattle.std.specs.Prelude.{◌≡◌, refl, Bool, true, false, List, [], ◌∷◌, ◌++◌, map, ℕ, ◌+◌, length, eqb, ltb, if◌then◌else◌}
 use Rattle.std.proofs.Common.{sym, ◌∙◌, append-nil, inl, inr, arith, eqb-true, ne_eqb}
-use Rattle.wire.specs.Test.{if◌then◌else◌, byTest}
+use Rattle.wire.specs.Test.{by_test}
 use Rattle.machine.specs.Machine.{CallOutcome, Stays, Retires, Leaves, Closes}
 use Rattle.machine_queue.proofs.Accounts.{CallAccounts, Accounting}
 use Rattle.connection.specs.declared.answer.Output.{Output}
@@ -26,12 +26,12 @@ lifted_accounts : (a : Argument) (r : Queued) (o : CallOutcome Held Answer) → 
     → CallAccounts queueing_receiver waiting_queue (Straight a) r (lifted o r.waiting)
 unfolding said_in wrote_by
 lifted_accounts a r (Stays h n) e v t c s =
-    byTest (eqb (refusal_in n) 10)
+    by_test (eqb (refusal_in n) 10)
     (λ d. let w = t (λ z. let y : 10 ≡ 0 = sym (eqb-true (refusal_in n) 10 d) ∙ z in omega arith) in (rw (d, w) (append-nil r.waiting), s))
     (λ d. (rw (d, e) (swap r.waiting (wrote_in n) c), s))
 lifted_accounts a r (Retires h n) e v t c s = absurd v
 lifted_accounts a r (Leaves n) e v t c s =
-    byTest (eqb (refusal_in n) 10) (λ d. absurd (t (λ z. let y : 10 ≡ 0 = sym (eqb-true (refusal_in n) 10 d) ∙ z in omega arith)))
+    by_test (eqb (refusal_in n) 10) (λ d. absurd (t (λ z. let y : 10 ≡ 0 = sym (eqb-true (refusal_in n) 10 d) ∙ z in omega arith)))
     (λ d. rw (d, e, empty c))
   where
     empty : Clear (Leaves n) r.waiting → r.waiting ≡ []
@@ -63,12 +63,12 @@ say_decided r o content false f s l = (rw f, ends_append r.waiting (map (ByteOn 
 
 queue_refused : (a : Asked) (r : Queued) (n : ℕ) → said_in a r.held ≡ [] → EndsWithEnd r.waiting → CallAccounts queueing_receiver waiting_queue a r (Stays r (Queueing n))
 unfolding wrote_by
-queue_refused a r n x s = (byTest (eqb n 10) (λ d. rw d (append-nil r.waiting)) (λ d. rw (d, x) (append-nil r.waiting)), s)
+queue_refused a r n x s = (by_test (eqb n 10) (λ d. rw d (append-nil r.waiting)) (λ d. rw (d, x) (append-nil r.waiting)), s)
 
 say_accounts : (r : Queued) (o : Output) (content : List ℕ) → EndsWithEnd r.waiting → end_waits r.waiting ≡ false → CallAccounts queueing_receiver waiting_queue (QueueSay o content) r (queue_say r o content)
 unfolding queue_say
 say_accounts r o content s l =
-    byTest (refused_on r.held o)
+    by_test (refused_on r.held o)
     (λ f. let d = own_some r.held o f in
     rw (own_refusal_lem r o l, ne_eqb (own_refusal r.held o) 0 d.0) (queue_refused (QueueSay o content) r (own_refusal r.held o) (said_none r.held o content f) s))
     (λ f. let z : queue_refusal r o ≡ 0 = own_refusal_lem r o l ∙ own_zero r.held o f in rw z (say_decided r o content (ltb ROOM (data_in r.waiting + length content)) f s l))
@@ -76,7 +76,7 @@ say_accounts r o content s l =
 end_accounts : (r : Queued) (o : Output) → EndsWithEnd r.waiting → end_waits r.waiting ≡ false → CallAccounts queueing_receiver waiting_queue (QueueEnd o) r (queue_end r o)
 unfolding queue_end said_in wrote_by
 end_accounts r o s l =
-    byTest (refused_on r.held o)
+    by_test (refused_on r.held o)
     (λ f. let d = own_some r.held o f in
     rw (own_refusal_lem r o l, ne_eqb (own_refusal r.held o) 0 d.0) (queue_refused (QueueEnd o) r (own_refusal r.held o) (ended_none r.held o f) s))
     (λ f. let z : queue_refusal r o ≡ 0 = own_refusal_lem r o l ∙ own_zero r.held o f in rw z (rw f, ends_append r.waiting (EndOf o ∷ []) l tt))

@@ -1,7 +1,7 @@
 -- The laws of what waits, for the receiver: queued calls of two requests that are alike but for what waits.
-use Rattle.std.specs.Prelude.{◌≡◌, refl, Bool, true, false, List, [], ◌∷◌, ◌++◌, map, ℕ, ◌+◌, length, eqb, ltb}
+use Rattle.std.specs.Prelude.{◌≡◌, refl, Bool, true, false, List, [], ◌∷◌, ◌++◌, map, ℕ, ◌+◌, length, eqb, ltb, if◌then◌else◌}
 use Rattle.std.proofs.Common.{ap, sym, ◌∙◌, append-nil, arith, ne_eqb}
-use Rattle.wire.specs.Test.{if◌then◌else◌, byTest}
+use Rattle.wire.specs.Test.{by_test}
 use Rattle.record.specs.Names.{REQUEST_COMPLETE}
 use Rattle.record.proofs.BodyLaws.{end_length}
 use Rattle.machine.specs.Machine.{Stays}
@@ -34,14 +34,14 @@ refused_on h o = if no_output h.request then true else is_ended o h.request.stat
 
 -- not refused
 pub own_zero : (h : Held) (o : Output) → refused_on h o ≡ false → own_refusal h o ≡ 0
-own_zero h o e = byTest (no_output h.request) (λ n. absurd (not_both (tr n) e)) (λ n. rw (n, rw n at e))
+own_zero h o e = by_test (no_output h.request) (λ n. absurd (not_both (tr n) e)) (λ n. rw (n, rw n at e))
   where
     tr : no_output h.request ≡ true → refused_on h o ≡ true
     tr n = rw n
 
 -- refused
 pub own_some : (h : Held) (o : Output) → refused_on h o ≡ true → (own_refusal h o ≡ 0 → ⊥) × (eqb (own_refusal h o) 10 ≡ false)
-own_some h o e = byTest (no_output h.request) (λ n. rw n ((λ z. omega arith), refl)) (λ n. let d : is_ended o h.request.state ≡ true = rw n at e in rw (n, d) ((λ z. omega arith), refl))
+own_some h o e = by_test (no_output h.request) (λ n. rw n ((λ z. omega arith), refl)) (λ n. let d : is_ended o h.request.state ≡ true = rw n at e in rw (n, d) ((λ z. omega arith), refl))
 
 -- said nothing, written nothing
 quiet_accounts : (l s : List Atom) → s ≡ [] → l ++ s ≡ [] ++ l
@@ -92,7 +92,7 @@ say_alike : (r q : Queued) (o : Output) (content : List ℕ) → EndsWithEnd r.w
     → NotHeldUp queueing_receiver waiting_queue (queue_say r o content) → NotHeldUp queueing_receiver waiting_queue (queue_say q o content)
     → CallAlike queueing_receiver waiting_queue (QueueSay o content) r q (queue_say r o content) (queue_say q o content)
 unfolding queue_say
-say_alike r q o content sr sq e lr lq hr hq = byTest (refused_on r.held o) no yes
+say_alike r q o content sr sq e lr lq hr hq = by_test (refused_on r.held o) no yes
   where
     eh : own_refusal r.held o ≡ own_refusal q.held o
     eh = ap (λ h. own_refusal h o) e
@@ -119,7 +119,7 @@ say_alike r q o content sr sq e lr lq hr hq = byTest (refused_on r.held o) no ye
 end_alike : (r q : Queued) (o : Output) → EndsWithEnd r.waiting → EndsWithEnd q.waiting → r.held ≡ q.held → end_waits r.waiting ≡ false → end_waits q.waiting ≡ false
     → CallAlike queueing_receiver waiting_queue (QueueEnd o) r q (queue_end r o) (queue_end q o)
 unfolding queue_end said_in wrote_by end_waits
-end_alike r q o sr sq e lr lq = byTest (refused_on r.held o) no yes
+end_alike r q o sr sq e lr lq = by_test (refused_on r.held o) no yes
   where
     eh : own_refusal r.held o ≡ own_refusal q.held o
     eh = ap (λ h. own_refusal h o) e

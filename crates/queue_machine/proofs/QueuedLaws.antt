@@ -1,8 +1,8 @@
 -- The laws of what waits, for the receiver.
-use Rattle.std.specs.Prelude.{◌≡◌, refl, Bool, true, false, List, [], ◌∷◌, ◌++◌, map, ◌⊎◌, ℕ, zero, suc, ◌≤◌, length, take, eqb}
+use Rattle.std.specs.Prelude.{◌≡◌, refl, Bool, true, false, List, [], ◌∷◌, ◌++◌, map, ◌⊎◌, ℕ, zero, suc, ◌≤◌, length, take, eqb, if◌then◌else◌}
 use Rattle.std.proofs.Common.{ap, sym, ◌∙◌, subst, append-nil, inl, inr, arith, ne_eqb}
 use Rattle.std.proofs.lemmas.Bool.{eqb-false}
-use Rattle.wire.specs.Test.{if◌then◌else◌, byTest}
+use Rattle.wire.specs.Test.{by_test}
 use Rattle.machine.specs.Machine.{HeaderOutcome, Decided, BeginOutcome, Declined, Accepted, CallOutcome, Stays, Retires, Leaves, Closes}
 use Rattle.machine_queue.specs.Waiting.{HeaderAlike, ByteAlike, BeginWaits, NotHeldUp, CallAlike}
 use Rattle.connection.specs.declared.request.Due.{Due}
@@ -208,7 +208,7 @@ not_both e d = let z : ◌≡◌ {A = ℕ} 0 1 = cc in omega arith
 -- a writer that is not held up
 pub writer_clear : (a : Argument) (h : Held) (l : List Atom) → is_writer a ≡ true → held_up (receive_call a h) l ≡ false → Clear (receive_call a h) l
 unfolding held_up
-writer_clear a h l w e = byTest (eqb (refusal_of (receive_call a h)) 0) (λ z. inl (none_some l (rw z at e))) (λ z. inr (refused_silent a h w (eqb-false _ _ z)))
+writer_clear a h l w e = by_test (eqb (refusal_of (receive_call a h)) 0) (λ z. inl (none_some l (rw z at e))) (λ z. inr (refused_silent a h w (eqb-false _ _ z)))
 
 -- not held up, as the answer is not ten
 writer_open : (a : Argument) (o : CallOutcome Held Answer) (r : Queued) → is_writer a ≡ true → end_waits r.waiting ≡ false → NotHeldUp queueing_receiver waiting_queue (straight_writer a o r) → held_up o r.waiting ≡ false

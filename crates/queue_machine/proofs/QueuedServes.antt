@@ -1,7 +1,6 @@
 -- The laws of what waits, for the receiver: a request between its finish and its END; serves; all the laws.
-use Rattle.std.specs.Prelude.{◌≡◌, refl, Bool, true, false, List, [], ◌∷◌, ◌++◌, map, ℕ, suc, ◌<◌, length}
+use Rattle.std.specs.Prelude.{◌≡◌, refl, Bool, true, false, List, [], ◌∷◌, ◌++◌, map, ℕ, suc, ◌<◌, length, if◌then◌else◌}
 use Rattle.std.proofs.Common.{ap, sym, ◌∙◌, arith}
-use Rattle.wire.specs.Test.{if◌then◌else◌}
 use Rattle.record.specs.Names.{END_REQUEST}
 use Rattle.record_writer.specs.Written.{record_bytes}
 use Rattle.machine.specs.Machine.{Leaves, Closes}

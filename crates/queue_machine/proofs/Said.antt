@@ -1,8 +1,8 @@
 -- What a call says, told from its answer: as what the accounts say of it.
-use Rattle.std.specs.Prelude.{◌≡◌, refl, List, [], ◌∷◌, map, Bool, true, false, ℕ, ◌+◌, length, eqb, ltb}
+use Rattle.std.specs.Prelude.{◌≡◌, refl, List, [], ◌∷◌, map, Bool, true, false, ℕ, ◌+◌, length, eqb, ltb, if◌then◌else◌}
 use Rattle.std.proofs.Common.{sym, ◌∙◌, arith, eqb-true, ne_eqb}
 use Rattle.std.proofs.Math.Option.{Option, some}
-use Rattle.wire.specs.Test.{if◌then◌else◌, byTest}
+use Rattle.wire.specs.Test.{by_test}
 use Rattle.machine.specs.Machine.{CallOutcome, Stays, Retires, Leaves, Closes}
 use Rattle.connection.specs.declared.answer.Output.{Output}
 use Rattle.connection.specs.Request.{Held}
@@ -79,16 +79,16 @@ straight_told : (a : Argument) (r : Queued) → told_by (Straight a) (outcome_an
 unfolding straight_call straight_writer
 straight_told a r =
     let o = receive_call a r.held in
-    byTest (is_writer a)
-    (λ w. byTest (end_waits r.waiting) (λ l. rw (w, l) (straight_refused 5 a (some r.held) refl))
-    (λ l. byTest (held_up o r.waiting) (λ u. rw (w, l, u) (straight_refused 10 a (some r.held) refl)) (λ u. rw (w, l, u, lifted_answer o r.waiting) (call_says a r.held))))
+    by_test (is_writer a)
+    (λ w. by_test (end_waits r.waiting) (λ l. rw (w, l) (straight_refused 5 a (some r.held) refl))
+    (λ l. by_test (held_up o r.waiting) (λ u. rw (w, l, u) (straight_refused 10 a (some r.held) refl)) (λ u. rw (w, l, u, lifted_answer o r.waiting) (call_says a r.held))))
     (λ w. rw (w, lifted_answer o r.waiting) (call_says a r.held))
 
 -- ---- between finish and END: nothing
 straight_leaving : (a : Argument) (r : Queued) → end_waits r.waiting ≡ true → wrote_as (outcome_answer (straight_call a r)) ≡ []
 unfolding straight_call straight_writer
 straight_leaving a r l =
-    byTest (is_writer a) (λ w. rw (w, l) (refused_writes 5 a))
+    by_test (is_writer a) (λ w. rw (w, l) (refused_writes 5 a))
     (λ w. rw (w, lifted_answer (receive_call a r.held) r.waiting) (silent_answer (receive_call a r.held) (reader_silent a r.held w)))
 
 if_none : (b : Bool) (l : List Atom) → l ≡ [] → [] ≡ (if b then [] else l)
@@ -120,8 +120,8 @@ straight_live : (a : Argument) (r : Queued) → end_waits r.waiting ≡ false
 unfolding straight_call straight_writer
 straight_live a r l =
     let o = receive_call a r.held in
-    byTest (is_writer a)
-    (λ w. byTest (held_up o r.waiting) (λ u. rw (w, l, u, straight_ten a w) (refused_writes 10 a))
+    by_test (is_writer a)
+    (λ w. by_test (held_up o r.waiting) (λ u. rw (w, l, u, straight_ten a w) (refused_writes 10 a))
     (λ u. rw (w, l, u, lifted_answer o r.waiting)
     (ten_or_not (eqb (refusal_in (answer_of o)) 10) (wrote_in (answer_of o)) (λ t. silent_answer o (refused_silent a r.held w (λ z. ten_refused (refusal_in (answer_of o)) t (answer_refusal o ∙ z)))))))
     (λ w. rw (w, lifted_answer o r.waiting) (ten_or_not (eqb (refusal_in (answer_of o)) 10) (wrote_in (answer_of o)) (λ t. silent_answer o (reader_silent a r.held w))))
@@ -130,7 +130,7 @@ say_live : (r : Queued) (o : Output) (content : List ℕ) → end_waits r.waitin
     → told_by (QueueSay o content) (outcome_answer (queue_say r o content)) (some r.held) ≡ (if is_ten (outcome_answer (queue_say r o content)) then [] else said_in (QueueSay o content) r.held)
 unfolding queue_say said_in
 say_live r o content l =
-    byTest (refused_on r.held o)
+    by_test (refused_on r.held o)
     (λ f.
     let k = own_some r.held o f in
     let q = own_refusal_lem r o l in
@@ -138,13 +138,13 @@ say_live r o content l =
     rw (n, f) (rw n (if_none (eqb (queue_refusal r o) 10) [] refl)))
     (λ f.
     let n : queue_refusal r o ≡ 0 = own_refusal_lem r o l ∙ own_zero r.held o f in
-    byTest (ltb ROOM (data_in r.waiting + length content)) (λ t. rw (n, t)) (λ t. rw (n, t, f)))
+    by_test (ltb ROOM (data_in r.waiting + length content)) (λ t. rw (n, t)) (λ t. rw (n, t, f)))
 
 end_live : (r : Queued) (o : Output) → end_waits r.waiting ≡ false
     → told_by (QueueEnd o) (outcome_answer (queue_end r o)) (some r.held) ≡ (if is_ten (outcome_answer (queue_end r o)) then [] else said_in (QueueEnd o) r.held)
 unfolding queue_end said_in
 end_live r o l =
-    byTest (refused_on r.held o)
+    by_test (refused_on r.held o)
     (λ f.
     let k = own_some r.held o f in
     let q = own_refusal_lem r o l in

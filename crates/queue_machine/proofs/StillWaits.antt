@@ -3,7 +3,7 @@
 use Rattle.std.specs.Prelude.{◌≡◌, refl, true, false, ℕ, ◌+◌, length, eqb, ltb}
 use mathlib.Core.List.{List, [], ◌∷◌, ◌++◌, map}
 use Rattle.std.proofs.Common.{inl, inr, arith}
-use Rattle.wire.specs.Test.{byTest}
+use Rattle.wire.specs.Test.{by_test}
 use Rattle.machine.specs.Slots.{SlotState, Vacant, HeldBy}
 use Rattle.machine.specs.Timeline.{RequestCall, ByteItem, CallItem, byte_items}
 use Rattle.machine.specs.Machine.{HeaderOutcome, Decided, BeginOutcome, Declined, Accepted, CallOutcome, Stays, Retires, Leaves, Closes, Connection, on_item, state_after}
@@ -47,25 +47,25 @@ clear_some o l (inr s) e = silent_some o l s e
 straight_some : (a : Argument) (r : Queued) → is_some r.waiting ≡ true → StillSome (straight_call a r)
 unfolding straight_call straight_writer
 straight_some a r e =
-    byTest (is_writer a)
-    (λ w. byTest (end_waits r.waiting) (λ l. rw (w, l) e)
-    (λ l. byTest (held_up (receive_call a r.held) r.waiting) (λ u. rw (w, l, u) e) (λ u. rw (w, l, u) (clear_some (receive_call a r.held) r.waiting (writer_clear a r.held r.waiting w u) e))))
+    by_test (is_writer a)
+    (λ w. by_test (end_waits r.waiting) (λ l. rw (w, l) e)
+    (λ l. by_test (held_up (receive_call a r.held) r.waiting) (λ u. rw (w, l, u) e) (λ u. rw (w, l, u) (clear_some (receive_call a r.held) r.waiting (writer_clear a r.held r.waiting w u) e))))
     (λ w. rw w (silent_some (receive_call a r.held) r.waiting (reader_silent a r.held w) e))
 
 say_some : (r : Queued) (o : Output) (content : List ℕ) → is_some r.waiting ≡ true → StillSome (queue_say r o content)
 unfolding queue_say
 say_some r o content e =
-    byTest (eqb (queue_refusal r o) 0)
-    (λ z. byTest (ltb ROOM (data_in r.waiting + length content)) (λ t. rw (z, t) e) (λ t. rw (z, t) (some_append r.waiting (map (ByteOn o) content) e)))
+    by_test (eqb (queue_refusal r o) 0)
+    (λ z. by_test (ltb ROOM (data_in r.waiting + length content)) (λ t. rw (z, t) e) (λ t. rw (z, t) (some_append r.waiting (map (ByteOn o) content) e)))
     (λ z. rw z e)
 
 end_some : (r : Queued) (o : Output) → is_some r.waiting ≡ true → StillSome (queue_end r o)
 unfolding queue_end
-end_some r o e = byTest (eqb (queue_refusal r o) 0) (λ z. rw z (some_append r.waiting (EndOf o ∷ []) e)) (λ z. rw z e)
+end_some r o e = by_test (eqb (queue_refusal r o) 0) (λ z. rw z (some_append r.waiting (EndOf o ∷ []) e)) (λ z. rw z e)
 
 finish_some : (r : Queued) (status : ℕ) → is_some r.waiting ≡ true → StillSome (queue_finish r status)
 unfolding queue_finish
-finish_some r status e = byTest (end_waits r.waiting) (λ l. rw l e) (λ l. rw l (some_append r.waiting (last_words r.held.request.state status) e))
+finish_some r status e = by_test (end_waits r.waiting) (λ l. rw l e) (λ l. rw l (some_append r.waiting (last_words r.held.request.state status) e))
 
 -- every call that is no serve
 pub call_some : (a : Asked) (r : Queued) → is_serve_call a ≡ false → is_some r.waiting ≡ true → StillSome (queued_call a r)

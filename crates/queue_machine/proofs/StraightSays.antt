@@ -1,9 +1,9 @@
 -- A straight call writes what it is asked to say: its bytes, read record by record, are the data of a say, the end
 -- of a stream, or the ends that are owed and END.
-use Rattle.std.specs.Prelude.{◌≡◌, refl, List, [], ◌∷◌, ◌++◌, map, Bool, true, false, ℕ, ◌+◌, length, take, drop, eqb}
+use Rattle.std.specs.Prelude.{◌≡◌, refl, List, [], ◌∷◌, ◌++◌, map, Bool, true, false, ℕ, ◌+◌, length, take, drop, eqb, if◌then◌else◌}
 use Rattle.std.proofs.Common.{ap, sym, ◌∙◌, arith, take_at}
 use Rattle.std.proofs.Math.Option.{Option, none, some}
-use Rattle.wire.specs.Test.{if◌then◌else◌, ◌=?◌, byTest}
+use Rattle.wire.specs.Test.{◌=?◌, by_test}
 use Rattle.record.specs.Names.{END_REQUEST, REQUEST_COMPLETE}
 use Rattle.record.specs.Body.{end_body_bytes}
 use Rattle.record.proofs.BodyLaws.{end_length}
@@ -44,7 +44,7 @@ unless_refused n l = if n =? 0 then l else []
 writes_says : (n : ℕ) (bytes : List ℕ) (after r : Request) (buffer : List ℕ) (l : List Atom) → atoms_of bytes ≡ l
     → unless_refused (Of.writes n bytes after r buffer).refusal l ≡ atoms_of (take (Of.writes n bytes after r buffer).written (Of.writes n bytes after r buffer).buffer)
 unfolding Of.writes
-writes_says n bytes after r buffer l e = byTest (eqb n 0) (λ z. rw z (sym e ∙ ap atoms_of (sym (take_at bytes (drop (0 + length bytes) buffer) (length bytes) refl)))) (λ z. rw z (rw z (sym atoms_none)))
+writes_says n bytes after r buffer l e = by_test (eqb n 0) (λ z. rw z (sym e ∙ ap atoms_of (sym (take_at bytes (drop (0 + length bytes) buffer) (length bytes) refl)))) (λ z. rw z (rw z (sym atoms_none)))
 
 -- the end of a stream that may be owed
 owed_says : (b : Bool) (o : Output) (id : ℕ) (rest : List ℕ) → atoms_of ((if b then record_bytes (output_type o) id [] else []) ++ rest) ≡ owed_end b o ++ atoms_of rest

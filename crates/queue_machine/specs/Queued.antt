@@ -1,7 +1,7 @@
 -- The receiver's rules for one request, with output that waits, as a machine of one request. Definitions only.
-use Rattle.std.specs.Prelude.{◌≡◌, Bool, true, false, List, [], ◌∷◌, ◌++◌, map, ℕ, ◌+◌, ◌<◌, length, take}
+use Rattle.std.specs.Prelude.{◌≡◌, Bool, true, false, List, [], ◌∷◌, ◌++◌, map, ℕ, ◌+◌, ◌<◌, length, take, if◌then◌else◌}
 use Rattle.std.proofs.Math.Option.{Option}
-use Rattle.wire.specs.Test.{if◌then◌else◌, ◌<?◌, ◌=?◌}
+use Rattle.wire.specs.Test.{◌<?◌, ◌=?◌}
 use Rattle.record.specs.Names.{END_REQUEST}
 use Rattle.record_writer.specs.Written.{record_bytes}
 use Rattle.machine.specs.Machine.{HeaderOutcome, Decided, BeginOutcome, Declined, Accepted, CallOutcome, Stays, Retires, Leaves, Closes, Machine}

@@ -2,7 +2,7 @@
 use Rattle.std.specs.Prelude.{ℕ, zero, suc, ◌+◌, ◌-◌, ◌≤◌, ◌≡◌, refl, List, [], ◌∷◌, length, take, drop}
 use Rattle.std.proofs.Common.{sym, ap, ◌∙◌, arith, take-take, drop-drop}
 use Rattle.std.proofs.Math.Bool.{true, false}
-use Rattle.wire.specs.Test.{◌=?◌, byTest}
+use Rattle.wire.specs.Test.{◌=?◌, by_test}
 use Rattle.pairs.specs.Pair.{value_of}
 use Rattle.pairs.specs.declared.pair.Pair.{Pair}
 use Rattle.pair_list.specs.declared.Found.{Found}
@@ -51,9 +51,9 @@ module _ (m : QueueMemory) (id : ℕ) where
   pub list_bytes : (list_lies m id).found ≡ true → Holds store (list_lies m id) (queue_walk m id).list
   unfolding list_lies queue_list_place
   list_bytes e =
-      byTest (barred m)
+      by_test (barred m)
       (λ t. apart (sym (ap (λ (l : Lies). l.found) (list_barred m id t)) ∙ e))
-      (λ t. byTest (listed.refusal =? 0)
+      (λ t. by_test (listed.refusal =? 0)
       (λ u. simp (t, walk_free m id t, walk_listed (conn_of m) store id, u) there)
       (λ u. let z : false ≡ true = simp (walk_free m id t, walk_listed (conn_of m) store id, u) at e in apart z))
     where
@@ -68,9 +68,9 @@ module _ (m : QueueMemory) (id : ℕ) where
       → Holds store (value_lies m id name) (queue_value m id name fallback)
   unfolding value_lies queue_value_place value_place
   value_bytes name fallback e =
-      byTest (barred m)
+      by_test (barred m)
       (λ t. apart (sym (ap (λ (l : Lies). l.found) (value_barred m id name t)) ∙ e))
-      (λ t. byTest (listed.refusal =? 0)
+      (λ t. by_test (listed.refusal =? 0)
       (λ u. look t u (first_named list name) refl)
       (λ u.
       let z : false ≡ true = simp (source_free m id name t, source_listed (conn_of m) store id name, u) at e in

@@ -1,7 +1,7 @@
 -- Where the value of a name, and a request's list, lie in the store: for callers that cannot be handed a part of it.
-use Rattle.std.specs.Prelude.{ℕ, Bool, true, false, List, [], length}
+use Rattle.std.specs.Prelude.{ℕ, Bool, true, false, List, [], length, if◌then◌else◌}
 use Rattle.std.proofs.Math.Option.{Option, none, some}
-use Rattle.wire.specs.Test.{if◌then◌else◌, ◌=?◌}
+use Rattle.wire.specs.Test.{◌=?◌}
 use Rattle.connection.specs.Codes.{refusal_number}
 use Rattle.connection.specs.RequestCalls as Of
 use Rattle.queue.specs.Calls.{QueueMemory, conn_of, queue_value, queue_source, queue_walk}

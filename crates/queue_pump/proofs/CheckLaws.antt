@@ -1,9 +1,9 @@
 -- What the check of a turn says: its rows are those of the pump, and what holds where none does.
-use Rattle.std.specs.Prelude.{◌≡◌, ℕ, zero, suc, ◌+◌, ◌*◌, ◌≤◌, ◌<◌, Bool, true, false, not, List, length, eqb, leb, ltb}
+use Rattle.std.specs.Prelude.{◌≡◌, ℕ, zero, suc, ◌+◌, ◌*◌, ◌≤◌, ◌<◌, Bool, true, false, not, List, length, eqb, leb, ltb, if◌then◌else◌}
 use Rattle.std.proofs.Math.Path.{refl}
 use Rattle.std.proofs.Common.{sym, ◌∙◌, arith, eqb-true, leb-true, ltb-false}
 use Rattle.std.proofs.lemmas.Bool.{eqb-false}
-use Rattle.wire.specs.Test.{if◌then◌else◌, byTest}
+use Rattle.wire.specs.Test.{by_test}
 use Rattle.slot_word.specs.Word.{taken}
 use Rattle.connection.specs.declared.state.Conn.{Conn}
 use Rattle.connection.specs.declared.answer.Refusal.{Refusal}
@@ -50,11 +50,11 @@ pub record Passed (store queue : ℕ) (fits : Bool) (out allowance : ℕ) : Type
 pub passed : (store queue : ℕ) (fits is_open : Bool) (out allowance : ℕ) → 0 ≡ pump_rows store queue fits is_open out allowance → Passed store queue fits out allowance
 unfolding pump_rows
 passed store queue fits is_open out allowance e =
-    byTest (eqb store STORE)
-    (λ a. byTest (eqb queue QUEUE)
-    (λ b. byTest fits
-    (λ f. byTest is_open
-    (λ o. byTest (ltb out (PUMPED * allowance))
+    by_test (eqb store STORE)
+    (λ a. by_test (eqb queue QUEUE)
+    (λ b. by_test fits
+    (λ f. by_test is_open
+    (λ o. by_test (ltb out (PUMPED * allowance))
     (λ l. absurd (omega (arith, simp (a, b, f, o, l) at e)))
     (λ l. let h : PUMPED * allowance ≤ out = ltb-false out (PUMPED * allowance) l in record { store_size = eqb-true store STORE a; queue_size = eqb-true queue QUEUE b; shape = f; room = h }))
     (λ o. absurd (omega (arith, simp (a, b, f, o) at e))))
@@ -80,7 +80,7 @@ slot_counts (suc n) waits occupied i j e l h =
     let free = if taken i occupied then true else not (some_waits (count_at waits i) (front_at waits i) (last_at waits i)) in
     let first = and_first (wait_fits waits occupied i) (waits_fit n waits occupied (i + 1)) e in
     let rest = and_second (wait_fits waits occupied i) (waits_fit n waits occupied (i + 1)) e in
-    byTest (eqb j i)
+    by_test (eqb j i)
     (λ t. rw (eqb-true j i t) (leb-true (count_at waits i) ROOM (and_first (leb (count_at waits i) ROOM) free first)))
     (λ t. let d = eqb-false j i t in slot_counts n waits occupied (i + 1) j rest (omega arith) (omega arith))
 

@@ -1,7 +1,7 @@
 -- What each function of a serve writes and leaves is what the definition says.
-use Rattle.std.specs.Prelude.{◌≡◌, refl, ℕ, ◌+◌, ◌*◌, ◌-◌, ◌≤◌, ◌<◌, Bool, true, false, List, [], length, take, drop, set}
+use Rattle.std.specs.Prelude.{◌≡◌, refl, ℕ, ◌+◌, ◌*◌, ◌-◌, ◌≤◌, ◌<◌, Bool, true, false, List, [], length, take, drop, set, if◌then◌else◌}
 use Rattle.std.proofs.Common.{sym, ap, ap₂, ◌∙◌, subst, arith, add-zero, length-take, length-drop, take-take, length-take-le, ne_eqb}
-use Rattle.wire.specs.Test.{if◌then◌else◌, ◌=?◌, byTest}
+use Rattle.wire.specs.Test.{◌=?◌, by_test}
 use Rattle.wire.specs.Buffer.{put_at, byte_at, zeros}
 use Rattle.wire.proofs.BufferLaws.{put_none}
 use Rattle.record.specs.Names.{END_REQUEST, REQUEST_COMPLETE}
@@ -132,7 +132,7 @@ nothing_served m i id out at = λ memory r same. record { leaves = refl; place =
 -- by the ends at the front
 alone : (w : Wait) (e : Ends) → w.front ≡ e → only_end e w.count w.last ≡ true → served w ≡ ServesLast w.status
 unfolding only_end serve_data
-alone w e ef eo = byTest (w.count =? 0) (λ z. go e ef (rw z at eo) z) (λ z. let y : ◌≡◌ {A = ℕ} 0 1 = cc (rw z at eo) in absurd (omega arith))
+alone w e ef eo = by_test (w.count =? 0) (λ z. go e ef (rw z at eo) z) (λ z. let y : ◌≡◌ {A = ℕ} 0 1 = cc (rw z at eo) in absurd (omega arith))
   where
     go : (e : Ends) → w.front ≡ e → (if no_ends e then w.last else false) ≡ true → (w.count =? 0) ≡ true → served w ≡ ServesLast w.status
     go Ends.None ef l z = rw (ef, z, l)

@@ -3,7 +3,7 @@ use Rattle.std.specs.Prelude.{◌≡◌, ℕ, ◌≤◌, ◌<◌, Bool, true, fa
 use Rattle.std.proofs.Common.{sym, ◌∙◌, subst, arith, length-set, length-take, length-drop, eqb-true}
 use Rattle.std.proofs.lemmas.List.{length-replicate}
 use Rattle.std.proofs.lemmas.Bool.{eqb-false}
-use Rattle.wire.specs.Test.{byTest}
+use Rattle.wire.specs.Test.{by_test}
 use Rattle.wire.specs.Buffer.{zeros}
 use Rattle.slot_word.proofs.WordLaws.{taken_out}
 use Rattle.record.specs.Names.{END_REQUEST, REQUEST_COMPLETE}
@@ -73,7 +73,7 @@ able_sized m i z h = record { count_fits = z.counts_fit i h; bytes_size = room_l
 counts_put : (waits : List ℕ) (i : ℕ) (w : Wait) → length waits ≡ WAITS → i < SLOTS → w.count ≤ ROOM → ((j : ℕ) → j < SLOTS → count_at waits j ≤ ROOM)
     → (j : ℕ) → j < SLOTS → count_at (numbers_at waits i w) j ≤ ROOM
 counts_put waits i w full low h f j g =
-    byTest (eqb j i)
+    by_test (eqb j i)
     (λ e. let same : j ≡ i = eqb-true j i e in
     subst (λ (k : ℕ). count_at (numbers_at waits i w) k ≤ ROOM) (sym same) (rw (count_of_put waits i w full low) h))
     (λ e. rw (count_of_other waits i w full low j g (eqb-false j i e)) (f j g))

@@ -3,7 +3,7 @@ use Rattle.std.specs.Prelude.{◌≡◌, refl, ℕ, zero, suc, ◌+◌, ◌*◌,
 use Rattle.std.proofs.Common.{sym, ap, ◌∙◌, arith, add-zero, zero-add, length-append, ltb-true}
 use mathlib.Core.List.{List, [], ◌∷◌, ◌++◌, flatten}
 use Rattle.std.proofs.Math.Option.{Option, none, some}
-use Rattle.wire.specs.Test.{byTest}
+use Rattle.wire.specs.Test.{by_test}
 use Rattle.wire.specs.Buffer.{put_at}
 use Rattle.wire.proofs.BufferLaws.{put_none, put_put}
 use Rattle.machine_queue.specs.Pump.{next_waiting}
@@ -31,7 +31,7 @@ next_in m = next_waiting SLOTS SLOTS (slot_waits m) (first_slot (get_or m.waits 
 
 -- The slot to begin with is one.
 pub first_below : (n : ℕ) → first_slot n < SLOTS
-first_below n = byTest (ltb n SLOTS) (λ e. rw e (ltb-true n SLOTS e)) (λ e. rw e (omega arith))
+first_below n = by_test (ltb n SLOTS) (λ e. rw e (ltb-true n SLOTS e)) (λ e. rw e (omega arith))
 
 -- So is the one that is served next.
 pub next_below : (m : QueueMemory) (i : ℕ) → next_in m ≡ some i → i < SLOTS

@@ -1,12 +1,12 @@
 -- With a queue too the call up to the next event stands for steps of a run: what it leaves, tells and uses is what the
 -- steps leave, tell and use. Row 9 with what waits is tested once in the call and at each of the steps; that comes to
 -- the same, since a step after which another follows takes and frees no slot and leaves the connection open.
-use Rattle.std.specs.Prelude.{◌≡◌, refl, Bool, true, false, List, [], ◌∷◌, ◌++◌, map, take, drop}
+use Rattle.std.specs.Prelude.{◌≡◌, refl, Bool, true, false, List, [], ◌∷◌, ◌++◌, map, take, drop, if◌then◌else◌}
 use Rattle.std.proofs.Common.{sym, ap, ap₂, ◌∙◌, append-nil, arith, length-drop, drop-drop, take-add}
 use Prim.Native.Nat.{ℕ, zero, suc, ◌+◌, ◌-◌, ◌≤◌, ◌<◌}
 use mathlib.Mathlib.Data.List.Basic.Function
 use Rattle.std.proofs.Math.ListN.{length}
-use Rattle.wire.specs.Test.{if◌then◌else◌, ◌=?◌, byTest}
+use Rattle.wire.specs.Test.{◌=?◌, by_test}
 use Rattle.wire.proofs.Bytes.{AllBytes, drop_bytes}
 use Rattle.record.specs.Split.{split_in, split}
 use Rattle.machine.specs.Timeline.{Item, byte_items}
@@ -92,11 +92,11 @@ record Follows (m : QueueMemory) (piece : List ℕ) : Type 0 where
 taken_well : (m : QueueMemory) (piece : List ℕ) → (queue_step m piece).refusal ≡ 0 → waits_well m ≡ true
 unfolding queue_step queue_step_refusal
 taken_well m piece e =
-    byTest (waits_well m)
+    by_test (waits_well m)
     (λ t. t)
     (λ t.
     let lost = shape_lost m t in
-    byTest (length m.memory.store =? STORE)
+    by_test (length m.memory.store =? STORE)
     (λ s. let z : ◌≡◌ {A = ℕ} 9 0 = simp (s, lost) at e in absurd (omega arith))
     (λ s. let z : ◌≡◌ {A = ℕ} 2 0 = simp s at e in absurd (omega arith)))
 
@@ -127,7 +127,7 @@ follows m piece t =
 pub next_last : (m : QueueMemory) (piece : List ℕ) → Final m piece → queue_next m piece ≡ queue_step m piece
 unfolding queue_next queue_step
 next_last m piece =
-    byTest (queue_step_refusal m =? 0)
+    by_test (queue_step_refusal m =? 0)
     (λ t. simp t (λ e. next_step m.memory.state m.memory.store piece ∙ simp e))
     (λ t. simp t (λ e. refl))
 
@@ -159,7 +159,7 @@ less_left m piece t =
 
 -- an empty piece takes one step
 stops : (m : QueueMemory) (piece : List ℕ) → length piece ≤ 0 → Final m piece
-stops m piece h = byTest (goes_on (queue_step m piece) (length piece)) (λ t. absurd (omega (arith, less_left m piece t))) (λ t. t)
+stops m piece h = by_test (goes_on (queue_step m piece) (length piece)) (λ t. absurd (omega (arith, less_left m piece t))) (λ t. t)
 
 -- a bound that is large enough is as good as another
 enough : (k k' : ℕ) (m : QueueMemory) (piece : List ℕ) → length piece ≤ k → length piece ≤ k' → queue_steps_in k m piece ≡ queue_steps_in k' m piece
@@ -168,7 +168,7 @@ enough zero zero m piece h h' = refl
 enough zero (suc k') m piece h h' = simp (stops m piece h)
 enough (suc k) zero m piece h h' = simp (stops m piece h')
 enough (suc k) (suc k') m piece h h' =
-    byTest (goes_on (queue_step m piece) (length piece))
+    by_test (goes_on (queue_step m piece) (length piece))
     (λ t.
     let n = less_left m piece t in
     simp t (ap (λ (os : List QueueOperation). StepOver piece ∷ os) (enough k k' (after_step m piece) (rest_of m piece) (omega (arith, n)) (omega (arith, n)))))
@@ -181,7 +181,7 @@ pub steps_step : (m : QueueMemory) (piece : List ℕ)
 unfolding queue_steps queue_steps_in
 steps_step m piece =
     enough (length piece) (suc (length piece)) m piece (omega arith) (omega arith)
-    ∙ byTest (goes_on (queue_step m piece) (length piece))
+    ∙ by_test (goes_on (queue_step m piece) (length piece))
     (λ t.
     let n = less_left m piece t in
     simp t (ap (λ (os : List QueueOperation). StepOver piece ∷ os) (enough (length piece) (length (rest_of m piece)) (after_step m piece) (rest_of m piece) (omega (arith, n)) (omega arith))))
@@ -196,7 +196,7 @@ module _ (P : QueueMemory → List ℕ → List QueueOperation → Type 0) (last
   unfolding queue_steps_in
   within zero m piece h = last m piece (stops m piece h)
   within (suc k) m piece h =
-      byTest (goes_on (queue_step m piece) (length piece))
+      by_test (goes_on (queue_step m piece) (length piece))
       (λ t.
       let low : length (rest_of m piece) ≤ k = omega (arith, less_left m piece t) in
       simp t (more m piece _ t (within k (after_step m piece) (rest_of m piece) low)))
@@ -254,7 +254,7 @@ step_notes : (m : QueueMemory) (piece : List ℕ) → Final m piece
     → notes (queue_step m piece).event (used_of m piece) ≡ notes (queue_step m piece).event (shown_by (queue_step m piece) piece)
 unfolding queue_step
 step_notes m piece =
-    byTest (queue_step_refusal m =? 0)
+    by_test (queue_step_refusal m =? 0)
     (λ t. simp t (last_notes m.memory.state m.memory.store piece))
     (λ t. simp t (λ e. refl))
 
@@ -262,7 +262,7 @@ step_notes m piece =
 shows_used : (m : QueueMemory) (piece : List ℕ) → count_of (queue_next m piece).event ≤ (queue_next m piece).used
 unfolding queue_next
 shows_used m piece =
-    byTest (queue_step_refusal m =? 0) (λ t. simp t (next_shows m.memory.state m.memory.store piece)) (λ t. simp t (omega arith))
+    by_test (queue_step_refusal m =? 0) (λ t. simp t (next_shows m.memory.state m.memory.store piece)) (λ t. simp t (omega arith))
 
 -- Of all that is told on the way, what the call tells is all. (A premise of isolation speaks of what is told.)
 pub steps_notes : (m : QueueMemory) (piece : List ℕ) → notes_all m (queue_steps m piece) ≡ notes (queue_next m piece).event (shown_by (queue_next m piece) piece)

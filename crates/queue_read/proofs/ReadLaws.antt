@@ -1,8 +1,8 @@
 -- The calls that read, by whether they are barred: refused by 9, or as without a queue.
-use Rattle.std.specs.Prelude.{ℕ, ◌≤◌, ◌≡◌, Bool, true, false, List, length}
+use Rattle.std.specs.Prelude.{ℕ, ◌≤◌, ◌≡◌, Bool, true, false, List, length, if◌then◌else◌}
 use Rattle.std.proofs.Common.{sym, ap, ◌∙◌, arith}
 use Rattle.std.proofs.lemmas.Bool.{eqb-false}
-use Rattle.wire.specs.Test.{if◌then◌else◌, ◌=?◌, byTest}
+use Rattle.wire.specs.Test.{◌=?◌, by_test}
 use Rattle.connection.specs.Sizes.{STORE}
 use Rattle.connection.specs.Step.{State, Stepped, stepped, step_refusal, stays}
 use Rattle.connection.proofs.Laws.Progress.{step_refused, step_uses_no_more}
@@ -23,7 +23,7 @@ step_free : (m : QueueMemory) (piece : List ℕ) → barred m ≡ false → queu
 unfolding queue_step
 step_free m piece e =
     let n = step_refusal (conn_of m) m.memory.store in
-    byTest (n =? 0)
+    by_test (n =? 0)
     (λ t. simp (free_step m e, t))
     (λ t. simp (free_step m e, t, step_refused m.memory.state m.memory.store piece (eqb-false n 0 t)))
 
@@ -42,7 +42,7 @@ next_free : (m : QueueMemory) (piece : List ℕ) → barred m ≡ false → queu
 unfolding queue_next
 next_free m piece e =
     let n = step_refusal (conn_of m) m.memory.store in
-    byTest (n =? 0)
+    by_test (n =? 0)
     (λ t. simp (free_step m e, t))
     (λ t. simp (free_step m e, t, next_alone m.memory.state m.memory.store piece t))
 
@@ -54,11 +54,11 @@ module _ (m : QueueMemory) (piece : List ℕ) where
       → steps_beside (waits_well m) on m.memory.state m.memory.store piece ≡ call
   unfolding steps_beside is_barred
   by_barred on call bar free =
-      byTest (waits_well m)
-      (λ w. byTest (length m.memory.store =? STORE)
+      by_test (waits_well m)
+      (λ w. by_test (length m.memory.store =? STORE)
       (λ t. simp w (sym (free (simp (w, t)))))
       (λ t. simp w (sym (free (simp t)))))
-      (λ w. byTest (length m.memory.store =? STORE)
+      (λ w. by_test (length m.memory.store =? STORE)
       (λ t. simp (w, t) (sym (bar (simp (w, t)))))
       (λ t. simp (w, t) (sym (free (simp t)))))
 
@@ -72,13 +72,13 @@ module _ (m : QueueMemory) (piece : List ℕ) where
 pub step_inside : (m : QueueMemory) (piece : List ℕ) → (queue_step m piece).used ≤ length piece
 unfolding queue_step
 step_inside m piece =
-    byTest (queue_step_refusal m =? 0)
+    by_test (queue_step_refusal m =? 0)
     (λ t. simp t (step_uses_no_more m.memory.state m.memory.store piece))
     (λ t. simp t (omega arith))
 
 pub next_inside : (m : QueueMemory) (piece : List ℕ) → (queue_next m piece).used ≤ length piece
 unfolding queue_next
 next_inside m piece =
-    byTest (queue_step_refusal m =? 0)
+    by_test (queue_step_refusal m =? 0)
     (λ t. simp t (next_uses_no_more m.memory.state m.memory.store piece))
     (λ t. simp t (omega arith))

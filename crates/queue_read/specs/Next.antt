@@ -1,6 +1,6 @@
 -- Steps up to the next event, with what waits in shape.
-use Rattle.std.specs.Prelude.{List, ℕ}
-use Rattle.wire.specs.Test.{if◌then◌else◌, ◌=?◌}
+use Rattle.std.specs.Prelude.{List, ℕ, if◌then◌else◌}
+use Rattle.wire.specs.Test.{◌=?◌}
 use Rattle.connection.specs.Step.{Stepped, stays}
 use Rattle.call_step.specs.Next.{next_event}
 use Rattle.queue.specs.Calls.{QueueMemory, queue_step_refusal}

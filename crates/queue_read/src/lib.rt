@@ -2,8 +2,8 @@
 // tested for its shape, and dropped where the connection closes. (Both is done inside the loop of `call_step`.)
 #![tactic(auto)]
 
-ghost use Rattle.std.specs.Prelude.{◌≡◌, List, ℕ, length};
-ghost use Rattle.wire.specs.Test.{if◌then◌else◌, ◌=?◌};
+ghost use Rattle.std.specs.Prelude.{◌≡◌, List, ℕ, length, if◌then◌else◌};
+ghost use Rattle.wire.specs.Test.{◌=?◌};
 ghost use Rattle.connection.specs.Sizes.{STORE};
 ghost use Rattle.connection.specs.Step.{started};
 ghost use Rattle.call_start.specs.Answer.{started_by};

@@ -7,7 +7,7 @@ use Rattle.std.specs.Prelude.{◌≡◌, refl, List, [], ◌∷◌, true, false,
 use Rattle.std.proofs.Common.{ap, sym, subst, eqb-true}
 use Rattle.std.proofs.Math.Option.{Option, none, some}
 use Rattle.std.proofs.lemmas.Bool.{not-false}
-use Rattle.wire.specs.Test.{byTest, ◌<?◌, ◌=?◌}
+use Rattle.wire.specs.Test.{by_test, ◌<?◌, ◌=?◌}
 use Rattle.record.specs.Names.{END_REQUEST, REQUEST_COMPLETE}
 use Rattle.record.specs.Body.{end_body_bytes}
 use Rattle.record_writer.specs.Written.{record_bytes}
@@ -87,7 +87,7 @@ queued_rows m id (D.ToFinish status) = rows_of m id ((5 when is_leaving m id) �
 step_change : (m : QueueMemory) (piece : List ℕ) → Change m (StepOver piece) (queue_after m (StepOver piece))
 unfolding queue_after queue_step queue_step_refusal
 step_change m piece =
-    byTest (queue_step_refusal m =? 0)
+    by_test (queue_step_refusal m =? 0)
     (λ t.
     let o : (conn_of m).«open» ≡ true = not-false (conn_of m).«open» (let_through (step_rows m) 1 (eqb-true (queue_step_refusal m) 0 t) refl) in
     rw t (Steps piece o))
@@ -99,15 +99,15 @@ unfolding queue_called straight_say straight_end straight_finish called
 straight_change m id (ForRead q) = Keeps
 straight_change m id (ForSay o content buffer) =
     let rows = straight_rows m id (ForSay o content buffer) in
-    byTest (eqb (refusal rows) 0) (λ t. rw t (Writes id (ForSay o content buffer) (not-false (conn_of m).«open» (let_through rows 1 (eqb-true (refusal rows) 0 t) refl))))
+    by_test (eqb (refusal rows) 0) (λ t. rw t (Writes id (ForSay o content buffer) (not-false (conn_of m).«open» (let_through rows 1 (eqb-true (refusal rows) 0 t) refl))))
     (λ t. rw t (moved (same_with m) Keeps))
 straight_change m id (ForEnd o buffer) =
     let rows = straight_rows m id (ForEnd o buffer) in
-    byTest (eqb (refusal rows) 0) (λ t. rw t (Writes id (ForEnd o buffer) (not-false (conn_of m).«open» (let_through rows 1 (eqb-true (refusal rows) 0 t) refl))))
+    by_test (eqb (refusal rows) 0) (λ t. rw t (Writes id (ForEnd o buffer) (not-false (conn_of m).«open» (let_through rows 1 (eqb-true (refusal rows) 0 t) refl))))
     (λ t. rw t (moved (same_with m) Keeps))
 straight_change m id (ForFinish status buffer) =
     let rows = straight_rows m id (ForFinish status buffer) in
-    byTest (eqb (refusal rows) 0) (λ t. rw t (Writes id (ForFinish status buffer) (not-false (conn_of m).«open» (let_through rows 1 (eqb-true (refusal rows) 0 t) refl))))
+    by_test (eqb (refusal rows) 0) (λ t. rw t (Writes id (ForFinish status buffer) (not-false (conn_of m).«open» (let_through rows 1 (eqb-true (refusal rows) 0 t) refl))))
     (λ t. rw t (moved (same_with m) Keeps))
 
 -- ---- queued calls
@@ -143,7 +143,7 @@ queued_change : (m : QueueMemory) (id : ℕ) (a : D.Asking) → Change m (CallFo
 unfolding queue_called T.queue_say T.queue_end T.queue_finish say_refusal
 queued_change m id (D.Straight a) = straight_change m id a
 queued_change m id (D.ToSay o content) =
-    byTest (eqb (say_refusal m id o content) 0)
+    by_test (eqb (say_refusal m id o content) 0)
     (λ t.
     let e = eqb-true (say_refusal m id o content) 0 t in
     let k = active m id (let_through (queued_rows m id (D.ToSay o content)) 1 e refl) (let_through (queued_rows m id (D.ToSay o content)) 3 e refl) in
@@ -151,7 +151,7 @@ queued_change m id (D.ToSay o content) =
     (λ t. rw t Keeps)
 queued_change m id (D.ToEnd o) =
     let n = refusal (queued_rows m id (D.ToEnd o)) in
-    byTest (eqb n 0)
+    by_test (eqb n 0)
     (λ t.
     let e = eqb-true n 0 t in
     let k = active m id (let_through (queued_rows m id (D.ToEnd o)) 1 e refl) (let_through (queued_rows m id (D.ToEnd o)) 3 e refl) in
@@ -159,7 +159,7 @@ queued_change m id (D.ToEnd o) =
     (λ t. rw t Keeps)
 queued_change m id (D.ToFinish status) =
     let n = refusal (queued_rows m id (D.ToFinish status)) in
-    byTest (eqb n 0)
+    by_test (eqb n 0)
     (λ t.
     let e = eqb-true n 0 t in
     let k = active m id (let_through (queued_rows m id (D.ToFinish status)) 1 e refl) (let_through (queued_rows m id (D.ToFinish status)) 3 e refl) in
@@ -169,7 +169,7 @@ queued_change m id (D.ToFinish status) =
 -- ---- every operation
 turn_change : (m : QueueMemory) (allowance : ℕ) (buffer : List ℕ) → Change m (TurnWith allowance buffer) (pump m allowance buffer).left
 turn_change m allowance buffer =
-    byTest (eqb (pump_refusal m allowance buffer) 0)
+    by_test (eqb (pump_refusal m allowance buffer) 0)
     (λ t. moved (ap (λ (p : T.Pumped). p.left) (pump_done m allowance buffer t)) (Turns allowance buffer))
     (λ t. moved (ap (λ (p : T.Pumped). p.left) (pump_refused_lem m allowance buffer t)) Keeps)
 

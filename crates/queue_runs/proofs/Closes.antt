@@ -7,7 +7,7 @@ use Rattle.std.specs.Prelude.{◌≡◌, refl, List, [], ◌∷◌, ◌++◌, Bo
 use Rattle.std.proofs.Common.{ap, sym, ◌∙◌, eqb-true}
 use Rattle.std.proofs.Math.Option.{Option, none, some}
 use Rattle.std.proofs.lemmas.Bool.{eqb-false}
-use Rattle.wire.specs.Test.{byTest}
+use Rattle.wire.specs.Test.{by_test}
 use Rattle.slot_word.specs.Word.{taken}
 use Rattle.record.specs.Names.{END_REQUEST, REQUEST_COMPLETE}
 use Rattle.record.specs.Body.{end_body_bytes}
@@ -88,7 +88,7 @@ earlier m i p low (Ends status) j o t = go (request_at (conn_of m).table i).stat
     go : (b : Bool) → (conn_of (released_slot (served_last m i) i b)).«open» ≡ true
         → taken j (conn_of (released_slot (served_last m i) i b)).table.occupied ≡ true → Earlier m (released_slot (served_last m i) i b) j
     go true o t =
-        byTest (eqb j i)
+        by_test (eqb j i)
         (λ e. let q : j ≡ i = eqb-true j i e in both_ways (taken i (free_slot (conn_of m).table i).occupied) (rw q at t) (taken_of_free (conn_of m).table i low))
         (λ e. let d = eqb-false j i e in record { slot_taken = sym (taken_of_free_other (conn_of m).table i j d) ∙ t; same = other_of_free (conn_of m).table i j d })
     go false o t = both_ways false o refl
@@ -147,7 +147,7 @@ turn_closes (suc k) m g o c = go (next_waiting SLOTS SLOTS (slot_waits m) from) 
         let found = waits_found_lem m i g.steady low o w in
         let h = pump_good m g o (get_or (conn_of m).table.ids i 0) i found in
         let t = (find_at (conn_of m).table (get_or (conn_of m).table.ids i 0) i found).slot_taken in
-        byTest (conn_of (pump_slot m i).left).«open» (λ x. further i low x (f (pump_slot m i).left h x c)) (λ x. here i t h x)
+        by_test (conn_of (pump_slot m i).left).«open» (λ x. further i low x (f (pump_slot m i).left h x c)) (λ x. here i t h x)
 
 -- ---- every operation
 -- What closes.

@@ -6,7 +6,7 @@ use Rattle.std.specs.Prelude.{◌≡◌, refl, List, [], ◌∷◌, Bool, true, 
 use Rattle.std.proofs.Common.{ap, sym, ◌∙◌, inl, inr, arith, eq-eqb, eqb-true}
 use Rattle.std.proofs.lemmas.List.{length-replicate}
 use Rattle.std.proofs.lemmas.Bool.{eqb-false}
-use Rattle.wire.specs.Test.{byTest}
+use Rattle.wire.specs.Test.{by_test}
 use Rattle.wire.specs.Buffer.{zeros}
 use Rattle.connection.specs.declared.request.Request.{Request}
 use Rattle.connection.specs.declared.state.Conn.{Conn}
@@ -69,7 +69,7 @@ finish_shuts : (m : Memory) (id status : ℕ) (buffer : List ℕ) → m.state.co
     → ShutBy m (called m id (ForFinish status buffer)).memory
 unfolding called C.released
 finish_shuts m id status buffer o e =
-    byTest (eqb w.refusal 0) (λ t. done (finish_done m.state.conn m.store id status buffer (eqb-true w.refusal 0 t)).way)
+    by_test (eqb w.refusal 0) (λ t. done (finish_done m.state.conn m.store id status buffer (eqb-true w.refusal 0 t)).way)
     (λ t. both_ways m.state.conn.«open» o (ap (λ (c : Conn). c.«open») (sym (finish_refused m.state.conn m.store id status buffer (eqb-false w.refusal 0 t)).0) ∙ e))
   where
     w : C.Finished
@@ -94,7 +94,7 @@ nothing_call m id a o = record {
 
 -- Whoever waits is on an open connection.
 pub waits_open : (m : QueueMemory) (i : ℕ) → KeepsNothing m → slot_waits m i ≡ true → (conn_of m).«open» ≡ true
-waits_open m i k w = byTest (conn_of m).«open» (λ o. o) (λ o. both_ways (anything (wait_at m i)) w (nobody_at m i (k.waits o)))
+waits_open m i k w = by_test (conn_of m).«open» (λ o. o) (λ o. both_ways (anything (wait_at m i)) w (nobody_at m i (k.waits o)))
 
 -- A record of the pump keeps it.
 pub nothing_record : (m : QueueMemory) (i : ℕ) (p : PumpedRecord) → (conn_of m).«open» ≡ true → Serving m i p → KeepsNothing p.left

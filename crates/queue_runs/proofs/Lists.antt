@@ -7,12 +7,12 @@ use Rattle.std.specs.Prelude.{◌≡◌, refl, List, ◌⊎◌, Bool, true, fals
 use Rattle.std.proofs.Common.{ap, ap₂, ◌∙◌, inl, inr}
 use Rattle.std.proofs.Math.Option.{Option, none, some}
 use Rattle.std.proofs.lemmas.List.{length-replicate}
-use Rattle.wire.specs.Test.{byTest}
+use Rattle.wire.specs.Test.{by_test}
 use Rattle.wire.specs.Buffer.{zeros}
 use Rattle.connection.specs.declared.request.Request.{Request}
 use Rattle.connection.specs.declared.state.Table.{Table}
 use Rattle.connection.specs.declared.state.Slot.{Slot}
-use Rattle.connection.specs.Slots.{request_at, area_at, held_at, put_request, put_area, free_slot, find, onSlot}
+use Rattle.connection.specs.Slots.{request_at, area_at, held_at, put_request, put_area, free_slot, find, on_slot}
 use Rattle.connection.specs.Sizes.{SLOTS, AREA}
 use Rattle.connection.specs.Calls as C
 use Rattle.connection.specs.Request.{Held}
@@ -39,7 +39,7 @@ list_of_r R m = list_found (request_of R m)
 put_list : (R : ℕ) (m : Memory) (i : ℕ) (r : Request) → SameList (request_at m.state.conn.table i) r → list_of_r R (with_request m i r) ≡ list_of_r R m
 unfolding request_of request_at
 put_list R m i r same =
-    byTest m.state.conn.«open»
+    by_test m.state.conn.«open»
     (λ o. rw (o, find_put t i r R same.id) (go (find t R))) (λ o. rw o)
   where
     t : Table
@@ -48,7 +48,7 @@ put_list R m i r same =
     here : (j : ℕ) → take (get_or (put_request t i r).lengths j 0) (area_at m.store j) ≡ take (get_or t.lengths j 0) (area_at m.store j)
     here j = ap (λ (ls : List ℕ). take (get_or ls j 0) (area_at m.store j)) (lengths_stay t i r same)
 
-    go : (s : Slot) → list_found (onSlot s (λ j. some (held_at (put_request t i r) m.store j)) none) ≡ list_found (onSlot s (λ j. some (held_at t m.store j)) none)
+    go : (s : Slot) → list_found (on_slot s (λ j. some (held_at (put_request t i r) m.store j)) none) ≡ list_found (on_slot s (λ j. some (held_at t m.store j)) none)
     go (Slot.At j) = here j
     go Slot.Nowhere = refl
 
@@ -90,7 +90,7 @@ queued_keeps_lists R m id a q = change_keeps R m (queue_after m (CallFor id a)) 
 -- ---- the pump
 -- the request in a slot
 abbrev in_slot : Table → List ℕ → Slot → Option Held
-in_slot u l s = onSlot s (λ j. some (held_at u l j)) none
+in_slot u l s = on_slot s (λ j. some (held_at u l j)) none
 
 -- R's request with its area in n is that in m, or R is active no more.
 abbrev pub SameOrNone : ℕ → Memory → Memory → Type 0

@@ -2,12 +2,12 @@
 --
 -- One test goes once through a run: no call of R is refused by 10, no byte of R's records comes between a finish of R
 -- and its END, and nothing of R waits at the end. Where it holds, so do the premises.
-use Rattle.std.specs.Prelude.{◌≡◌, refl, ◌⊎◌, Bool, true, false, not, ℕ}
+use Rattle.std.specs.Prelude.{◌≡◌, refl, ◌⊎◌, Bool, true, false, not, ℕ, if◌then◌else◌}
 use Rattle.std.proofs.Common.{ap, inl, inr, arith, eq-eqb}
 use mathlib.Core.List.{List, [], ◌∷◌, ◌++◌, map, Memᴰ}
 use Rattle.std.proofs.lemmas.List.{length-replicate}
 use Rattle.std.proofs.lemmas.Bool.{not-true}
-use Rattle.wire.specs.Test.{if◌then◌else◌, ◌=?◌}
+use Rattle.wire.specs.Test.{◌=?◌}
 use Rattle.wire.proofs.Bytes.{AllBytes}
 use Rattle.wire.specs.Buffer.{zeros}
 use Rattle.record.specs.Split.{front_length, whole_front, front, split_in, split}

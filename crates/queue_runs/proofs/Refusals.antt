@@ -2,11 +2,11 @@
 --
 -- Whatever is asked of such a memory, no step, no call, straight or queued, and no turn of the pump is refused by 2 (a
 -- size is wrong) or by 9 (the state or what waits is not in shape). Every memory of a run is such a memory.
-use Rattle.std.specs.Prelude.{◌≡◌, List, [], ◌∷◌, Bool, true, false, ℕ, ◌*◌, length, eqb}
+use Rattle.std.specs.Prelude.{◌≡◌, List, [], ◌∷◌, Bool, true, false, ℕ, ◌*◌, length, eqb, if◌then◌else◌}
 use Rattle.std.proofs.Math.Path.{refl}
 use Rattle.std.proofs.Math.Bool.{not}
 use Rattle.std.proofs.Common.{arith, eq-eqb}
-use Rattle.wire.specs.Test.{if◌then◌else◌, byTest, ◌<?◌, ◌=?◌}
+use Rattle.wire.specs.Test.{by_test, ◌<?◌, ◌=?◌}
 use Rattle.connection.specs.declared.request.Request.{Request}
 use Rattle.connection.specs.declared.state.Conn.{Conn}
 use Rattle.connection.specs.declared.answer.Output.{Output}
@@ -77,7 +77,7 @@ zero_allowed = (λ e. omega arith, λ e. omega arith)
 -- a call of one request
 writes_allowed : (n : ℕ) (bytes : List ℕ) (after r : Request) (buffer : List ℕ) → Allowed n → Allowed (Of.writes n bytes after r buffer).refusal
 unfolding Of.writes
-writes_allowed n bytes after r buffer a = byTest (n =? 0) (λ t. rw t zero_allowed) (λ t. rw t a)
+writes_allowed n bytes after r buffer a = by_test (n =? 0) (λ t. rw t zero_allowed) (λ t. rw t a)
 
 say_one : (r : Request) (o : Output) (content buffer : List ℕ) → Allowed (Of.say_in r o content buffer).refusal
 unfolding Of.say_in
@@ -101,7 +101,7 @@ finish_one r status buffer =
 
 finishes_allowed : (c : Conn) (store : List ℕ) (i : ℕ) (keep : Bool) (w : Of.Writing) → Allowed w.refusal → Allowed (C.finishes c store i keep w).refusal
 unfolding C.finishes
-finishes_allowed c store i keep w a = byTest (w.refusal =? 0) (λ t. rw t (go keep)) (λ t. rw t a)
+finishes_allowed c store i keep w a = by_test (w.refusal =? 0) (λ t. rw t (go keep)) (λ t. rw t a)
   where
     kept : C.Finished
     kept = record { refusal = 0; written = w.written; closed = false; conn = C.released c i; store = put_area store i (zeros (length (area_at store i))); buffer = w.buffer }
@@ -118,23 +118,23 @@ four_allowed = (λ e. omega arith, λ e. omega arith)
 
 source_one : (h : Held) (name : List ℕ) → Allowed (source_number (Of.source_in h name))
 unfolding Of.source_in
-source_one h name = byTest (Of.no_list h.request) (λ t. rw t four_allowed) (λ t. rw t (go (first_named (list_of h) name)))
+source_one h name = by_test (Of.no_list h.request) (λ t. rw t four_allowed) (λ t. rw t (go (first_named (list_of h) name)))
   where
-    go : (f : Found) → Allowed (source_number (Of.onFound f (λ p. Of.FromStore) Of.FromFallback))
+    go : (f : Found) → Allowed (source_number (Of.on_found f (λ p. Of.FromStore) Of.FromFallback))
     go (Found.At p) = zero_allowed
     go Found.Nothing = zero_allowed
 
 pair_one : (h : Held) (k : ℕ) → Allowed (pair_refusal (Of.pair_in h k))
 unfolding Of.pair_in
-pair_one h k = byTest (Of.no_list h.request) (λ t. rw t four_allowed) (λ t. rw t (go (P.pair_number (list_of h) k)))
+pair_one h k = by_test (Of.no_list h.request) (λ t. rw t four_allowed) (λ t. rw t (go (P.pair_number (list_of h) k)))
   where
-    go : (f : Found) → Allowed (pair_refusal (Of.onFound f Of.PairIs (Of.PairRefused 7)))
+    go : (f : Found) → Allowed (pair_refusal (Of.on_found f Of.PairIs (Of.PairRefused 7)))
     go (Found.At p) = zero_allowed
     go Found.Nothing = (λ e. omega arith, λ e. omega arith)
 
 walk_one : (h : Held) → Allowed (Of.walk_in h).refusal
 unfolding Of.walk_in
-walk_one h = byTest (Of.no_list h.request) (λ t. rw t four_allowed) (λ t. rw t zero_allowed)
+walk_one h = by_test (Of.no_list h.request) (λ t. rw t four_allowed) (λ t. rw t zero_allowed)
 
 -- any call that only reads, as its request answers it
 reply_one : (h : Held) (q : Question) → Allowed (reply_number (reply_in h q))
@@ -153,7 +153,7 @@ refused_one n WalkOf a = a
 -- by the state's shape alone
 shape_of_lem : (m : QueueMemory) → queue_in_shape m ≡ true → in_shape (conn_of m) ≡ true
 unfolding queue_in_shape
-shape_of_lem m h = byTest (in_shape (conn_of m)) (λ e. e) (λ e. let z : ◌≡◌ {A = ℕ} 0 1 = cc (simp e at h) in absurd (omega arith))
+shape_of_lem m h = by_test (in_shape (conn_of m)) (λ e. e) (λ e. let z : ◌≡◌ {A = ℕ} 0 1 = cc (simp e at h) in absurd (omega arith))
 
 module _ (m : QueueMemory) (s : Sound m) where
   store_size : eqb (length m.memory.store) STORE ≡ true
@@ -180,18 +180,18 @@ module _ (m : QueueMemory) (s : Sound m) where
   say_allowed : (id : ℕ) (o : Output) (content buffer : List ℕ) → Allowed (C.say (conn_of m) id o content buffer).refusal
   unfolding C.say
   say_allowed id o content buffer =
-      byTest (eqb (C.call_refusal (conn_of m) id) 0) (λ t. rw t (say_one (request_at (conn_of m).table (C.slot_of (conn_of m) id)) o content buffer)) (λ t. rw t (call_allowed id))
+      by_test (eqb (C.call_refusal (conn_of m) id) 0) (λ t. rw t (say_one (request_at (conn_of m).table (C.slot_of (conn_of m) id)) o content buffer)) (λ t. rw t (call_allowed id))
 
   end_allowed : (id : ℕ) (o : Output) (buffer : List ℕ) → Allowed (C.end_stream (conn_of m) id o buffer).refusal
   unfolding C.end_stream
   end_allowed id o buffer =
-      byTest (eqb (C.call_refusal (conn_of m) id) 0) (λ t. rw t (end_one (request_at (conn_of m).table (C.slot_of (conn_of m) id)) o buffer)) (λ t. rw t (call_allowed id))
+      by_test (eqb (C.call_refusal (conn_of m) id) 0) (λ t. rw t (end_one (request_at (conn_of m).table (C.slot_of (conn_of m) id)) o buffer)) (λ t. rw t (call_allowed id))
 
   finish_allowed : (id status : ℕ) (buffer : List ℕ) → Allowed (C.finish (conn_of m) m.memory.store id status buffer).refusal
   unfolding C.finish
   finish_allowed id status buffer =
       let r = request_at (conn_of m).table (C.slot_of (conn_of m) id) in
-      byTest (eqb (C.lent_refusal (conn_of m) m.memory.store id) 0)
+      by_test (eqb (C.lent_refusal (conn_of m) m.memory.store id) 0)
       (λ t. rw t (finishes_allowed (conn_of m) m.memory.store (C.slot_of (conn_of m) id) r.state.keep (Of.finish_in r status buffer) (finish_one r status buffer))) (λ t. rw t (base_allowed id))
 
   -- ---- the calls with a queue
@@ -204,8 +204,8 @@ module _ (m : QueueMemory) (s : Sound m) where
   reply_allowed id q =
       let n = C.lent_refusal (conn_of m) m.memory.store id in
       rw (queue_replied_or_refused m id q, replied_or_refused (conn_of m) m.memory.store id q)
-      (byTest (eqb (lent_refusal m id) 0)
-      (λ t. byTest (eqb n 0) (λ u. rw (t, u) (reply_one (held_at (conn_of m).table m.memory.store (C.slot_of (conn_of m) id)) q)) (λ u. rw (t, u) (refused_one n q (base_allowed id))))
+      (by_test (eqb (lent_refusal m id) 0)
+      (λ t. by_test (eqb n 0) (λ u. rw (t, u) (reply_one (held_at (conn_of m).table m.memory.store (C.slot_of (conn_of m) id)) q)) (λ u. rw (t, u) (refused_one n q (base_allowed id))))
       (λ t. rw t (refused_one (lent_refusal m id) q (lent_allowed id))))
 
   answer_allowed : (id : ℕ) (a : Asking) → Allowed (number_in (queue_called m id a).answer)
@@ -213,19 +213,19 @@ module _ (m : QueueMemory) (s : Sound m) where
   answer_allowed id (D.Straight (ForRead q)) = reply_allowed id q
   answer_allowed id (D.Straight (ForSay o content buffer)) =
       let rows = straight_rows m id (ForSay o content buffer) in
-      byTest (eqb (refusal rows) 0) (λ t. rw t (say_allowed id o content buffer)) (λ t. rw t (rows_allowed rows refl (rw s.shape)))
+      by_test (eqb (refusal rows) 0) (λ t. rw t (say_allowed id o content buffer)) (λ t. rw t (rows_allowed rows refl (rw s.shape)))
   answer_allowed id (D.Straight (ForEnd o buffer)) =
       let rows = straight_rows m id (ForEnd o buffer) in
-      byTest (eqb (refusal rows) 0) (λ t. rw t (end_allowed id o buffer)) (λ t. rw t (rows_allowed rows refl (rw s.shape)))
+      by_test (eqb (refusal rows) 0) (λ t. rw t (end_allowed id o buffer)) (λ t. rw t (rows_allowed rows refl (rw s.shape)))
   answer_allowed id (D.Straight (ForFinish status buffer)) =
       let rows = straight_rows m id (ForFinish status buffer) in
-      byTest (eqb (refusal rows) 0) (λ t. rw t (finish_allowed id status buffer)) (λ t. rw t (rows_allowed rows (rw store_size) (rw s.shape)))
+      by_test (eqb (refusal rows) 0) (λ t. rw t (finish_allowed id status buffer)) (λ t. rw t (rows_allowed rows (rw store_size) (rw s.shape)))
   answer_allowed id (D.ToSay o content) =
-      byTest (eqb (say_refusal m id o content) 0) (λ t. rw t zero_allowed) (λ t. rw t (rows_allowed (queued_rows m id (D.ToSay o content)) (rw queue_size) (rw s.shape)))
+      by_test (eqb (say_refusal m id o content) 0) (λ t. rw t zero_allowed) (λ t. rw t (rows_allowed (queued_rows m id (D.ToSay o content)) (rw queue_size) (rw s.shape)))
   answer_allowed id (D.ToEnd o) =
-      byTest (eqb (refusal (queued_rows m id (D.ToEnd o))) 0) (λ t. rw t zero_allowed) (λ t. rw t (rows_allowed (queued_rows m id (D.ToEnd o)) refl (rw s.shape)))
+      by_test (eqb (refusal (queued_rows m id (D.ToEnd o))) 0) (λ t. rw t zero_allowed) (λ t. rw t (rows_allowed (queued_rows m id (D.ToEnd o)) refl (rw s.shape)))
   answer_allowed id (D.ToFinish status) =
-      byTest (eqb (refusal (queued_rows m id (D.ToFinish status))) 0) (λ t. rw t zero_allowed) (λ t. rw t (rows_allowed (queued_rows m id (D.ToFinish status)) refl (rw s.shape)))
+      by_test (eqb (refusal (queued_rows m id (D.ToFinish status))) 0) (λ t. rw t zero_allowed) (λ t. rw t (rows_allowed (queued_rows m id (D.ToFinish status)) refl (rw s.shape)))
 
   abbrev count_rows : List Row
   count_rows = (9 when not (queue_in_shape m)) ∷ (1 when not (conn_of m).«open») ∷ []
@@ -233,12 +233,12 @@ module _ (m : QueueMemory) (s : Sound m) where
   base_count : Allowed (C.active_count (conn_of m)).refusal
   unfolding C.active_count C.count_refusal
   base_count =
-      byTest (eqb (C.count_refusal (conn_of m)) 0) (λ t. rw t zero_allowed)
+      by_test (eqb (C.count_refusal (conn_of m)) 0) (λ t. rw t zero_allowed)
       (λ t. rw t (rows_allowed ((9 when not (in_shape (conn_of m))) ∷ (1 when not (conn_of m).«open») ∷ []) refl (rw conn_shape)))
 
   count_allowed : Allowed (queue_count m).refusal
   unfolding queue_count
-  count_allowed = byTest (eqb (refusal count_rows) 0) (λ t. rw t base_count) (λ t. rw t (rows_allowed count_rows refl (rw s.shape)))
+  count_allowed = by_test (eqb (refusal count_rows) 0) (λ t. rw t base_count) (λ t. rw t (rows_allowed count_rows refl (rw s.shape)))
 
   pump_allowed : (allowance : ℕ) (buffer : List ℕ) → Allowed (pump_refusal m allowance buffer)
   unfolding pump_refusal

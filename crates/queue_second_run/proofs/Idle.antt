@@ -10,13 +10,13 @@ use native.Mathlib.Omega.{arith}
 use Rattle.std.proofs.Math.ListN.{length}
 use Rattle.std.proofs.lemmas.List.{length-replicate}
 use borrow.Author.Tests.{eq-eqb, ne_eqb, le-leb, le-ltb, not-false}
-use Rattle.wire.specs.Test.{byTest, ◌<?◌}
+use Rattle.wire.specs.Test.{by_test, ◌<?◌}
 use Rattle.wire.specs.Buffer.{zeros}
 use Rattle.connection.specs.declared.state.Slot.{Slot}
 use Rattle.connection.specs.Sizes.{SLOTS, STORE}
 use Rattle.connection.specs.Refusal.{Row, ◌when◌, holds_in, refusal}
 use Rattle.connection.specs.RequestCalls as Of
-use Rattle.connection.specs.Slots.{request_at, find, onSlot, is_found}
+use Rattle.connection.specs.Slots.{request_at, find, on_slot, is_found}
 use Rattle.connection.specs.Calls as C
 use Rattle.connection.specs.Arguments.{ForRead, ForSay, ForEnd, ForFinish}
 use Rattle.connection.specs.Run.{Memory}
@@ -75,21 +75,21 @@ none_count w s h = sym (count_is w s) ∙ ap data_in (nothing_waits w h)
 -- Where nothing waits, nothing of R waits.
 pub none_of : (R : ℕ) (m : QueueMemory) → NothingWaits m → waits_of R m ≡ []
 unfolding waits_of wait_at
-none_of R m n = byTest (conn_of m).«open» (λ o. rw o (go (find (conn_of m).table R) refl)) (λ o. rw o)
+none_of R m n = by_test (conn_of m).«open» (λ o. rw o (go (find (conn_of m).table R) refl)) (λ o. rw o)
   where
-    go : (s : Slot) → find (conn_of m).table R ≡ s → onSlot s (λ i. atoms_in (wait_at m i)) [] ≡ []
+    go : (s : Slot) → find (conn_of m).table R ≡ s → on_slot s (λ i. atoms_in (wait_at m i)) [] ≡ []
     go (Slot.At i) e = nothing_waits (wait_at m i) (n i (find_at (conn_of m).table R i e).low)
     go Slot.Nowhere e = refl
 
 -- And R is not between its finish and its END.
 pub none_leaving : (R : ℕ) (m : QueueMemory) → NothingWaits m → leaving_of R m ≡ false
 unfolding leaving_of wait_at
-none_leaving R m n = byTest (conn_of m).«open» (λ o. rw o (go (find (conn_of m).table R) refl)) (λ o. rw o)
+none_leaving R m n = by_test (conn_of m).«open» (λ o. rw o (go (find (conn_of m).table R) refl)) (λ o. rw o)
   where
     last : (i : ℕ) → i < SLOTS → (wait_at m i).last ≡ false
     last i low = none_last (wait_at m i) (n i low)
 
-    go : (s : Slot) → find (conn_of m).table R ≡ s → onSlot s (λ i. last_at m.waits i) false ≡ false
+    go : (s : Slot) → find (conn_of m).table R ≡ s → on_slot s (λ i. last_at m.waits i) false ≡ false
     go (Slot.At i) e = last i (find_at (conn_of m).table R i e).low
     go Slot.Nowhere e = refl
 
@@ -110,12 +110,12 @@ not_ten rows h = ne_eqb (refusal rows) 10 (λ e. both_ways (holds_in 10 rows) (r
 -- where row 3 holds, the refusal is not by 10
 three_first : (rows : List Row) → holds_in 3 rows ≡ true → eqb (refusal rows) 10 ≡ false
 three_first rows h =
-    byTest (holds_in 2 rows) (λ a. rw a)
-    (λ a. byTest (holds_in 9 rows) (λ b. rw (a, b)) (λ b. byTest (holds_in 1 rows) (λ c. rw (a, b, c)) (λ c. rw (a, b, c, h))))
+    by_test (holds_in 2 rows) (λ a. rw a)
+    (λ a. by_test (holds_in 9 rows) (λ b. rw (a, b)) (λ b. by_test (holds_in 1 rows) (λ c. rw (a, b, c)) (λ c. rw (a, b, c, h))))
 
 -- rows of which that of 10 does not hold where that of 3 does not
 found_not_ten : (rows : List Row) → (holds_in 3 rows ≡ false → holds_in 10 rows ≡ false) → eqb (refusal rows) 10 ≡ false
-found_not_ten rows f = byTest (holds_in 3 rows) (three_first rows) (λ h. not_ten rows (f h))
+found_not_ten rows f = by_test (holds_in 3 rows) (three_first rows) (λ h. not_ten rows (f h))
 
 module _ (m : QueueMemory) (g : Good m) (n : NothingWaits m) (id : ℕ) where
   -- nothing waits in the slot of an active id
@@ -142,31 +142,31 @@ module _ (m : QueueMemory) (g : Good m) (n : NothingWaits m) (id : ℕ) where
   idle_not_ten (D.Straight (ForRead q)) l = refl
   idle_not_ten (D.Straight (ForSay o content buffer)) l =
       let rows = straight_rows m id (ForSay o content buffer) in
-      byTest (eqb (refusal rows) 0)
+      by_test (eqb (refusal rows) 0)
       (λ t. rw (t, say_rows_lem (conn_of m) id o buffer false false false content)
       (not_ten (call_rows (conn_of m) id (output_rows (conn_of m) id o buffer false false false (λ r. Of.say_bytes r o content) (find (conn_of m).table id))) refl))
       (λ t. rw t (found_not_ten rows idle_slot))
   idle_not_ten (D.Straight (ForEnd o buffer)) l =
       let rows = straight_rows m id (ForEnd o buffer) in
-      byTest (eqb (refusal rows) 0)
+      by_test (eqb (refusal rows) 0)
       (λ t. rw (t, end_rows_lem (conn_of m) id o buffer false false false)
       (not_ten (call_rows (conn_of m) id (output_rows (conn_of m) id o buffer false false false (λ r. Of.end_bytes r o) (find (conn_of m).table id))) refl))
       (λ t. rw t (found_not_ten rows idle_slot))
   idle_not_ten (D.Straight (ForFinish status buffer)) l =
       let rows = straight_rows m id (ForFinish status buffer) in
-      byTest (eqb (refusal rows) 0)
+      by_test (eqb (refusal rows) 0)
       (λ t. rw (t, finish_rows_lem (conn_of m) m.memory.store id false status buffer)
       (not_ten (lent_rows (conn_of m) m.memory.store id ((6 when of_slot (conn_of m) id (λ i. length buffer <? length (Of.finish_bytes (request_at (conn_of m).table i) status)) false) ∷ [])) refl))
       (λ t. rw t (found_not_ten rows idle_slot))
   idle_not_ten (D.ToSay o content) l =
       let rows = queued_rows m id (D.ToSay o content) in
-      byTest (eqb (refusal rows) 0) (λ t. rw t) (λ t. rw t (found_not_ten rows (idle_room content l)))
+      by_test (eqb (refusal rows) 0) (λ t. rw t) (λ t. rw t (found_not_ten rows (idle_room content l)))
   idle_not_ten (D.ToEnd o) l =
       let rows = queued_rows m id (D.ToEnd o) in
-      byTest (eqb (refusal rows) 0) (λ t. rw t) (λ t. rw t (not_ten rows refl))
+      by_test (eqb (refusal rows) 0) (λ t. rw t) (λ t. rw t (not_ten rows refl))
   idle_not_ten (D.ToFinish status) l =
       let rows = queued_rows m id (D.ToFinish status) in
-      byTest (eqb (refusal rows) 0) (λ t. rw t) (λ t. rw t (not_ten rows refl))
+      by_test (eqb (refusal rows) 0) (λ t. rw t) (λ t. rw t (not_ten rows refl))
 
 -- ---- a whole turn
 -- the length of the buffer
@@ -197,6 +197,6 @@ turn_left_lem m g o = ap (λ (p : Pumped). p.left) (pump_done m MOST wide_buffer
 -- Behind a whole turn nothing waits.
 pub turn_idle : (m : QueueMemory) → Good m → NothingWaits (queue_after m whole_turn)
 turn_idle m g =
-    byTest (conn_of m).«open»
+    by_test (conn_of m).«open»
     (λ o. subst NothingWaits (sym (turn_left_lem m g o)) (most_written m g))
     (λ o. subst NothingWaits (sym (closed_stays m (good_sound m g) o whole_turn)) (λ i low. nobody_at m i (g.steady.dropped o)))

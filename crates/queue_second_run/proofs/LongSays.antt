@@ -3,12 +3,12 @@
 -- Such a say is refused, wherever it comes: by a row before 10, or by 10. Where it is not by 10, the say of its first
 -- ROOM bytes is refused just so. So a run in which no call of R is refused by 10 is the same run with R's says
 -- shortened to ROOM bytes: it has the same memories, bytes and notes, and is settled too.
-use Rattle.std.specs.Prelude.{◌≡◌, Bool, true, false, not, ℕ, ◌+◌, ◌<◌, length, take, eqb, leb}
+use Rattle.std.specs.Prelude.{◌≡◌, Bool, true, false, not, ℕ, ◌+◌, ◌<◌, length, take, eqb, leb, if◌then◌else◌}
 use Rattle.std.proofs.Math.Path.{refl, ap, sym}
 use Rattle.std.proofs.Common.{◌∙◌, subst, arith, take_all, eqb-true, leb-true, leb-false}
 use mathlib.Core.List.{List, [], ◌∷◌, ◌++◌, map, Memᴰ}
 use Rattle.std.proofs.lemmas.Bool.{lt-leb}
-use Rattle.wire.specs.Test.{if◌then◌else◌, byTest, ◌=?◌}
+use Rattle.wire.specs.Test.{by_test, ◌=?◌}
 use Rattle.record.specs.Names.{OVERLOADED}
 use Rattle.record.specs.Split.{split}
 use Rattle.machine.specs.Timeline.{RequestCall, CountCall, Item, ByteItem, CallItem, byte_items, item_bytes, Scan, ScanHeader, scan_next, is_own, is_own_call, purge_from}
@@ -102,20 +102,20 @@ no_room_lem m id content l = let h : ROOM < (wait_at m (T.slot_of m id)).count +
 -- A say that is too long, and not refused by 10, is refused by a row before it.
 pub long_first : (m : QueueMemory) (id : ℕ) (o : Output) (content : List ℕ) → leb (length content) ROOM ≡ false → eqb (say_refusal m id o content) 10 ≡ false → eqb (first_refusal m id o) 0 ≡ false
 long_first m id o content l h =
-    byTest (eqb (first_refusal m id o) 0) (λ e. both_ways (eqb (say_refusal m id o content) 10) (rw (say_last m id o content e, no_room_lem m id content l)) h) (λ e. e)
+    by_test (eqb (first_refusal m id o) 0) (λ e. both_ways (eqb (say_refusal m id o content) 10) (rw (say_last m id o content e, no_room_lem m id content l)) h) (λ e. e)
 
 -- Where a row before 10 holds, or there are at most ROOM bytes, the shortened say does the same.
 pub say_short : (m : QueueMemory) (id : ℕ) (o : Output) (content : List ℕ) → (leb (length content) ROOM ≡ false → eqb (first_refusal m id o) 0 ≡ false)
     → queue_called m id (D.ToSay o (take ROOM content)) ≡ queue_called m id (D.ToSay o content)
 say_short m id o content f =
-    byTest (leb (length content) ROOM)
+    by_test (leb (length content) ROOM)
     (λ l. ap (λ (c : List ℕ). queue_called m id (D.ToSay o c)) (take_all ROOM content (leb-true (length content) ROOM l)))
     (λ l. first_called m id o (take ROOM content) (f l) ∙ sym (first_called m id o content (f l)))
 
 -- A queued say answers with its refusal.
 pub say_answer : (m : QueueMemory) (id : ℕ) (o : Output) (content : List ℕ) → (queue_called m id (D.ToSay o content)).answer ≡ Queued (say_refusal m id o content)
 unfolding queue_called T.queue_say
-say_answer m id o content = byTest (eqb (say_refusal m id o content) 0) (λ t. rw t (ap Queued (sym (eqb-true (say_refusal m id o content) 0 t)))) (λ t. rw t)
+say_answer m id o content = by_test (eqb (say_refusal m id o content) 0) (λ t. rw t (ap Queued (sym (eqb-true (say_refusal m id o content) 0 t)))) (λ t. rw t)
 
 -- A call that is not refused by 10 does the same shortened.
 pub call_short : (m : QueueMemory) (id : ℕ) (a : Asking) → is_ten (queue_called m id a).answer ≡ false → queue_called m id (shortened a) ≡ queue_called m id a
@@ -139,11 +139,11 @@ unfolding purge_from is_own_call
 short_purged R k [] = refl
 short_purged R k (ByteItem b ∷ t) =
     let i = short_purged R (scan_next R k b) t in
-    rw (short_bytes_lem R t) (byTest (is_own R k (b ∷ item_bytes t)) (λ d. rw d (ap (λ l. ByteItem b ∷ l) i)) (λ d. rw d i))
+    rw (short_bytes_lem R t) (by_test (is_own R k (b ∷ item_bytes t)) (λ d. rw d (ap (λ l. ByteItem b ∷ l) i)) (λ d. rw d i))
 short_purged R k (CallItem CountCall ∷ t) = short_purged R k t
 short_purged R k (CallItem (RequestCall id a) ∷ t) =
     let i = short_purged R k t in
-    byTest (eqb id R) (λ e. rw e (rw e (ap (λ l. CallItem (RequestCall id (shortened a)) ∷ l) i))) (λ e. rw e i)
+    by_test (eqb id R) (λ e. rw e (rw e (ap (λ l. CallItem (RequestCall id (shortened a)) ∷ l) i))) (λ e. rw e i)
 
 -- bytes as items are not shortened
 short_used : (R : ℕ) (x : List ℕ) (t : List (Item Asking)) → map (short_item R) (byte_items x ++ t) ≡ byte_items x ++ map (short_item R) t
@@ -155,7 +155,7 @@ short_used R (b ∷ x) t = ap (λ l. ByteItem b ∷ l) (short_used R x t)
 module _ (R : ℕ) where
   -- a call of any id
   called_short : (m : QueueMemory) (id : ℕ) (a : Asking) → (id ≡ R → is_ten (queue_called m id a).answer ≡ false) → queue_called m id (short_call R id a) ≡ queue_called m id a
-  called_short m id a h = byTest (eqb id R) (λ e. rw e (call_short m id a (h (eqb-true id R e)))) (λ e. rw e)
+  called_short m id a h = by_test (eqb id R) (λ e. rw e (call_short m id a (h (eqb-true id R e)))) (λ e. rw e)
 
   -- What it leaves is the same.
   pub left_short : (m : QueueMemory) (id : ℕ) (a : Asking) → (id ≡ R → is_ten (queue_called m id a).answer ≡ false) → queue_after m (CallFor id (short_call R id a)) ≡ queue_after m (CallFor id a)

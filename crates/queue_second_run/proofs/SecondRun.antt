@@ -5,11 +5,10 @@
 -- connection is closed. B is a run for R's items of A: no step gets stuck. It is settled, if no call of R in it is
 -- refused by 10; so it is if no queued say of R in A has more than ROOM bytes, whatever A is. `SecondRunExists` does
 -- without that premise where A fulfils what isolation asks of it.
-use Rattle.std.specs.Prelude.{◌≡◌, Bool, true, false, ◌⊎◌, ℕ, zero, suc, ◌≤◌, ◌<◌, length}
+use Rattle.std.specs.Prelude.{◌≡◌, Bool, true, false, ◌⊎◌, ℕ, zero, suc, ◌≤◌, ◌<◌, length, if◌then◌else◌}
 use Rattle.std.proofs.Math.Path.{refl, ap}
 use mathlib.Core.List.{List, [], ◌∷◌, ◌++◌}
 use Rattle.std.proofs.Common.{inl, inr, arith, take_all}
-use Rattle.wire.specs.Test.{if◌then◌else◌}
 use Rattle.wire.proofs.Bytes.{AllBytes, take_bytes}
 use Rattle.machine.specs.Timeline.{Call, RequestCall, CountCall, Item, ByteItem, CallItem, byte_items, item_bytes, Scan, ScanHeader, scan_next, is_own, is_own_call, purge_from, purge}
 use Rattle.connection.specs.Sizes.{STORE, QUERY}

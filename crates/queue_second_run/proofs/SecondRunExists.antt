@@ -4,7 +4,7 @@
 -- in A, and not by 10. Shorten all queued says of R to ROOM bytes: A stays the same run, and its second run is
 -- isolated from it. So there the shortened say is refused as in A, or R is active no more; and so is the long one, by
 -- a row before 10.
-use Rattle.std.specs.Prelude.{◌≡◌, Bool, false, not, ◌⊎◌, ℕ, ◌≤◌, ◌<◌, length, take, leb}
+use Rattle.std.specs.Prelude.{◌≡◌, Bool, false, not, ◌⊎◌, ℕ, ◌≤◌, ◌<◌, length, take, leb, if◌then◌else◌}
 use Rattle.std.proofs.Math.Path.{refl, subst}
 use Rattle.std.proofs.Common.{ap, sym, ◌∙◌, inl, inr, arith, length-take}
 use mathlib.Core.List.{List, [], ◌∷◌, ◌++◌, map}
@@ -12,13 +12,13 @@ use Rattle.std.proofs.Math.Option.{none, some}
 use Rattle.std.proofs.Math.Bool.{true}
 use Rattle.std.proofs.Math.Dec.{eqb}
 use borrow.Author.Tests.{eqb-true, eqb-false, eq-eqb, leb-true}
-use Rattle.wire.specs.Test.{if◌then◌else◌, byTest, ◌≤?◌, ◌=?◌}
+use Rattle.wire.specs.Test.{by_test, ◌≤?◌, ◌=?◌}
 use Rattle.machine.specs.Timeline.{RequestCall, CountCall, Item, ByteItem, CallItem, byte_items, item_bytes, Scan, ScanHeader, scan_next, is_own, is_own_call, purge_from, purge}
 use Rattle.connection.specs.declared.state.Slot.{Slot}
 use Rattle.connection.specs.declared.answer.Output.{Output}
 use Rattle.connection.specs.Sizes.{STORE, QUERY}
 use Rattle.connection.specs.Bytewise.{Note, notes}
-use Rattle.connection.specs.Slots.{find, onSlot, held_at, is_found}
+use Rattle.connection.specs.Slots.{find, on_slot, held_at, is_found}
 use Rattle.connection.specs.Run.{request_of}
 use Rattle.queue_slot.specs.Wait.{ROOM, has_room_for}
 use Rattle.queue.specs.Calls as T
@@ -74,10 +74,10 @@ unfolding askings_of purge_from is_own_call
 askings_purged R k [] = refl
 askings_purged R k (ByteItem b ∷ t) =
     let i = askings_purged R (scan_next R k b) t in
-    byTest (is_own R k (b ∷ item_bytes t)) (λ d. rw d i) (λ d. rw d i)
+    by_test (is_own R k (b ∷ item_bytes t)) (λ d. rw d i) (λ d. rw d i)
 askings_purged R k (CallItem (RequestCall id a) ∷ t) =
     let i = askings_purged R k t in
-    byTest (eqb id R) (λ e. rw e (rw e (ap (λ l. a ∷ l) i))) (λ e. rw e i)
+    by_test (eqb id R) (λ e. rw e (rw e (ap (λ l. a ∷ l) i))) (λ e. rw e i)
 askings_purged R k (CallItem CountCall ∷ t) = askings_purged R k t
 
 -- notes are no calls
@@ -127,7 +127,7 @@ module _ (R : ℕ) where
   long_call : (m : QueueMemory) (id : ℕ) (a : Asking) (l : List Shown) (bs : List Asking) → is_ten (queue_called m id a).answer ≡ false → LongRefused l bs
       → LongRefused (call_shown m id (shortened a) ∷ l) (a ∷ bs)
   long_call m id a l bs h r =
-      byTest (leaving_of R m) (λ t. rw t r) (λ t. rw t (λ x. inl (long_answer m id a h x), r))
+      by_test (leaving_of R m) (λ t. rw t r) (λ t. rw t (λ x. inl (long_answer m id a h x), r))
 
   -- in a run in which no call of R is refused by 10, shortened, what was too long is refused
   long_shown : (os : List QueueOperation) (m : QueueMemory) → NeverTenFrom R m os → LongRefused (shown_all R m (short_run R os)) (askings_of R (queue_timeline m os))
@@ -141,7 +141,7 @@ module _ (R : ℕ) where
       let n = queue_after m (CallFor id a) in
       let r : LongRefused (shown_all R (queue_after m (CallFor id (short_call R id a))) (short_run R os)) (askings_of R (queue_timeline n os)) =
       subst (λ k. LongRefused (shown_all R k (short_run R os)) (askings_of R (queue_timeline n os))) (sym (left_short R m id a h.0)) (long_shown os n h.1) in
-      byTest (eqb id R)
+      by_test (eqb id R)
       (λ e. rw e (long_call m id a (shown_all R (queue_called m id (shortened a)).left (short_run R os)) (askings_of R (queue_timeline n os)) (h.0 (eqb-true id R e)) (rw e at r)))
       (λ e. rw e (rw e at r))
   long_shown (CountActive ∷ os) m h = long_shown os m h
@@ -152,7 +152,7 @@ module _ (R : ℕ) where
 absent_first : (m : QueueMemory) (id : ℕ) (o : Output) → find (conn_of m).table id ≡ Slot.Nowhere → eqb (first_refusal m id o) 0 ≡ false
 unfolding first_refusal
 absent_first m id o e =
-    byTest (eqb (first_refusal m id o) 0)
+    by_test (eqb (first_refusal m id o) 0)
     (λ t. both_ways (not (is_found (find (conn_of m).table id))) (rw e) (let_through (first_rows m id o) 3 (eqb-true (first_refusal m id o) 0 t) refl)) (λ t. t)
 
 -- where there is no request of R, R is in no slot
@@ -160,7 +160,7 @@ absent : (R : ℕ) (m : QueueMemory) → (conn_of m).«open» ≡ true → reque
 unfolding request_of
 absent R m o e = go (find (conn_of m).table R) (rw o at e)
   where
-    go : (s : Slot) → onSlot s (λ i. some (held_at (conn_of m).table m.memory.store i)) none ≡ none → s ≡ Slot.Nowhere
+    go : (s : Slot) → on_slot s (λ i. some (held_at (conn_of m).table m.memory.store i)) none ≡ none → s ≡ Slot.Nowhere
     go (Slot.At i) x = let z : ◌≡◌ {A = ℕ} 0 1 = cc in absurd (omega arith)
     go Slot.Nowhere x = refl
 
@@ -184,14 +184,14 @@ module _ (R : ℕ) (m : QueueMemory) (g : Good m) (n : NothingWaits m) (o : (con
 
   -- a say whose shortened one is refused, or R not active, is refused by a row before 10
   refused_first : (s : Output) (content : List ℕ) → ((queue_called m R (D.ToSay s (take ROOM content))).answer ≡ Queued 0 → ⊥) ⊎ (request_of R m.memory ≡ none) → eqb (first_refusal m R s) 0 ≡ false
-  refused_first s content (inl x) = byTest (eqb (first_refusal m R s) 0) (λ e. absurd (x (short_through s content e))) (λ e. e)
+  refused_first s content (inl x) = by_test (eqb (first_refusal m R s) 0) (λ e. absurd (x (short_through s content e))) (λ e. e)
   refused_first s content (inr x) = absent_first m R s (absent R m o x)
 
   -- Where nothing waits, a call of R is not refused by 10, if what is too long is refused when it is shortened.
   unheld : (a : Asking) → (IsLong a → ((queue_called m R (shortened a)).answer ≡ Queued 0 → ⊥) ⊎ (request_of R m.memory ≡ none)) → is_ten (queue_called m R a).answer ≡ false
   unheld (D.Straight a) h = idle_not_ten m g n R (D.Straight a) tt
   unheld (D.ToSay s content) h =
-      byTest (leb (length content) ROOM)
+      by_test (leb (length content) ROOM)
       (λ l. idle_not_ten m g n R (D.ToSay s content) (leb-true (length content) ROOM l))
       (λ l. ap is_ten (say_answer m R s content) ∙ ap (λ k. eqb k 10) (say_first m R s content (refused_first s content (h l))) ∙ first_not_ten m R s)
   unheld (D.ToEnd s) h = idle_not_ten m g n R (D.ToEnd s) tt
@@ -228,7 +228,7 @@ module _ (R : ℕ) where
   unheld_call : (m : QueueMemory) (id : ℕ) (a : Asking) (t : List (Item Asking)) → Good m → NothingWaits m → (conn_of m).«open» ≡ true → ShownFrom m id a t → Unheld m id a t
   unfolding shown_all shown_in askings_of
   unheld_call m id a t g n o h =
-      byTest (eqb id R)
+      by_test (eqb id R)
       (λ e. subst (λ i. ShownFrom m i a t → Unheld m i a t) (sym (eqb-true id R e)) (own_call m a t g n o) h)
       (λ e. record { not_by_ten = λ i. absurd (eqb-false id R e i); others = rw e (rw e at h) })
 

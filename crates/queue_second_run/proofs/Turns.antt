@@ -9,7 +9,7 @@ use Rattle.std.proofs.Common.{ap, sym, ◌∙◌, subst, arith, length-append, l
 use Rattle.std.proofs.Math.Option.{Option, none, some}
 use Rattle.std.proofs.Math.Bool.{true, false}
 use Rattle.std.proofs.lemmas.Bool.{eqb-false}
-use Rattle.wire.specs.Test.{byTest}
+use Rattle.wire.specs.Test.{by_test}
 use Rattle.machine_queue.specs.Pump.{next_waiting}
 use Rattle.machine_queue.proofs.Pumping.{waiting_below, nobody_waits_lem}
 use Rattle.connection.specs.declared.state.Slot.{Slot}
@@ -72,7 +72,7 @@ early (suc k) m h = go (next_waiting SLOTS SLOTS (slot_waits m) (first_slot (get
 pub pump_early : (m : QueueMemory) (allowance : ℕ) (buffer : List ℕ) → (pump m allowance buffer).refusal ≡ 0 → (pump m allowance buffer).records < allowance
     → NothingWaits (pump m allowance buffer).left
 pump_early m allowance buffer r h =
-    byTest (eqb (pump_refusal m allowance buffer) 0)
+    by_test (eqb (pump_refusal m allowance buffer) 0)
     (λ t.
     let e = pump_done m allowance buffer t in
     let l : length (turned allowance m).records < allowance = rw e at h in
@@ -91,7 +91,7 @@ sum_less : (n : ℕ) (f g : ℕ → ℕ) (i : ℕ) → i < n → g i < f i → (
 unfolding sum_below
 sum_less zero f g i l d h = absurd (omega arith)
 sum_less (suc n) f g i l d h =
-    byTest (eqb i n)
+    by_test (eqb i n)
     (λ e. let s : g n < f n = rw (eqb-true i n e) at d in omega (arith, sum_le n f g (λ j k. h j (omega arith))))
     (λ e. let o : i ≡ n → ⊥ = eqb-false i n e in let b : i < n = omega arith in omega (arith, h n (omega arith), sum_less n f g i b d (λ j k. h j (omega arith))))
 
@@ -100,7 +100,7 @@ sum_part : (n : ℕ) (f : ℕ → ℕ) (i : ℕ) → i < n → f i ≤ sum_below
 unfolding sum_below
 sum_part zero f i l = absurd (omega arith)
 sum_part (suc n) f i l =
-    byTest (eqb i n) (λ e. rw (eqb-true i n e) (omega arith))
+    by_test (eqb i n) (λ e. rw (eqb-true i n e) (omega arith))
     (λ e. let o : i ≡ n → ⊥ = eqb-false i n e in let b : i < n = omega arith in omega (arith, sum_part n f i b))
 
 -- none is over 3,075
@@ -176,7 +176,7 @@ module _ (m : QueueMemory) (g : Good m) (i : ℕ) (low : i < SLOTS) (w : slot_wa
   -- something waits there
   some_waits_lem : 0 < waiting_at m i
   some_waits_lem =
-      byTest (eqb (waiting_at m i) 0)
+      by_test (eqb (waiting_at m i) 0)
       (λ e.
       let n : length (atoms_in (wait_at m i)) ≤ 0 = omega (arith, eqb-true (waiting_at m i) 0 e) in
       let z : ◌≡◌ {A = ℕ} 0 1 = cc (anything_is (wait_at m i) (g.steady.sized i low) (length_nil (atoms_in (wait_at m i)) n), w) in
@@ -187,7 +187,7 @@ module _ (m : QueueMemory) (g : Good m) (i : ℕ) (low : i < SLOTS) (w : slot_wa
   fewer_by : (n : QueueMemory) → waiting_at n i < waiting_at m i → ((j : ℕ) → j < SLOTS → (j ≡ i → ⊥) → waiting_at n j ≤ waiting_at m j) → waiting_in n < waiting_in m
   fewer_by n d h =
       sum_less SLOTS (waiting_at m) (waiting_at n) i low d
-      (λ j l. byTest (eqb j i) (λ e. rw (eqb-true j i e) (omega arith)) (λ e. h j l (eqb-false j i e)))
+      (λ j l. by_test (eqb j i) (λ e. rw (eqb-true j i e) (omega arith)) (λ e. h j l (eqb-false j i e)))
 
   -- something else waits in slot i
   fewer_put : (v : Wait) → Sized v → length (atoms_in v) < waiting_at m i → waiting_in (put_wait (served_last m i) i v) < waiting_in m

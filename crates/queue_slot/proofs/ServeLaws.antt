@@ -1,8 +1,8 @@
 -- What is written next is what waits first: the longest run of bytes of one stream, or an end, or END.
-use Rattle.std.specs.Prelude.{◌≡◌, refl, List, [], ◌∷◌, ◌++◌, map, Bool, true, false, ◌⊎◌, ℕ, zero, suc, ◌+◌, ◌-◌, ◌%◌, ◌≤◌, ◌<◌, length, take, drop, eqb}
+use Rattle.std.specs.Prelude.{◌≡◌, refl, List, [], ◌∷◌, ◌++◌, map, Bool, true, false, ◌⊎◌, ℕ, zero, suc, ◌+◌, ◌-◌, ◌%◌, ◌≤◌, ◌<◌, length, take, drop, eqb, if◌then◌else◌}
 use Rattle.std.proofs.Common.{ap, sym, ◌∙◌, append_assoc, inl, inr, arith, length-drop, take_at, length-take-le, take-take, get_or-take, eqb-true}
 use Rattle.std.proofs.lemmas.Bool.{eqb-false}
-use Rattle.wire.specs.Test.{if◌then◌else◌, byTest}
+use Rattle.wire.specs.Test.{by_test}
 use Rattle.wire.specs.Buffer.{put_at, byte_at}
 use Rattle.wire.proofs.BufferLaws.{put_length}
 use Rattle.connection.specs.declared.answer.Output.{Output}
@@ -37,9 +37,9 @@ other_stream : (m next : ℕ) → eqb (m % 2) (next % 2) ≡ false → is_same (
 unfolding mark_stream
 other_stream m next d =
     let n = eqb-false (m % 2) (next % 2) d in
-    byTest (eqb (m % 2) 0)
-    (λ a. byTest (eqb (next % 2) 0) (λ b. absurd (n (eqb-true (m % 2) 0 a ∙ sym (eqb-true (next % 2) 0 b)))) (λ b. rw (a, b)))
-    (λ a. byTest (eqb (next % 2) 0) (λ b. rw (a, b)) (λ b. absurd (both_odd (eqb-false (m % 2) 0 a) (eqb-false (next % 2) 0 b) n)))
+    by_test (eqb (m % 2) 0)
+    (λ a. by_test (eqb (next % 2) 0) (λ b. absurd (n (eqb-true (m % 2) 0 a ∙ sym (eqb-true (next % 2) 0 b)))) (λ b. rw (a, b)))
+    (λ a. by_test (eqb (next % 2) 0) (λ b. rw (a, b)) (λ b. absurd (both_odd (eqb-false (m % 2) 0 a) (eqb-false (next % 2) 0 b) n)))
   where
     odd : (k : ℕ) → (k % 2 ≡ 0 → ⊥) → k % 2 ≡ 1
     odd k f = go (k % 2) (omega arith) f
@@ -117,11 +117,11 @@ run_of k x [] e h = absurd (omega arith)
 run_of k [] (m ∷ y) e h = absurd (omega arith)
 run_of k (b ∷ x) (m ∷ []) e h = run_of_one k b m x [] refl (inr (ends_or_not (mark_stream m) (mark_ends m) (byte_atoms x []) (nothing_behind x (mark_stream m))))
 run_of k (b ∷ []) (m ∷ (next ∷ y)) e h = absurd (omega arith)
-run_of zero (b ∷ (c ∷ x)) (m ∷ (next ∷ y)) e h = run_of_one zero b m (c ∷ x) (next ∷ y) (byTest (no_ends (mark_ends m)) (λ n. byTest (eqb (m % 2) (next % 2)) (λ p. rw (n, p)) (λ p. rw (n, p))) (λ n. rw n)) (inl refl)
+run_of zero (b ∷ (c ∷ x)) (m ∷ (next ∷ y)) e h = run_of_one zero b m (c ∷ x) (next ∷ y) (by_test (no_ends (mark_ends m)) (λ n. by_test (eqb (m % 2) (next % 2)) (λ p. rw (n, p)) (λ p. rw (n, p))) (λ n. rw n)) (inl refl)
 run_of (suc k) (b ∷ (c ∷ x)) (m ∷ (next ∷ y)) e h =
     let r = run_of k (c ∷ x) (next ∷ y) (omega arith) (omega arith) in
-    byTest (no_ends (mark_ends m))
-    (λ n. byTest (eqb (m % 2) (next % 2)) (λ p. run_of_more (suc k) b m next (c ∷ x) y n p r)
+    by_test (no_ends (mark_ends m))
+    (λ n. by_test (eqb (m % 2) (next % 2)) (λ p. run_of_more (suc k) b m next (c ∷ x) y n p r)
     (λ p. run_of_one (suc k) b m (c ∷ x) (next ∷ y) (rw (n, p)) (inr (ends_or_not (mark_stream m) (mark_ends m) (byte_atoms (c ∷ x) (next ∷ y)) (another_stream m next c x y p)))))
     (λ n. run_of_one (suc k) b m (c ∷ x) (next ∷ y) (rw n) (inr (stops_ends (mark_stream m) (mark_ends m) (byte_atoms (c ∷ x) (next ∷ y)) n)))
 
@@ -232,7 +232,7 @@ last_served false w l n z = rw (n, z, l)
 data_served : (w : Wait) → Sized w → w.front ≡ Ends.None → ServedWell w (serve_data w)
 unfolding serve_data
 data_served w s n =
-    byTest (eqb w.count 0) (λ e. rw e (last_served w.last w refl n (eqb-true w.count 0 e)))
+    by_test (eqb w.count 0) (λ e. rw e (last_served w.last w refl n (eqb-true w.count 0 e)))
     (λ e. let d = eqb-false w.count 0 e in let h : 0 < w.count = positive w.count d in rw e (run_served w s n h))
   where
     positive : (k : ℕ) → (k ≡ 0 → ⊥) → 0 < k
@@ -258,9 +258,9 @@ served_well w s = serve_from_lem w.front w s refl
 pub nothing_waits : (w : Wait) → anything w ≡ false → atoms_in w ≡ []
 unfolding anything atoms_in byte_atoms
 nothing_waits w h =
-    byTest (eqb w.count 0)
+    by_test (eqb w.count 0)
     (λ e. let g : (if no_ends w.front then w.last else true) ≡ false = rw e at h in
-    byTest (no_ends w.front) (λ n. let l : w.last ≡ false = rw n at g in rw (eqb-true w.count 0 e, no_ends_atoms w.front n, l)) (λ n. let z : ◌≡◌ {A = ℕ} 0 1 = cc (rw n at g) in absurd (omega arith)))
+    by_test (no_ends w.front) (λ n. let l : w.last ≡ false = rw n at g in rw (eqb-true w.count 0 e, no_ends_atoms w.front n, l)) (λ n. let z : ◌≡◌ {A = ℕ} 0 1 = cc (rw n at g) in absurd (omega arith)))
     (λ e. let z : ◌≡◌ {A = ℕ} 0 1 = cc (rw e at h) in absurd (omega arith))
 
 -- where END waits, something waits

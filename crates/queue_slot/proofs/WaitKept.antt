@@ -2,7 +2,7 @@
 -- the rules for one request say.
 use Rattle.std.specs.Prelude.{◌≡◌, refl, List, [], ◌∷◌, ◌++◌, map, Bool, true, false, not, ℕ, ◌+◌, ◌≤◌, length, leb, ltb}
 use Rattle.std.proofs.Common.{ap, sym, ◌∙◌, arith, leb-true, leb-false, lt-ltb, le-ltb}
-use Rattle.wire.specs.Test.{byTest}
+use Rattle.wire.specs.Test.{by_test}
 use Rattle.connection.specs.declared.request.RequestState.{RequestState}
 use Rattle.connection.specs.declared.request.Request.{Request}
 use Rattle.connection.specs.declared.answer.Output.{Output}
@@ -26,7 +26,7 @@ pub room_is : (w : Wait) (content : List ℕ) → Sized w → has_room_for w con
 unfolding has_room_for
 room_is w content s =
     rw (count_is w s)
-    (byTest (leb (w.count + length content) ROOM) (λ e. e ∙ sym (ap not (le-ltb ROOM (w.count + length content) (leb-true _ _ e)))) (λ e. e ∙ sym (ap not (lt-ltb ROOM (w.count + length content) (leb-false _ _ e)))))
+    (by_test (leb (w.count + length content) ROOM) (λ e. e ∙ sym (ap not (le-ltb ROOM (w.count + length content) (leb-true _ _ e)))) (λ e. e ∙ sym (ap not (lt-ltb ROOM (w.count + length content) (leb-false _ _ e)))))
 
 -- said on a stream, a request has the same ends
 pub said_ended : (r : Request) (o p : Output) (content : List ℕ) → Of.is_ended p (Of.said_on r o content).state ≡ Of.is_ended p r.state

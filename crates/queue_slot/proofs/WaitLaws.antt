@@ -1,9 +1,9 @@
 -- What comes to wait comes behind what waits; what is written next is what waits first.
-use Rattle.std.specs.Prelude.{◌≡◌, refl, List, [], ◌∷◌, ◌++◌, map, Bool, true, false, ℕ, zero, suc, ◌+◌, ◌-◌, ◌≤◌, ◌<◌, length, take, drop, set, replicate, eqb}
+use Rattle.std.specs.Prelude.{◌≡◌, refl, List, [], ◌∷◌, ◌++◌, map, Bool, true, false, ℕ, zero, suc, ◌+◌, ◌-◌, ◌≤◌, ◌<◌, length, take, drop, set, replicate, eqb, if◌then◌else◌}
 use Rattle.std.proofs.Common.{ap, sym, ◌∙◌, append_assoc, append-nil, arith, length-append, length-take, length-set, take_at, take-suc, take-suc-set, length-take-le, eqb-true}
 use Rattle.std.proofs.lemmas.List.{length-replicate}
 use Rattle.std.proofs.lemmas.Bool.{eqb-false}
-use Rattle.wire.specs.Test.{if◌then◌else◌, byTest}
+use Rattle.wire.specs.Test.{by_test}
 use Rattle.wire.specs.Buffer.{put_at, byte_at}
 use Rattle.wire.proofs.BufferLaws.{put_length}
 use Rattle.connection.specs.declared.request.RequestState.{RequestState}
@@ -154,14 +154,14 @@ data_waits w o content s h l =
 -- ---- an end comes to wait
 pub end_sized : (w : Wait) (o : Output) → Sized w → Sized (wait_end w o)
 unfolding wait_end
-end_sized w o s = byTest (eqb w.count 0)
+end_sized w o s = by_test (eqb w.count 0)
     (λ e. rw e (record { count_fits = s.count_fits; bytes_size = s.bytes_size; marks_size = s.marks_size }))
     (λ e. rw e (record { count_fits = s.count_fits; bytes_size = s.bytes_size; marks_size = length-set w.marks (w.count - 1) (mark_ended (byte_at w.marks (w.count - 1)) o) ∙ s.marks_size }))
 
 -- END waits or does not, as before
 pub end_last : (w : Wait) (o : Output) → (wait_end w o).last ≡ w.last
 unfolding wait_end
-end_last w o = byTest (eqb w.count 0) (λ e. rw e) (λ e. rw e)
+end_last w o = by_test (eqb w.count 0) (λ e. rw e) (λ e. rw e)
 
 -- the last byte with its mark
 one_more_lem : (a x : List ℕ) (b m : ℕ) → length a ≡ length x → byte_atoms (a ++ b ∷ []) (x ++ m ∷ []) ≡ byte_atoms a x ++ (ByteOn (mark_stream m) b ∷ end_atoms (mark_ends m))
@@ -212,7 +212,7 @@ end_on_data w o c s l z f =
 pub end_waits_lem : (w : Wait) (o : Output) → Sized w → w.last ≡ false → Unended o (atoms_in w) → atoms_in (wait_end w o) ≡ atoms_in w ++ EndOf o ∷ []
 unfolding wait_end
 end_waits_lem w o s l f =
-    byTest (eqb w.count 0) (λ e. rw e (end_alone w o l (eqb-true w.count 0 e) f))
+    by_test (eqb w.count 0) (λ e. rw e (end_alone w o l (eqb-true w.count 0 e) f))
     (λ e. let n = eqb-false w.count 0 e in let z : w.count ≡ suc (w.count - 1) = some_left w.count n in rw e (end_on_data w o (w.count - 1) s l z f))
   where
     some_left : (k : ℕ) → (k ≡ 0 → ⊥) → k ≡ suc (k - 1)

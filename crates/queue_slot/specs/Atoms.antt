@@ -1,8 +1,8 @@
 -- Output made of atoms: a byte on a stream, the end of a stream, END. What waits is a list of them, oldest first.
 -- Definitions only.
-use Rattle.std.specs.Prelude.{ℕ, zero, suc, Bool, true, false}
+use Rattle.std.specs.Prelude.{ℕ, zero, suc, Bool, true, false, if◌then◌else◌}
 use mathlib.Core.List.{List, [], ◌∷◌, map, flatten}
-use Rattle.wire.specs.Test.{if◌then◌else◌, ◌=?◌}
+use Rattle.wire.specs.Test.{◌=?◌}
 use Rattle.record.specs.Names.{STDOUT, STDERR, END_REQUEST, REQUEST_COMPLETE}
 use Rattle.record.specs.Body.{end_body_bytes}
 use Rattle.record.specs.Split.{Record, split}

@@ -1,7 +1,7 @@
 -- What waits in one slot: data bytes in the slot's area of the queue, a mark for each of them, and a few numbers.
 -- Definitions only.
-use Rattle.std.specs.Prelude.{ℕ, zero, suc, ◌+◌, ◌-◌, ◌*◌, ◌/◌, ◌%◌, Bool, true, false, List, [], ◌∷◌, ◌++◌, length, take, drop, set, replicate}
-use Rattle.wire.specs.Test.{if◌then◌else◌, ◌≤?◌, ◌=?◌}
+use Rattle.std.specs.Prelude.{ℕ, zero, suc, ◌+◌, ◌-◌, ◌*◌, ◌/◌, ◌%◌, Bool, true, false, List, [], ◌∷◌, ◌++◌, length, take, drop, set, replicate, if◌then◌else◌}
+use Rattle.wire.specs.Test.{◌≤?◌, ◌=?◌}
 use Rattle.wire.specs.Buffer.{put_at, byte_at}
 use Rattle.connection.specs.declared.request.RequestState.{RequestState}
 use Rattle.connection.specs.declared.answer.Output.{Output}

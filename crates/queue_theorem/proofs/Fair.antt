@@ -3,12 +3,12 @@ use Rattle.std.proofs.Math.Path.{◌≡◌, refl, ap, sym, subst}
 use Rattle.std.proofs.Common.{◌∙◌, inl, inr, lt-ltb}
 use mathlib.Core.List.{List, [], ◌∷◌, ◌++◌, flatten}
 use Rattle.std.proofs.Math.Option.{Option, none, some}
-use Rattle.std.specs.Prelude.{◌⊎◌, true, false, get_or, eqb}
+use Rattle.std.specs.Prelude.{◌⊎◌, true, false, get_or, eqb, if◌then◌else◌}
 use Prim.Native.Nat.{ℕ, zero, suc, ◌≤◌, ◌<◌}
 use native.Mathlib.Omega.{arith}
 use Rattle.std.proofs.Math.ListN.{length}
 use Rattle.std.proofs.lemmas.Bool.{eqb-false}
-use Rattle.wire.specs.Test.{if◌then◌else◌, byTest}
+use Rattle.wire.specs.Test.{by_test}
 use Rattle.record.specs.Names.{END_REQUEST, REQUEST_COMPLETE}
 use Rattle.record.specs.Body.{end_body_bytes}
 use Rattle.record.proofs.BodyLaws.{end_length}
@@ -25,7 +25,7 @@ use Rattle.connection.specs.declared.state.Slot.{Slot}
 use Rattle.connection.specs.Sizes.{SLOTS}
 use Rattle.connection.specs.Codes.{output_type}
 use Rattle.connection.specs.Request.{Held}
-use Rattle.connection.specs.Slots.{request_at, find, onSlot}
+use Rattle.connection.specs.Slots.{request_at, find, on_slot}
 use Rattle.connection.specs.Runs.Receiver.{receiver}
 use Rattle.connection.proofs.Runs.Loading.{loaded_slots, loaded_reading}
 use Rattle.connection.proofs.Runs.LoadingLaws.{lookup_loaded}
@@ -117,13 +117,13 @@ module _ (R i : ℕ) (low : i < SLOTS) where
 
   -- they are fewer than the slots
   pub ahead_few : (m : QueueMemory) → ahead m < SLOTS
-  ahead_few m = byTest (conn_of m).«open» (λ o. rw o (distance_below SLOTS i (first_slot (next_of m)) low (first_below (next_of m)))) (λ o. rw o (omega arith))
+  ahead_few m = by_test (conn_of m).«open» (λ o. rw o (distance_below SLOTS i (first_slot (next_of m)) low (first_below (next_of m)))) (λ o. rw o (omega arith))
 
   -- no more where the slot that is looked at first stays
   ahead_kept : (m n : QueueMemory) → ((conn_of m).«open» ≡ false → (conn_of n).«open» ≡ true → ⊥) → ((conn_of n).«open» ≡ true → next_of n ≡ next_of m) → ahead n ≤ ahead m
   ahead_kept m n c e =
-      byTest (conn_of n).«open»
-      (λ o. byTest (conn_of m).«open» (λ p. rw (o, p, e o) (omega arith)) (λ p. absurd (c p o)))
+      by_test (conn_of n).«open»
+      (λ o. by_test (conn_of m).«open» (λ p. rw (o, p, e o) (omega arith)) (λ p. absurd (c p o)))
       (λ o. rw o (omega arith))
 
   -- R in its slot: something of it waits
@@ -151,7 +151,7 @@ module _ (R i : ℕ) (low : i < SLOTS) where
   still_here : (m : QueueMemory) → (conn_of m).«open» ≡ true → StillWaits R i (loaded_queue m) → anything (wait_at m i) ≡ true
   unfolding is_some
   still_here m o h =
-      byTest (anything (wait_at m i)) (λ e. e)
+      by_test (anything (wait_at m i)) (λ e. e)
       (λ e.
       let q = here m o h in
       let w : q.0.waiting ≡ [] = waits_as (slot_at receiver.clean (loaded_slots (conn_of m).table m.memory.store) i) q.0 (sym (lift_at (waiting_of m) (loaded_slots (conn_of m).table m.memory.store) i) ∙ q.1) ∙ nothing_waits (wait_at m i) e in
@@ -177,7 +177,7 @@ module _ (R i : ℕ) (low : i < SLOTS) where
       go : (j ≡ i) ⊎ (distance SLOTS i (slot_after SLOTS j) < distance SLOTS i (first_slot (next_of m))) → j < SLOTS → slot_after SLOTS j < SLOTS → ahead (pump_slot m j).left < ahead m
       go (inl x) b l = absurd (d x)
       go (inr x) b l =
-          byTest (conn_of (pump_slot m j).left).«open»
+          by_test (conn_of (pump_slot m j).left).«open»
           (λ q.
           let s : first_slot (next_of (pump_slot m j).left) ≡ slot_after SLOTS j = ap first_slot (served_next m j full b q) ∙ first_same (slot_after SLOTS j) l in
           let a : ahead (pump_slot m j).left ≡ distance SLOTS i (slot_after SLOTS j) = ahead_open (pump_slot m j).left q ∙ ap (distance SLOTS i) s in
@@ -186,7 +186,7 @@ module _ (R i : ℕ) (low : i < SLOTS) where
 
   before_record : (r : Record) (l : List Record) (n : ℕ) → (eqb r.id R ≡ false → count_before R l < n) → count_before R (r ∷ l) ≤ n
   unfolding count_before
-  before_record r l n f = byTest (eqb r.id R) (λ e. rw e (omega arith)) (λ e. rw e (f e))
+  before_record r l n f = by_test (eqb r.id R) (λ e. rw e (omega arith)) (λ e. rw e (f e))
 
   -- With whatever records come after it.
   turn_fair : (k : ℕ) (m : QueueMemory) → Fine m → StillWaits R i (loaded_queue m) → (l : List Record)
@@ -263,7 +263,7 @@ module _ (R i : ℕ) (low : i < SLOTS) where
       let b = f (call_still m id a k h) in omega (arith, c, b)
   op_fair m CountActive k p h l f = subst (λ n. (StillWaits R i (loaded_queue n) → count_before R l ≤ ahead n) → count_before R l ≤ ahead m) (sym (count_kept m)) (λ f. f h) f
   op_fair m (TurnWith allowance buffer) k p h l f =
-      byTest (eqb (pump_refusal m allowance buffer) 0)
+      by_test (eqb (pump_refusal m allowance buffer) 0)
       (λ e. subst (λ x. count_before R ((split x).records ++ l) ≤ ahead m) (sym (turn_bytes m allowance buffer k e))
       (turn_fair allowance m k h l (subst (λ n. StillWaits R i (loaded_queue n) → count_before R l ≤ ahead n) (turn_done m allowance buffer e) f)))
       (λ e. subst (λ x. count_before R ((split x).records ++ l) ≤ ahead m) (sym (no_turn_bytes m allowance buffer e))
@@ -288,9 +288,9 @@ pieces_front (TurnWith allowance buffer ∷ os) ps p = pieces_front os ps p
 -- where something of R waits, it has a slot
 waits_slot : (R : ℕ) (m : QueueMemory) → (waits_of R m ≡ [] → ⊥) → ((conn_of m).«open» ≡ true) × ((i : ℕ) × (find (conn_of m).table R ≡ Slot.At i) × (atoms_in (wait_at m i) ≡ [] → ⊥))
 unfolding waits_of
-waits_slot R m w = byTest (conn_of m).«open» (λ o. (o, go (find (conn_of m).table R) refl (λ e. w (subst (λ b. (if b then onSlot (find (conn_of m).table R) (λ i. atoms_in (wait_at m i)) [] else []) ≡ []) (sym o) e)))) (λ o. absurd (w (rw o)))
+waits_slot R m w = by_test (conn_of m).«open» (λ o. (o, go (find (conn_of m).table R) refl (λ e. w (subst (λ b. (if b then on_slot (find (conn_of m).table R) (λ i. atoms_in (wait_at m i)) [] else []) ≡ []) (sym o) e)))) (λ o. absurd (w (rw o)))
   where
-    go : (s : Slot) → find (conn_of m).table R ≡ s → (onSlot s (λ i. atoms_in (wait_at m i)) [] ≡ [] → ⊥) → (i : ℕ) × (find (conn_of m).table R ≡ Slot.At i) × (atoms_in (wait_at m i) ≡ [] → ⊥)
+    go : (s : Slot) → find (conn_of m).table R ≡ s → (on_slot s (λ i. atoms_in (wait_at m i)) [] ≡ [] → ⊥) → (i : ℕ) × (find (conn_of m).table R ≡ Slot.At i) × (atoms_in (wait_at m i) ≡ [] → ⊥)
     go (Slot.At i) e w = (i, e, w)
     go Slot.Nowhere e w = absurd (w refl)
 

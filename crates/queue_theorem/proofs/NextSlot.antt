@@ -1,14 +1,14 @@
 -- The slot that the pump looks at first: after a record of slot j it is the next one, and nothing else moves it.
 use Rattle.std.specs.Prelude.{◌≡◌, refl, List, [], ◌∷◌, Bool, true, false, ℕ, ◌≤◌, ◌<◌, get_or, eqb}
 use Rattle.std.proofs.Common.{◌∙◌, arith, get_or-set_same}
-use Rattle.wire.specs.Test.{byTest}
+use Rattle.wire.specs.Test.{by_test}
 use Rattle.machine_queue.specs.Pump.{slot_after}
 use Rattle.connection.specs.declared.request.Request.{Request}
 use Rattle.connection.specs.declared.state.Slot.{Slot}
 use Rattle.connection.specs.declared.state.Conn.{Conn}
 use Rattle.connection.specs.Sizes.{SLOTS}
 use Rattle.connection.specs.Refusal.{◌when◌, refusal}
-use Rattle.connection.specs.Slots.{request_at, find, onSlot}
+use Rattle.connection.specs.Slots.{request_at, find, on_slot}
 use Rattle.connection.proofs.Laws.SlotsLaws.{find_at}
 use Rattle.connection.specs.Arguments.{ForRead, ForSay, ForEnd, ForFinish}
 use Rattle.queue_slot.specs.Wait.{Wait, nothing_in, Served, ServesNothing, ServesEnd, ServesData, ServesLast, served}
@@ -58,7 +58,7 @@ served_next m j y h o = written_next m j (request_at (conn_of m).table j) (serve
 slot_most : (m : QueueMemory) (id : ℕ) → T.slot_of m id ≤ SLOTS
 slot_most m id = go (find (conn_of m).table id) refl
   where
-    go : (s : Slot) → find (conn_of m).table id ≡ s → onSlot s (λ i. i) SLOTS ≤ SLOTS
+    go : (s : Slot) → find (conn_of m).table id ≡ s → on_slot s (λ i. i) SLOTS ≤ SLOTS
     go (Slot.At i) e = let h = find_at (conn_of m).table id i e in omega (arith, h.low)
     go Slot.Nowhere e = omega arith
 
@@ -78,9 +78,9 @@ call_next m id (D.Straight (ForRead q)) o = refl
 call_next m id (D.Straight (ForSay p content buffer)) o = kept_next m _ o
 call_next m id (D.Straight (ForEnd p buffer)) o = kept_next m _ o
 call_next m id (D.Straight (ForFinish status buffer)) o = kept_next m _ o
-call_next m id (D.ToSay p content) o = byTest (eqb (T.say_refusal m id p content) 0) (λ e. rw e (both_next m id (conn_of m) _ _)) (λ e. rw e)
-call_next m id (D.ToEnd p) o = byTest (eqb (refusal (T.rows_of m id (T.stream_rows m id p []))) 0) (λ e. rw e (both_next m id (conn_of m) _ _)) (λ e. rw e)
-call_next m id (D.ToFinish status) o = byTest (eqb (refusal (T.rows_of m id ((5 when T.is_leaving m id) ∷ []))) 0) (λ e. rw e (both_next m id _ _ _)) (λ e. rw e)
+call_next m id (D.ToSay p content) o = by_test (eqb (T.say_refusal m id p content) 0) (λ e. rw e (both_next m id (conn_of m) _ _)) (λ e. rw e)
+call_next m id (D.ToEnd p) o = by_test (eqb (refusal (T.rows_of m id (T.stream_rows m id p []))) 0) (λ e. rw e (both_next m id (conn_of m) _ _)) (λ e. rw e)
+call_next m id (D.ToFinish status) o = by_test (eqb (refusal (T.rows_of m id ((5 when T.is_leaving m id) ∷ []))) 0) (λ e. rw e (both_next m id _ _ _)) (λ e. rw e)
 
 -- A call.
 pub call_kept : (m : QueueMemory) (id : ℕ) (a : Asking) → (conn_of (queue_after m (CallFor id a))).«open» ≡ true → next_of (queue_after m (CallFor id a)) ≡ next_of m

@@ -1,12 +1,12 @@
 -- Nothing that R says is lost and nothing comes twice, on whole runs: what R's calls were asked to say that were not
 -- refused, in its order, is what was written of R and then what still waits.
-use Rattle.std.specs.Prelude.{◌≡◌, refl, List, [], ◌∷◌, ◌++◌, Bool, true, false, ℕ, eqb}
+use Rattle.std.specs.Prelude.{◌≡◌, refl, List, [], ◌∷◌, ◌++◌, Bool, true, false, ℕ, eqb, if◌then◌else◌}
 use Rattle.std.proofs.Common.{ap, ap₂, sym, ◌∙◌, subst, arith, eqb-true}
 use Rattle.std.proofs.Math.Option.{Option, none, some}
 use Rattle.machine.specs.Slots.{Absent, lookup, contains_absent, contains_none}
 use Rattle.machine.specs.Machine.{request_called, Connection, Open, Closed, CallAnswer, on_item, state_after, observations, as_list, observed, request_found, request_in, fresh}
 use Rattle.connection.specs.declared.state.Slot.{Slot}
-use Rattle.connection.specs.Slots.{held_at, find, onSlot}
+use Rattle.connection.specs.Slots.{held_at, find, on_slot}
 use Rattle.connection.specs.Run.{request_of}
 use Rattle.connection.proofs.Runs.Loading.{loaded_slots, loaded_reading}
 use Rattle.connection.proofs.Runs.LoadingLaws.{lookup_loaded}
@@ -22,7 +22,7 @@ use Rattle.queue_link.proofs.LinkedFinish.{call_is}
 use Rattle.queue.specs.Numbers.{last_at}
 use Rattle.queue.specs.Run.{Answering, leaving_of, Asking, QueueOperation, CallFor, CountActive, TurnWith, queue_called, queue_after, PiecesAreBytes, QueueRun, beginning, ending}
 use Rattle.queue.specs.NothingLost as N
-use Rattle.wire.specs.Test.{if◌then◌else◌, byTest}
+use Rattle.wire.specs.Test.{by_test}
 use Rattle.machine.specs.Timeline.{RequestCall, CallItem}
 use Rattle.machine.proofs.RunLaws.{observations_append}
 use Rattle.machine_queue.specs.Waiting.{is_leaving, core_of, waits_in}
@@ -78,7 +78,7 @@ live_is R m = ap₂ (λ (b : Bool) (x : Option Held). if b then none else x) (le
 said_call : (id : ℕ) (a : Asked) (n : QueueAnswer) (v w : Option Queued) → Q.is_serve_call a ≡ false → said_in queueing_receiver waiting_queue (CallAnswer id a n v w) ≡ said_by (live_core v) a n
 unfolding said_in said_as is_leaving core_of
 said_call id a n none w s = refl
-said_call id a n (some r) w s = byTest (end_waits r.waiting) (λ e. rw (s, e)) (λ e. rw (s, e))
+said_call id a n (some r) w s = by_test (end_waits r.waiting) (λ e. rw (s, e)) (λ e. rw (s, e))
 
 serve_says : (id : ℕ) (n : QueueAnswer) (v w : Option Queued) → said_in queueing_receiver waiting_queue (CallAnswer id Serve n v w) ≡ []
 unfolding said_in said_as
@@ -106,7 +106,7 @@ call_says R m id a k =
     let w = request_in queueing_receiver id (loaded_queue (queue_called m id a).left) in
     let r : said_of R (observations queueing_receiver (loaded_queue m) (CallItem (RequestCall id (asked a)) ∷ [])) ≡ (if eqb id R then said_by (live_core v) (asked a) n else []) =
     ap (said_of R) (call_observed m id a k) ∙ said_one R id (asked a) n v w ∙ ap (λ l. if eqb id R then l else []) (said_call id (asked a) n v w (no_serve a)) in
-    byTest (eqb id R)
+    by_test (eqb id R)
     (λ e. let c : live_core v ≡ live_request R m = ap (λ j. live_core (request_in queueing_receiver j (loaded_queue m))) (eqb-true id R e) ∙ live_is R m in
     ap (λ x. if eqb id R then said_by x (asked a) n else []) (sym c) ∙ sym r)
     (λ e. rw e (sym (r ∙ rw e)))
@@ -155,23 +155,23 @@ as_told : (a : Asking) (n : Answering) (v : Option Held) → N.said_by a n v ≡
 as_told a n v = ap₂ (λ k l. unless_refused k l) (refusal_told n) (asks_told a v)
 
 -- the request of an id, and what is shown of it
-request_when : (m : QueueMemory) (id : ℕ) (b : Bool) → (conn_of m).«open» ≡ b → request_of id m.memory ≡ (if b then onSlot (find (conn_of m).table id) (λ i. some (held_at (conn_of m).table m.memory.store i)) none else none)
+request_when : (m : QueueMemory) (id : ℕ) (b : Bool) → (conn_of m).«open» ≡ b → request_of id m.memory ≡ (if b then on_slot (find (conn_of m).table id) (λ i. some (held_at (conn_of m).table m.memory.store i)) none else none)
 unfolding request_of
-request_when m id b o = ap (λ (c : Bool). if c then onSlot (find (conn_of m).table id) (λ i. some (held_at (conn_of m).table m.memory.store i)) none else none) o
+request_when m id b o = ap (λ (c : Bool). if c then on_slot (find (conn_of m).table id) (λ i. some (held_at (conn_of m).table m.memory.store i)) none else none) o
 
-request_at_lem : (m : QueueMemory) (id : ℕ) → (conn_of m).«open» ≡ true → (s : Slot) → find (conn_of m).table id ≡ s → request_of id m.memory ≡ onSlot s (λ i. some (held_at (conn_of m).table m.memory.store i)) none
-request_at_lem m id o s f = request_when m id true o ∙ ap (λ (x : Slot). onSlot x (λ i. some (held_at (conn_of m).table m.memory.store i)) none) f
+request_at_lem : (m : QueueMemory) (id : ℕ) → (conn_of m).«open» ≡ true → (s : Slot) → find (conn_of m).table id ≡ s → request_of id m.memory ≡ on_slot s (λ i. some (held_at (conn_of m).table m.memory.store i)) none
+request_at_lem m id o s f = request_when m id true o ∙ ap (λ (x : Slot). on_slot x (λ i. some (held_at (conn_of m).table m.memory.store i)) none) f
 
 shown_when : (m : QueueMemory) (id : ℕ) (b : Bool) → (conn_of m).«open» ≡ b
-    → live_request id m ≡ (if (if b then onSlot (find (conn_of m).table id) (λ i. last_at m.waits i) false else false) then none else request_of id m.memory)
+    → live_request id m ≡ (if (if b then on_slot (find (conn_of m).table id) (λ i. last_at m.waits i) false else false) then none else request_of id m.memory)
 unfolding live_request leaving_of
-shown_when m id b o = ap (λ (c : Bool). if (if c then onSlot (find (conn_of m).table id) (λ i. last_at m.waits i) false else false) then none else request_of id m.memory) o
+shown_when m id b o = ap (λ (c : Bool). if (if c then on_slot (find (conn_of m).table id) (λ i. last_at m.waits i) false else false) then none else request_of id m.memory) o
 
 shown_at_lem : (m : QueueMemory) (id : ℕ) → (conn_of m).«open» ≡ true → (s : Slot) → find (conn_of m).table id ≡ s
-    → live_request id m ≡ (if onSlot s (λ i. last_at m.waits i) false then none else onSlot s (λ i. some (held_at (conn_of m).table m.memory.store i)) none)
+    → live_request id m ≡ (if on_slot s (λ i. last_at m.waits i) false then none else on_slot s (λ i. some (held_at (conn_of m).table m.memory.store i)) none)
 shown_at_lem m id o s f =
-    shown_when m id true o ∙ ap (λ (x : Slot). if onSlot x (λ i. last_at m.waits i) false then none else request_of id m.memory) f
-    ∙ ap (λ v. if onSlot s (λ i. last_at m.waits i) false then none else v) (request_at_lem m id o s f)
+    shown_when m id true o ∙ ap (λ (x : Slot). if on_slot x (λ i. last_at m.waits i) false then none else request_of id m.memory) f
+    ∙ ap (λ v. if on_slot s (λ i. last_at m.waits i) false then none else v) (request_at_lem m id o s f)
 
 -- a call of an id, as the accounts have it
 unfoldable Told : QueueMemory → ℕ → Asking → QueueAnswer → Type 0
@@ -185,12 +185,12 @@ told_some : (m : QueueMemory) (id : ℕ) (a : Asking) (r : Queued) → request_o
     → Told m id a (Q.outcome_answer (queued_call (asked a) r))
 unfolding Told
 told_some m id a r e d =
-    byTest (end_waits r.waiting) (λ l. rw (e, d, l) (told_leaving (asked a) r l)) (λ l. rw (e, d, l) (told_live (asked a) r (no_serve a) l))
+    by_test (end_waits r.waiting) (λ l. rw (e, d, l) (told_leaving (asked a) r l)) (λ l. rw (e, d, l) (told_live (asked a) r (no_serve a) l))
 
 told_call : (m : QueueMemory) (k : Fine m) (id : ℕ) (a : Asking) → Told m id a (answer_in (on_item queueing_receiver (loaded_queue m) (CallItem (RequestCall id (asked a)))).1)
 unfolding on_item request_called answer_in
 told_call m k id a =
-    byTest (conn_of m).«open» (λ o. go o (find (conn_of m).table id) refl)
+    by_test (conn_of m).«open» (λ o. go o (find (conn_of m).table id) refl)
     (λ o.
     let shut : loaded_queue m ≡ Closed = ap (lift_connection (waiting_of m)) (closed_loaded m.memory o) in
     subst (λ s. Told m id a (answer_in (on_item queueing_receiver s (CallItem (RequestCall id (asked a)))).1)) (sym shut)
@@ -222,7 +222,7 @@ call_told_lem : (R : ℕ) (m : QueueMemory) (id : ℕ) (a : Asking) → Fine m �
 unfolding N.said_in said_op Told
 call_told_lem R m id a k =
     let n = (queue_called m id a).answer in
-    byTest (eqb id R)
+    by_test (eqb id R)
     (λ e.
     let t : Told m id a (told_of n) = subst (λ x. Told m id a x) (sym (call_is m id a k.good k.ends).answer) (told_call m k id a) in
     let u : told_by (asked a) (told_of n) (request_of R m.memory) ≡ said_by (live_request R m) (asked a) (told_of n) =

@@ -1,12 +1,12 @@
 -- What R says in a run of the machine that ends open is what is written of R, and then what waits. An opening of R
 -- that is refused for want of a slot says and writes nothing, so nothing is asked about it.
-use Rattle.std.specs.Prelude.{◌≡◌, false, ℕ, set, eqb}
+use Rattle.std.specs.Prelude.{◌≡◌, false, ℕ, set, eqb, if◌then◌else◌}
 use Rattle.std.proofs.Math.Path.{refl, ap, ap₂, sym, subst}
 use Rattle.std.proofs.Common.{◌∙◌}
 use mathlib.Core.List.{List, [], ◌∷◌, ◌++◌, append-nil}
 use Rattle.std.proofs.Math.Option.{Option, none, some}
 use borrow.Author.Tests.{eqb-true, eqb-false, eq-eqb}
-use Rattle.wire.specs.Test.{if◌then◌else◌, byTest}
+use Rattle.wire.specs.Test.{by_test}
 use Rattle.machine.specs.Slots.{Vacant, HeldBy, Lookup, Absent, FoundAt, lookup, slot_at, LookupRight, lookup_right, OfOthers, lookup_set}
 use Rattle.machine.specs.Timeline.{RequestCall, CountCall, Item, CallItem, byte_items}
 use Rattle.machine.specs.Machine.{Slots, Reading, Connection, Open, Closed, Effect, CallOutcome, Stays, Retires, Leaves, Closes, Observation, RequestEvent, NoticeEvent, CloseEvent, CountAnswer, CallAnswer, call_decided, request_called, on_item, state_after, observations, as_list, concerns, observed, request_found, request_in}
@@ -49,13 +49,13 @@ said_append R os ps = ap (said_all queueing_receiver waiting_queue) (observed_ap
 -- by one call
 pub said_one : (R id : ℕ) (a : Asked) (n : QueueAnswer) (v w : Option Queued) → said_of R (CallAnswer id a n v w ∷ []) ≡ (if eqb id R then said_in queueing_receiver waiting_queue (CallAnswer id a n v w) else [])
 unfolding observed concerns said_all
-said_one R id a n v w = byTest (eqb id R) (λ e. rw e (append-nil _)) (λ e. rw e)
+said_one R id a n v w = by_test (eqb id R) (λ e. rw e (append-nil _)) (λ e. rw e)
 
 -- by a step: nothing
 pub step_says : (R : ℕ) (f : Waiting) (os : List (Observation receiver)) → said_of R (lift_seen f os) ≡ []
 unfolding lift_seen observed concerns said_all said_in as_list
 step_says R f [] = refl
-step_says R f (RequestEvent id e ∷ os) = byTest (eqb id R) (λ d. rw d (step_says R f os)) (λ d. rw d (step_says R f os))
+step_says R f (RequestEvent id e ∷ os) = by_test (eqb id R) (λ d. rw d (step_says R f os)) (λ d. rw d (step_says R f os))
 step_says R f (NoticeEvent w ∷ os) = step_says R f os
 step_says R f (CloseEvent n ∷ os) = step_says R f os
 step_says R f (CountAnswer n ∷ os) = step_says R f os
@@ -180,7 +180,7 @@ module _ (R : ℕ) where
   unfolding on_item request_in
   call_effects Closed id a w c h = absurd (c refl)
   call_effects (Open T F) id a w c h =
-      byTest (eqb id R)
+      by_test (eqb id R)
       (λ e. let j = eqb-true id R e in
       subst (λ k. Effects (waits_found (lookup R T)) (request_called queueing_receiver (lookup k T) k a T F)) (sym j)
       (own_call (lookup R T) a T F w.0 refl (subst (λ k. (request_called queueing_receiver (lookup k T) k a T F).0 ≡ Closed → ⊥) j c) h))

@@ -5,7 +5,7 @@
 -- to close the connection, some run of the first of them would end closed; and a run for R's items ends open.
 use Rattle.std.specs.Prelude.{◌≡◌, refl, List, [], ◌∷◌, ◌++◌, true, false, ℕ, zero, suc, ◌<◌, length}
 use Rattle.std.proofs.Common.{ap, sym, ◌∙◌, append-nil, inl, inr, arith}
-use Rattle.wire.specs.Test.{byTest}
+use Rattle.wire.specs.Test.{by_test}
 use Rattle.wire.proofs.Bytes.{AllBytes, append_bytes}
 use Rattle.machine.specs.Timeline.{RequestCall, CountCall, Item, ByteItem, CallItem, byte_items, item_bytes, purge}
 use Rattle.machine.proofs.TimelineLaws.{bytes_of_items}
@@ -87,9 +87,9 @@ closed_here m t c = record { operations = []; pieces = tt; rest = t; prefix = re
 -- Items that close: some operations have the first of them and end closed.
 ends_closed : (t : List (Item Argument)) (m : Memory) → Steady m → AllBytes (item_bytes t) → state_after receiver (loaded_of m) t ≡ Closed → EndsClosed m t
 unfolding item_bytes items_of
-ends_closed [] m z a c = byTest m.state.conn.«open» (λ o. absurd (not_closed m o c)) (closed_here m [])
+ends_closed [] m z a c = by_test m.state.conn.«open» (λ o. absurd (not_closed m o c)) (closed_here m [])
 ends_closed (ByteItem b ∷ t) m z a c =
-    byTest m.state.conn.«open»
+    by_test m.state.conn.«open»
     (λ o.
     let k = step_linked m (b ∷ []) z (one_byte_lem b (a 0)) in
     let e = one_used m b z o in

@@ -7,7 +7,7 @@
 use Rattle.std.specs.Prelude.{◌≡◌, refl, ◌⊎◌, true, false, ℕ, ◌<◌, eqb}
 use Rattle.std.proofs.Common.{ap, ap₂, sym, ◌∙◌, subst, inl, inr, arith, eqb-true}
 use mathlib.Core.List.{List, [], ◌∷◌, ◌++◌, map, map-append, Memᴰ}
-use Rattle.wire.specs.Test.{byTest, ◌=?◌}
+use Rattle.wire.specs.Test.{by_test, ◌=?◌}
 use Rattle.record.specs.Names.{OVERLOADED}
 use Rattle.record.specs.Split.{split}
 use Rattle.machine.specs.Timeline.{RequestCall, CountCall, Item, ByteItem, CallItem, item_bytes, Scan, ScanHeader, scan_next, is_own, is_own_call, purge_from, purge}
@@ -67,9 +67,9 @@ items_apart t u e = sym (items_back t) ∙ ap (map item_back) e ∙ items_back u
 seen_back : (R : ℕ) (os : List Observed) → map (shown_back R) (map plain_shown (seen_of R os)) ≡ seen_of R os
 unfolding seen_of
 seen_back R [] = refl
-seen_back R (Heard n ∷ os) = byTest (Base.id_of (Heard n) =? R) (λ t. rw t (ap (λ l. Heard n ∷ l) (seen_back R os))) (λ t. rw t (seen_back R os))
+seen_back R (Heard n ∷ os) = by_test (Base.id_of (Heard n) =? R) (λ t. rw t (ap (λ l. Heard n ∷ l) (seen_back R os))) (λ t. rw t (seen_back R os))
 seen_back R (Answered id a n v w ∷ os) =
-    byTest (id =? R) (λ t. rw t (ap₂ (λ x l. Answered x a n v w ∷ l) (sym (eqb-true id R t)) (seen_back R os))) (λ t. rw t (seen_back R os))
+    by_test (id =? R) (λ t. rw t (ap₂ (λ x l. Answered x a n v w ∷ l) (sym (eqb-true id R t)) (seen_back R os))) (λ t. rw t (seen_back R os))
 
 -- So is what is observed of R.
 pub seen_apart : (R : ℕ) (os ps : List Observed) → map plain_shown (seen_of R os) ≡ map plain_shown (seen_of R ps) → seen_of R os ≡ seen_of R ps
@@ -90,10 +90,10 @@ unfolding purge_from is_own_call
 plain_purged R k [] = refl
 plain_purged R k (ByteItem b ∷ t) =
     let i = plain_purged R (scan_next R k b) t in
-    rw (plain_bytes t) (byTest (is_own R k (b ∷ item_bytes t)) (λ d. rw d (ap (λ l. ByteItem b ∷ l) i)) (λ d. rw d i))
+    rw (plain_bytes t) (by_test (is_own R k (b ∷ item_bytes t)) (λ d. rw d (ap (λ l. ByteItem b ∷ l) i)) (λ d. rw d i))
 plain_purged R k (CallItem (RequestCall id a) ∷ t) =
     let i = plain_purged R k t in
-    byTest (eqb id R) (λ e. rw e (ap (λ l. CallItem (RequestCall id (Straight a)) ∷ l) i)) (λ e. rw e i)
+    by_test (eqb id R) (λ e. rw e (ap (λ l. CallItem (RequestCall id (Straight a)) ∷ l) i)) (λ e. rw e i)
 plain_purged R k (CallItem CountCall ∷ t) = plain_purged R k t
 
 -- ---- what the queue asks besides
@@ -102,7 +102,7 @@ module _ (marks queue : List ℕ) (quiet : Quiet) (holds : (k : Scan) (x rest : 
   -- an operation without a queue goes well,
   op_well : (o : Operation) (os : List QueueOperation) (m : Memory) (k : Scan) → is_well quiet R (idle marks queue m) k (plainly o) os ≡ true
   op_well (Base.StepOver piece) os m k = rw (leaving_none marks queue m R) (holds k _ _)
-  op_well (Base.CallFor id a) os m k = byTest (id =? R) (λ t. rw (t, call_same marks queue m id a, never_ten m id a)) (λ t. rw t)
+  op_well (Base.CallFor id a) os m k = by_test (id =? R) (λ t. rw (t, call_same marks queue m id a, never_ten m id a)) (λ t. rw t)
   op_well Base.CountActive os m k = refl
 
   -- and so do all of them.

@@ -3,14 +3,14 @@
 -- Where nothing waits, a step, a straight call and the active number do and answer what they do and answer without a
 -- queue, and nothing waits behind them: from every memory, in shape or not. So a whole run leaves, tells, answers and
 -- writes the same.
-use Rattle.std.specs.Prelude.{◌≡◌, List, [], ◌∷◌, map, Bool, true, false}
+use Rattle.std.specs.Prelude.{◌≡◌, List, [], ◌∷◌, map, Bool, true, false, if◌then◌else◌}
 use Rattle.std.proofs.Math.Path.{refl, ap}
 use Rattle.std.proofs.Common.{◌∙◌, arith, ne_eqb}
 use Rattle.std.proofs.Math.Bool.{not}
 use Prim.Native.Nat.{ℕ, zero, suc, ◌+◌}
 use Rattle.std.proofs.Math.ListN.{length}
 use Rattle.std.proofs.lemmas.List.{length-replicate}
-use Rattle.wire.specs.Test.{if◌then◌else◌, byTest, ◌<?◌, ◌=?◌}
+use Rattle.wire.specs.Test.{by_test, ◌<?◌, ◌=?◌}
 use Rattle.wire.specs.Buffer.{zeros}
 use Rattle.slot_word.specs.Word.{taken}
 use Rattle.slot_word.proofs.WordLaws.{taken_out}
@@ -146,8 +146,8 @@ output_same : (c : Conn) (i k q n : ℕ) (bytes buffer : List ℕ) (after : Requ
     → (if n =? 0 then written c i k q bytes buffer after else C.unwritten n c buffer) ≡ written c i k q bytes buffer after
 unfolding Of.writes
 output_same c i k q n bytes buffer after e =
-    byTest (k =? 0)
-    (λ t. byTest (q =? 0) (λ u. rw (e, t) (rw u)) (λ u. rw (e, t) (rw (u, put_same c.table i))))
+    by_test (k =? 0)
+    (λ t. by_test (q =? 0) (λ u. rw (e, t) (rw u)) (λ u. rw (e, t) (rw (u, put_same c.table i))))
     (λ t. rw (e, t) (rw t))
 
 -- finish, likewise
@@ -159,8 +159,8 @@ finished_same : (c : Conn) (store : List ℕ) (i k q n : ℕ) (bytes buffer : Li
     → (if n =? 0 then finished c store i k q bytes buffer r else C.unfinished n c store buffer) ≡ finished c store i k q bytes buffer r
 unfolding Of.writes C.finishes
 finished_same c store i k q n bytes buffer r e =
-    byTest (k =? 0)
-    (λ t. byTest (q =? 0) (λ u. rw (e, t) (rw u)) (λ u. rw (e, t) (rw u (rw u))))
+    by_test (k =? 0)
+    (λ t. by_test (q =? 0) (λ u. rw (e, t) (rw u)) (λ u. rw (e, t) (rw u (rw u))))
     (λ t. rw (e, t) (rw t))
 
 -- ---- never refused by 10
@@ -171,12 +171,12 @@ not_ten rows h = ne_eqb (refusal rows) 10 (λ e. both_ways (holds_in 10 rows) (r
 -- an output, and a finish, by the two refusals that it comes from
 output_ten : (c : Conn) (i k q : ℕ) (bytes buffer : List ℕ) (after : Request) → (k =? 10) ≡ false → (q =? 10) ≡ false → ((written c i k q bytes buffer after).refusal =? 10) ≡ false
 unfolding Of.writes
-output_ten c i k q bytes buffer after a b = byTest (k =? 0) (λ t. rw t (byTest (q =? 0) (λ u. rw u) (λ u. rw u b))) (λ t. rw t a)
+output_ten c i k q bytes buffer after a b = by_test (k =? 0) (λ t. rw t (by_test (q =? 0) (λ u. rw u) (λ u. rw u b))) (λ t. rw t a)
 
 finished_ten : (c : Conn) (store : List ℕ) (i k q : ℕ) (bytes buffer : List ℕ) (r : Request) → (k =? 10) ≡ false → (q =? 10) ≡ false → ((finished c store i k q bytes buffer r).refusal =? 10) ≡ false
 unfolding Of.writes C.finishes
 finished_ten c store i k q bytes buffer r a b =
-    byTest (k =? 0) (λ t. rw t (byTest (q =? 0) (λ u. rw u (byTest r.state.keep (λ v. rw v) (λ v. rw v))) (λ u. rw u (rw u b)))) (λ t. rw t a)
+    by_test (k =? 0) (λ t. rw t (by_test (q =? 0) (λ u. rw u (by_test r.state.keep (λ v. rw v) (λ v. rw v))) (λ u. rw u (rw u b)))) (λ t. rw t a)
 
 -- the rows of the connection, and those of the request
 call_ten : (c : Conn) (id : ℕ) → (C.call_refusal c id =? 10) ≡ false
@@ -224,7 +224,7 @@ module _ (marks queue : List ℕ) (m : Memory) where
   unfolding wait_fits wait_at anything
   slot_fits occupied i =
       let a = nobody_at still i refl in
-      byTest (taken i occupied) (λ t. rw (nobody_count i, t)) (λ t. rw (a, nobody_count i, t))
+      by_test (taken i occupied) (λ t. rw (nobody_count i, t)) (λ t. rw (a, nobody_count i, t))
 
   none_fits : (n occupied i : ℕ) → waits_fit n nobody_waits occupied i ≡ true
   unfolding waits_fit
@@ -244,7 +244,7 @@ module _ (marks queue : List ℕ) (m : Memory) where
   -- A step is the step without a queue.
   pub step_same : (piece : List ℕ) → queue_step still piece ≡ step_of m piece
   unfolding queue_step stepped
-  step_same piece = rw step_rows_lem (byTest (step_refusal conn m.store =? 0) (λ t. rw t) (λ t. rw t))
+  step_same piece = rw step_rows_lem (by_test (step_refusal conn m.store =? 0) (λ t. rw t) (λ t. rw t))
 
   -- ---- calls that read
   lent_rows_lem : (id : ℕ) → T.lent_refusal still id ≡ C.lent_refusal conn m.store id
@@ -254,12 +254,12 @@ module _ (marks queue : List ℕ) (m : Memory) where
   reply_same : (id : ℕ) (q : Question) → queue_reply still id q ≡ replied_to conn m.store id q
   reply_same id q =
       rw (queue_replied_or_refused still id q, lent_rows_lem id, replied_or_refused conn m.store id q)
-      (byTest (C.lent_refusal conn m.store id =? 0) (λ t. rw t) (λ t. rw t))
+      (by_test (C.lent_refusal conn m.store id =? 0) (λ t. rw t) (λ t. rw t))
 
   -- The active number is that without a queue.
   pub count_same : queue_count still ≡ C.active_count conn
   unfolding queue_count C.active_count C.count_refusal
-  count_same = rw idle_shape (byTest (refusal ((9 when not (in_shape conn)) ∷ (1 when not conn.«open») ∷ []) =? 0) (λ t. rw t) (λ t. rw t))
+  count_same = rw idle_shape (by_test (refusal ((9 when not (in_shape conn)) ∷ (1 when not conn.«open») ∷ []) =? 0) (λ t. rw t) (λ t. rw t))
 
   -- ---- calls that write
   -- the rows of an output: those of the connection, then those of the request; nothing waits, so 10 is for nobody

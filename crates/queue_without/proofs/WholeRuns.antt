@@ -3,16 +3,16 @@
 -- They leave the same, have the same timeline, and show, tell and write the same. Both ways: a run without a queue is
 -- such a run, and every run by the calls with a queue in which nothing is queued and no turn is made is one without a
 -- queue, so that whatever is proved of runs without a queue speaks of it.
-use Rattle.std.specs.Prelude.{◌≡◌, Bool, ℕ, take}
+use Rattle.std.specs.Prelude.{◌≡◌, Bool, ℕ, take, if◌then◌else◌}
 use Rattle.std.proofs.Math.Path.{refl, ap, ap₂, sym, fun_ext}
 use Rattle.std.proofs.Common.{◌∙◌, eqb-true}
 use mathlib.Core.List.{List, [], ◌∷◌, ◌++◌, map, map-append}
 use Rattle.std.proofs.Math.Bool.{true, false}
-use Rattle.wire.specs.Test.{if◌then◌else◌, byTest, ◌=?◌}
+use Rattle.wire.specs.Test.{by_test, ◌=?◌}
 use Rattle.record.specs.Split.{split_in, split}
 use Rattle.machine.specs.Timeline.{Item, ByteItem, byte_items}
 use Rattle.connection.specs.declared.state.Slot.{Slot}
-use Rattle.connection.specs.Slots.{find, onSlot}
+use Rattle.connection.specs.Slots.{find, on_slot}
 use Rattle.connection.specs.Step.{Stepped}
 use Rattle.connection.specs.Bytewise.{Note, notes}
 use Rattle.connection.specs.Run as Base
@@ -105,8 +105,8 @@ bytes_plain (b ∷ x) = ap (λ l. plain_item (ByteItem b) ∷ l) (bytes_plain x)
 notes_plain : (R : ℕ) (ns : List Note) → notes_of R ns ≡ map plain_shown (seen_of R (map Heard ns))
 unfolding notes_of seen_of
 notes_plain R [] = refl
-notes_plain R (Note.Told e ∷ ns) = byTest (Base.event_id e =? R) (λ t. rw t (ap (λ l. ShownNote (Note.Told e) ∷ l) (notes_plain R ns))) (λ t. rw t (notes_plain R ns))
-notes_plain R (Note.Shown id stream b ∷ ns) = byTest (id =? R) (λ t. rw t (ap (λ l. ShownNote (Note.Shown id stream b) ∷ l) (notes_plain R ns))) (λ t. rw t (notes_plain R ns))
+notes_plain R (Note.Told e ∷ ns) = by_test (Base.event_id e =? R) (λ t. rw t (ap (λ l. ShownNote (Note.Told e) ∷ l) (notes_plain R ns))) (λ t. rw t (notes_plain R ns))
+notes_plain R (Note.Shown id stream b ∷ ns) = by_test (id =? R) (λ t. rw t (ap (λ l. ShownNote (Note.Shown id stream b) ∷ l) (notes_plain R ns))) (λ t. rw t (notes_plain R ns))
 
 module _ (marks queue : List ℕ) (m : Memory) where
   abbrev still : QueueMemory
@@ -117,7 +117,7 @@ module _ (marks queue : List ℕ) (m : Memory) where
   unfolding waits_of
   waits_none R = go m.state.conn.«open» (find m.state.conn.table R)
     where
-      go : (b : Bool) (s : Slot) → (if b then onSlot s (λ i. atoms_in (wait_at still i)) [] else []) ≡ []
+      go : (b : Bool) (s : Slot) → (if b then on_slot s (λ i. atoms_in (wait_at still i)) [] else []) ≡ []
       go true (Slot.At i) = Serve.nothing_waits (wait_at still i) (nobody_at still i refl)
       go true Slot.Nowhere = refl
       go false s = refl
@@ -127,7 +127,7 @@ module _ (marks queue : List ℕ) (m : Memory) where
   unfolding leaving_of
   leaving_none R = go m.state.conn.«open» (find m.state.conn.table R)
     where
-      go : (b : Bool) (s : Slot) → (if b then onSlot s (λ i. last_at nobody_waits i) false else false) ≡ false
+      go : (b : Bool) (s : Slot) → (if b then on_slot s (λ i. last_at nobody_waits i) false else false) ≡ false
       go true (Slot.At i) = none_leaving i
       go true Slot.Nowhere = refl
       go false s = refl
@@ -143,7 +143,7 @@ shown_op : (marks queue : List ℕ) (R : ℕ) (m : Memory) (o : Operation) → s
 unfolding shown_in seen_in seen_of
 shown_op marks queue R m (Base.StepOver piece) = rw (step_same marks queue m piece) (notes_plain R (notes (step_of m piece).event (Base.used_of m piece)))
 shown_op marks queue R m (Base.CallFor id a) =
-    byTest (id =? R)
+    by_test (id =? R)
     (λ t.
     let e = eqb-true id R t in
     let n = (called m id a).memory in
@@ -181,7 +181,7 @@ told_heard (n ∷ ns) os = ap (λ l. n ∷ l) (told_heard ns os)
 seen_append : (R : ℕ) (os ps : List Observed) → seen_of R (os ++ ps) ≡ seen_of R os ++ seen_of R ps
 unfolding seen_of
 seen_append R [] ps = refl
-seen_append R (o ∷ os) ps = byTest (Base.id_of o =? R) (λ t. rw t (ap (λ l. o ∷ l) (seen_append R os ps))) (λ t. rw t (seen_append R os ps))
+seen_append R (o ∷ os) ps = by_test (Base.id_of o =? R) (λ t. rw t (ap (λ l. o ∷ l) (seen_append R os ps))) (λ t. rw t (seen_append R os ps))
 
 -- ---- many operations
 module _ (marks queue : List ℕ) where

@@ -1,10 +1,10 @@
 -- What a queued call comes to: refused, nothing changes; let through, the request is put back as the call leaves it,
 -- and more waits in its slot.
-use Rattle.std.specs.Prelude.{ℕ, ◌+◌, ◌-◌, ◌<◌, ◌≤◌, ◌≡◌, Bool, true, false, not, List, [], ◌∷◌, length, leb}
+use Rattle.std.specs.Prelude.{ℕ, ◌+◌, ◌-◌, ◌<◌, ◌≤◌, ◌≡◌, Bool, true, false, not, List, [], ◌∷◌, length, leb, if◌then◌else◌}
 use Rattle.std.proofs.Math.Path.{refl}
 use Rattle.std.proofs.Common.{sym, ap, ◌∙◌, arith, eq-eqb, ne_eqb, leb-true, leb-false, le-leb}
 use Rattle.std.proofs.lemmas.Bool.{lt-leb}
-use Rattle.wire.specs.Test.{if◌then◌else◌, ◌≤?◌, ◌=?◌, byTest}
+use Rattle.wire.specs.Test.{◌≤?◌, ◌=?◌, by_test}
 use Rattle.connection.specs.declared.request.Request.{Request}
 use Rattle.connection.specs.declared.state.Conn.{Conn}
 use Rattle.connection.specs.declared.answer.Output.{Output}
@@ -56,7 +56,7 @@ no_room_lem count n long e over = sym (lt-leb (count + long) 1024 (omega arith))
 -- The room that n bytes leave is compared with what waits.
 pub room_left : (count n long : ℕ) → long ≡ n → n ≤ 1024 → leb count (1024 - n) ≡ leb (count + long) 1024
 room_left count n long e fits =
-    byTest (leb (count + long) 1024)
+    by_test (leb (count + long) 1024)
     (λ t. rw t (le-leb count (1024 - n) (omega (arith, leb-true (count + long) 1024 t))))
     (λ t. rw t (lt-leb count (1024 - n) (omega (arith, leb-false (count + long) 1024 t))))
 

@@ -1,9 +1,9 @@
 -- Padding and reserved bytes say nothing, and padding can be dropped (FastCGI 1.0, section 3.3).
-use Rattle.std.specs.Prelude.{ℕ, zero, suc, ◌+◌, ◌*◌, ◌-◌, ◌≤◌, ◌<◌, ◌≡◌, refl, true, false, List, [], ◌∷◌, ◌++◌, map, length, take, drop}
+use Rattle.std.specs.Prelude.{ℕ, zero, suc, ◌+◌, ◌*◌, ◌-◌, ◌≤◌, ◌<◌, ◌≡◌, refl, true, false, List, [], ◌∷◌, ◌++◌, map, length, take, drop, if◌then◌else◌}
 use Rattle.std.proofs.Common.{sym, ap, ap₂, ◌∙◌, arith, length-append, length-drop, length-take, length-take-le, get_or-take}
 use Rattle.std.proofs.Math.ListN.{get_or-append}
 use Rattle.std.proofs.lemmas.List.{get_or_at}
-use Rattle.wire.specs.Test.{if◌then◌else◌, byTest}
+use Rattle.wire.specs.Test.{by_test}
 use Rattle.wire.specs.Buffer.{byte_at}
 use Rattle.record.specs.declared.header.Header.{Header}
 use Rattle.record.specs.Names.{HEADER_LEN}
@@ -37,9 +37,9 @@ unpadded b = unpadded_in (length b) b
 enough : (k k' : ℕ) (b : List ℕ) → length b ≤ k → length b ≤ k' → unpadded_in k b ≡ unpadded_in k' b
 unfolding unpadded_in
 enough zero zero b h h' = refl
-enough zero (suc k') b h h' = byTest (whole_front b) (λ t. absurd (omega (arith, (whole_front_lem b t).header))) (λ t. simp t)
-enough (suc k) zero b h h' = byTest (whole_front b) (λ t. absurd (omega (arith, (whole_front_lem b t).header))) (λ t. simp t)
-enough (suc k) (suc k') b h h' = byTest (whole_front b) (λ t. go t (enough k k' (drop (front_length b) b))) (λ t. simp t)
+enough zero (suc k') b h h' = by_test (whole_front b) (λ t. absurd (omega (arith, (whole_front_lem b t).header))) (λ t. simp t)
+enough (suc k) zero b h h' = by_test (whole_front b) (λ t. absurd (omega (arith, (whole_front_lem b t).header))) (λ t. simp t)
+enough (suc k) (suc k') b h h' = by_test (whole_front b) (λ t. go t (enough k k' (drop (front_length b) b))) (λ t. simp t)
   where
     go : whole_front b ≡ true → (length (drop (front_length b) b) ≤ k → length (drop (front_length b) b) ≤ k' → unpadded_in k (drop (front_length b) b) ≡ unpadded_in k' (drop (front_length b) b))
         → unpadded_in (suc k) b ≡ unpadded_in (suc k') b

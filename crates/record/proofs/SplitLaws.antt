@@ -7,7 +7,7 @@ use mathlib.Core.List.{List, [], ◌∷◌, ◌++◌, append_assoc}
 use Rattle.std.proofs.Math.ListN.{length, take, drop, get_or-append, length-append, length-drop}
 use Rattle.std.proofs.Math.Seq.{take_at, drop_at, take-append-le}
 use Rattle.std.proofs.lemmas.List.{drop-append-le}
-use Rattle.wire.specs.Test.{byTest}
+use Rattle.wire.specs.Test.{by_test}
 use Rattle.wire.specs.Buffer.{byte_at}
 use Rattle.record.specs.declared.header.Header.{Header}
 use Rattle.record.specs.Header.{header_of}
@@ -28,7 +28,7 @@ pub record Whole (b : List ℕ) : Type 0 where
 pub whole_front_lem : (b : List ℕ) → whole_front b ≡ true → Whole b
 unfolding whole_front
 whole_front_lem b e =
-    byTest (ltb (length b) 8)
+    by_test (ltb (length b) 8)
     (λ t. let z : ◌≡◌ {A = ℕ} 0 1 = cc (simp t at e) in absurd (omega arith))
     (λ t. record { header = ltb-false (length b) 8 t; within = leb-true (front_length b) (length b) (simp t at e) })
 
@@ -44,9 +44,9 @@ front_long b = omega arith
 enough : (k k' : ℕ) (b : List ℕ) → length b ≤ k → length b ≤ k' → split_in k b ≡ split_in k' b
 unfolding split_in
 enough zero zero b h h' = refl
-enough zero (suc k') b h h' = byTest (whole_front b) (λ t. absurd (omega (arith, (whole_front_lem b t).header))) (λ t. simp t)
-enough (suc k) zero b h h' = byTest (whole_front b) (λ t. absurd (omega (arith, (whole_front_lem b t).header))) (λ t. simp t)
-enough (suc k) (suc k') b h h' = byTest (whole_front b) (λ t. go t (enough k k' (drop (front_length b) b))) (λ t. simp t)
+enough zero (suc k') b h h' = by_test (whole_front b) (λ t. absurd (omega (arith, (whole_front_lem b t).header))) (λ t. simp t)
+enough (suc k) zero b h h' = by_test (whole_front b) (λ t. absurd (omega (arith, (whole_front_lem b t).header))) (λ t. simp t)
+enough (suc k) (suc k') b h h' = by_test (whole_front b) (λ t. go t (enough k k' (drop (front_length b) b))) (λ t. simp t)
   where
     go : whole_front b ≡ true → (length (drop (front_length b) b) ≤ k → length (drop (front_length b) b) ≤ k' → split_in k (drop (front_length b) b) ≡ split_in k' (drop (front_length b) b))
         → split_in (suc k) b ≡ split_in (suc k') b
@@ -74,9 +74,9 @@ pub by_records : (P : List ℕ → Type 0) → ((b : List ℕ) → whole_front b
 by_records P cut whole b = go (length b) b (omega arith)
   where
     go : (k : ℕ) (b : List ℕ) → length b ≤ k → P b
-    go zero b h = byTest (whole_front b) (λ t. absurd (omega (arith, (whole_front_lem b t).header))) (cut b)
+    go zero b h = by_test (whole_front b) (λ t. absurd (omega (arith, (whole_front_lem b t).header))) (cut b)
     go (suc k) b h =
-        byTest (whole_front b)
+        by_test (whole_front b)
         (λ t. whole b t (go k (drop (front_length b) b) (omega (arith, length-drop (front_length b) b, front_long b, (whole_front_lem b t).header))))
         (cut b)
 

@@ -1,6 +1,6 @@
 -- The bodies of eight bytes: BEGIN_REQUEST, END_REQUEST and UNKNOWN_TYPE (FastCGI 1.0, sections 5.1, 5.5 and 4.2).
-use Rattle.std.specs.Prelude.{ℕ, ◌%◌, Bool, List, ◌∷◌, ◌++◌}
-use Rattle.wire.specs.Test.{if◌then◌else◌, ◌=?◌}
+use Rattle.std.specs.Prelude.{ℕ, ◌%◌, Bool, List, ◌∷◌, ◌++◌, if◌then◌else◌}
+use Rattle.wire.specs.Test.{◌=?◌}
 use Rattle.wire.specs.Number.{number2, number4, bytes2, bytes4}
 use Rattle.wire.specs.Buffer.{byte_at, zeros}
 use Rattle.record.specs.Names.{KEEP_CONN}

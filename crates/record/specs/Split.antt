@@ -1,6 +1,6 @@
 -- A list of bytes split into whole records and the rest, a record that is cut (FastCGI 1.0, section 3.3).
-use Rattle.std.specs.Prelude.{ℕ, zero, suc, ◌+◌, Bool, false, List, [], ◌∷◌, ◌++◌, length, take, drop}
-use Rattle.wire.specs.Test.{if◌then◌else◌, ◌<?◌, ◌≤?◌}
+use Rattle.std.specs.Prelude.{ℕ, zero, suc, ◌+◌, Bool, false, List, [], ◌∷◌, ◌++◌, length, take, drop, if◌then◌else◌}
+use Rattle.wire.specs.Test.{◌<?◌, ◌≤?◌}
 use Rattle.record.specs.Names.{HEADER_LEN}
 use Rattle.record.specs.Header.{header_of}
 

@@ -1,6 +1,5 @@
 // The bodies of eight bytes.
-ghost use Rattle.std.specs.Prelude.{◌≡◌};
-ghost use Rattle.wire.specs.Test.{if◌then◌else◌};
+ghost use Rattle.std.specs.Prelude.{◌≡◌, if◌then◌else◌};
 ghost use Rattle.record.specs.Names.{KEEP_CONN};
 ghost use Rattle.record.specs.Body.{begin_body_of, end_body_of, unknown_type_of};
 ghost use Rattle.record.specs.Body.{begin_body_bytes, end_body_bytes, unknown_type_bytes};

@@ -3,7 +3,7 @@
 use Rattle.std.specs.Prelude.{ℕ, zero, suc, ◌+◌, ◌-◌, ◌≤◌, ◌<◌, min, ◌≡◌, refl, true, false, List, [], ◌∷◌, ◌++◌, length, take, replicate, ltb}
 use Rattle.std.proofs.Common.{sym, ap, ap₂, ◌∙◌, arith, length-take, take_all, length-take-le, lt-ltb, le-ltb, ltb-true, ltb-false}
 use Rattle.std.proofs.lemmas.Bool.{lt-leb}
-use Rattle.wire.specs.Test.{byTest}
+use Rattle.wire.specs.Test.{by_test}
 use Rattle.wire.specs.Buffer.{put_at, copied}
 use Rattle.wire.proofs.BufferLaws.{copied_room, put_put, put_none, put_length}
 use Rattle.record.specs.Header.{header_of}
@@ -137,7 +137,7 @@ in_padding c k h x l =
 
 in_head : (k : ℕ) (h x : List ℕ) → length h ≡ 8 → k < 8 → Bytewise (at 0 0 k h) x (advanced (at 0 0 k h) x)
 unfolding spread
-in_head k h x l g = byTest (ltb (k + length x) 8) part whole
+in_head k h x l g = by_test (ltb (k + length x) 8) part whole
   where
     part : ltb (k + length x) 8 ≡ true → Bytewise (at 0 0 k h) x (advanced (at 0 0 k h) x)
     part t =
@@ -178,7 +178,7 @@ uses_some p proper x some =
     (λ c q k h e g l. rw (step_content c q k h x l) (omega arith, omega arith))
     (λ c k h e g l. rw (step_padding c k h x l) (omega arith, omega arith))
     (λ k h e l.
-    byTest (ltb (k + length x) 8)
+    by_test (ltb (k + length x) 8)
     (λ t. rw (step_part k h x (ltb-true (k + length x) 8 t)) (omega arith, omega arith))
     (λ t. let g : 8 ≤ k + length x = ltb-false (k + length x) 8 t in rw (step_whole k h x l g) (omega arith, omega arith)))
     p proper
@@ -190,7 +190,7 @@ stays_proper p proper x =
     (λ c q k h e g l. rw (step_content c q k h x l) (record { held = g; eight = e }))
     (λ c k h e g l. rw (step_padding c k h x l) (record { held = g; eight = e }))
     (λ k h e g.
-    byTest (ltb (k + length x) 8)
+    by_test (ltb (k + length x) 8)
     (λ t. let s : k + length x < 8 = ltb-true (k + length x) 8 t in rw (step_part k h x s) (record { held = s; eight = put_length h k x (omega arith) ∙ e }))
     (λ t. rw (step_whole k h x g (ltb-false (k + length x) 8 t)) (record { held = omega arith; eight = refl })))
     p proper

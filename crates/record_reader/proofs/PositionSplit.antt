@@ -1,7 +1,7 @@
 -- The position of a reader agrees with the split into records.
 use Rattle.std.specs.Prelude.{ℕ, ◌+◌, ◌-◌, ◌≤◌, ◌<◌, ◌≡◌, refl, true, false, List, [], ◌∷◌, ◌++◌, length, take, drop, ltb, leb}
 use Rattle.std.proofs.Common.{sym, ap, ◌∙◌, append-nil, arith, length-drop, take-append-drop, length-take-le, drop-drop, ltb-true, ltb-false, leb-false}
-use Rattle.wire.specs.Test.{byTest}
+use Rattle.wire.specs.Test.{by_test}
 use Rattle.record.specs.Header.{header_of}
 use Rattle.record.specs.Split.{front_length, whole_front, split}
 use Rattle.record.proofs.SplitLaws.{whole_front_lem, header_front, by_records, split_whole, split_cut, rest_cut}
@@ -61,7 +61,7 @@ unfinished p = p.content + p.padding + p.held
 
 -- after a header, with fewer bytes than its content and padding
 cut_behind : (c p : ℕ) (x : List ℕ) → length x < c + p → 0 < unfinished (after (at c p 0 no_header) x)
-cut_behind c p x short = byTest (ltb (length x) c) in_content in_padding
+cut_behind c p x short = by_test (ltb (length x) c) in_content in_padding
   where
     in_content : ltb (length x) c ≡ true → 0 < unfinished (after (at c p 0 no_header) x)
     in_content t =
@@ -83,7 +83,7 @@ cut_behind c p x short = byTest (ltb (length x) c) in_content in_padding
 -- a record that is cut leaves something to come
 cut_unfinished : (b : List ℕ) → whole_front b ≡ false → 0 < length b → 0 < unfinished (after between_records b)
 unfolding whole_front front_length
-cut_unfinished b t some = byTest (ltb (length b) 8) short long
+cut_unfinished b t some = by_test (ltb (length b) 8) short long
   where
     short : ltb (length b) 8 ≡ true → 0 < unfinished (after between_records b)
     short e = rw (part_grows b 0 no_header refl (omega (arith, ltb-true (length b) 8 e))).0 (omega arith)

@@ -1,6 +1,6 @@
 -- The position of a reader of records: what it still needs of the record that it is in.
-use Rattle.std.specs.Prelude.{ℕ, ◌+◌, ◌-◌, ◌<◌, min, ◌≡◌, List, [], ◌∷◌, ◌++◌, length, take, replicate}
-use Rattle.wire.specs.Test.{if◌then◌else◌, ◌<?◌, ◌≤?◌}
+use Rattle.std.specs.Prelude.{ℕ, ◌+◌, ◌-◌, ◌<◌, min, ◌≡◌, List, [], ◌∷◌, ◌++◌, length, take, replicate, if◌then◌else◌}
+use Rattle.wire.specs.Test.{◌<?◌, ◌≤?◌}
 use Rattle.wire.specs.Buffer.{put_at, zeros}
 use Rattle.record.specs.Names.{HEADER_LEN}
 use Rattle.record.specs.Header.{header_of}

@@ -8,7 +8,7 @@ use mathlib.Core.List.{List, [], ◌∷◌, ◌++◌, append-nil, append_assoc}
 use Rattle.std.proofs.Math.ListN.{length, length-drop}
 use Rattle.std.proofs.Math.Dec.{eqb}
 use borrow.Author.Tests.{le-ltb, lt-leb, ltb-true, ltb-false, ne_eqb}
-use Rattle.wire.specs.Test.{byTest}
+use Rattle.wire.specs.Test.{by_test}
 use Rattle.wire.specs.Buffer.{put_at}
 use Rattle.wire.proofs.BufferLaws.{put_put, put_length}
 use Rattle.record.specs.Header.{header_of}
@@ -69,7 +69,7 @@ module _ (R : Rules) (L : Lawful R) where
   -- behind what a rule left, that is ready for so much content
   fit_standing : (q : Position) (l : Left State Note) → Proper q → Ready l.state q.content → Fit (standing R q l).reader
   fit_standing q l proper ready =
-      byTest (is_open l.state)
+      by_test (is_open l.state)
       (λ o. rw o (record { proper = proper; ready = ready }))
       (λ o. rw o (record { proper = record { held = omega arith; eight = refl }; ready = closed_ready l.state q.content o ready }))
 
@@ -92,15 +92,15 @@ module _ (R : Rules) (L : Lawful R) where
   unfolding advanced in_header
   by_way p s x proper o some all content padding part whole =
       let e : (advanced p x).used ≡ length x = sym (used_advanced p s x o some) ∙ all in
-      byTest (ltb 0 p.content)
+      by_test (ltb 0 p.content)
       (λ t. let u : min p.content (length x) ≡ length x = simp t at e in content (p.content - length x) (omega arith))
       (λ t.
       let z : p.content ≡ 0 = omega (arith, ltb-false 0 p.content t) in
-      byTest (ltb 0 p.padding)
+      by_test (ltb 0 p.padding)
       (λ v. let u : min p.padding (length x) ≡ length x = simp (t, v) at e in padding (p.padding - length x) z (omega arith))
       (λ v.
       let y : p.padding ≡ 0 = omega (arith, ltb-false 0 p.padding v) in
-      byTest (ltb (p.held + length x) 8)
+      by_test (ltb (p.held + length x) 8)
       (λ w. part z y (ltb-true (p.held + length x) 8 w))
       (λ w.
       let m : min (8 - p.held) (length x) ≡ 8 - p.held = omega (arith, ltb-false (p.held + length x) 8 w, proper.held) in
@@ -199,7 +199,7 @@ module _ (R : Rules) (L : Lawful R) where
 
   pub step_none : (a : Reader R) → (step R a [] ≡ resting R a) × (used R a [] ≡ 0)
   unfolding step used
-  step_none a = byTest (is_open a.inner) (λ o. (simp o, simp o)) (λ o. (simp o, simp o))
+  step_none a = by_test (is_open a.inner) (λ o. (simp o, simp o)) (λ o. (simp o, simp o))
 
   -- Progress: an open reader uses a byte at least, and no more than there are.
   pub uses : (a : Reader R) (x : List ℕ) → Fit a → is_open a.inner ≡ true → 0 < length x → (0 < used R a x) × (used R a x ≤ length x)
@@ -210,7 +210,7 @@ module _ (R : Rules) (L : Lawful R) where
 
   pub fit_byte : (a : Reader R) (b : ℕ) → Fit a → Fit (step R a (b ∷ [])).reader
   fit_byte a b fit =
-      byTest (is_open a.inner)
+      by_test (is_open a.inner)
       (λ o. fit_step a (b ∷ []) fit o (omega arith) (byte_used a b fit o))
       (λ o. rw (step_shut a (b ∷ []) o).0 (record { proper = fit.proper; ready = fit.ready }))
 
@@ -287,9 +287,9 @@ module _ (R : Rules) (L : Lawful R) where
   -- Whatever piece: a step comes to what the bytes that it used come to one by one.
   pub step_by_byte : (a : Reader R) (x : List ℕ) → Fit a → step R a x ≡ by_byte R a (take (used R a x) x)
   step_by_byte a x fit =
-      byTest (is_open a.inner)
+      by_test (is_open a.inner)
       (λ o.
-      byTest (ltb 0 (length x))
+      by_test (ltb 0 (length x))
       (λ t.
       let k = used_only a x fit o (ltb-true 0 (length x) t) in
       k.0 ∙ step_all (take (used R a x) x) a fit o k.1)
@@ -306,7 +306,7 @@ module _ (R : Rules) (L : Lawful R) where
   cutting zero a [] fit l = sym (by_byte_none a)
   cutting zero a (b ∷ x) fit l = absurd (omega arith)
   cutting (suc k) a x fit l =
-      byTest (is_open a.inner) (λ o. byTest (ltb 0 (length x)) (λ t. more o (ltb-true 0 (length x) t) (cutting k (step R a x).reader (drop (used R a x) x))) (λ t. none x (ltb-false 0 (length x) t))) shut
+      by_test (is_open a.inner) (λ o. by_test (ltb 0 (length x)) (λ t. more o (ltb-true 0 (length x) t) (cutting k (step R a x).reader (drop (used R a x) x))) (λ t. none x (ltb-false 0 (length x) t))) shut
     where
       shut : is_open a.inner ≡ false → and_then R (step R a x) (λ c. fed R k c (drop (used R a x) x)) ≡ by_byte R a x
       shut o =
@@ -353,7 +353,7 @@ module _ (R : Rules) (L : Lawful R) where
   -- ---- all is read while the reader is open
   pub open_before : (x : List ℕ) (a : Reader R) → is_open (by_byte R a x).reader.inner ≡ true → is_open a.inner ≡ true
   open_before x a o =
-      byTest (is_open a.inner) (λ t. t) (λ t. let z : ◌≡◌ {A = ℕ} 0 1 = cc (sym o ∙ ap (λ (w : Run R). is_open w.reader.inner) (by_byte_shut x a t) ∙ t) in absurd (omega arith))
+      by_test (is_open a.inner) (λ t. t) (λ t. let z : ◌≡◌ {A = ℕ} 0 1 = cc (sym o ∙ ap (λ (w : Run R). is_open w.reader.inner) (by_byte_shut x a t) ∙ t) in absurd (omega arith))
 
   -- From a reader that is open behind them, so many bytes are read in as many steps, and none is left.
   pub all_read : (k : ℕ) (a : Reader R) (x : List ℕ) → Fit a → length x ≤ k → is_open (by_byte R a x).reader.inner ≡ true → left_of R k a x ≡ []

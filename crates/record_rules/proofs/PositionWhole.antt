@@ -2,7 +2,7 @@
 use Rattle.std.specs.Prelude.{ℕ, ◌+◌, ◌-◌, ◌<◌, min, ◌≡◌, List, length, take, ltb}
 use Rattle.std.proofs.Common.{arith, take_all, length-take-le, lt-ltb, le-ltb}
 use Rattle.std.proofs.lemmas.Bool.{lt-leb}
-use Rattle.wire.specs.Test.{byTest}
+use Rattle.wire.specs.Test.{by_test}
 use Rattle.wire.specs.Buffer.{put_at}
 use Rattle.record.specs.Header.{header_of}
 use Rattle.record_reader.specs.Position.{after_header, in_header, advanced, Proper}
@@ -46,14 +46,14 @@ in_whole p x some z y e =
 pub advanced_only : (p : Position) (x : List ℕ) → Proper p → 0 < length x → advanced p (take (advanced p x).used x) ≡ advanced p x
 unfolding advanced in_header
 advanced_only p x proper some =
-    byTest (ltb 0 p.content)
+    by_test (ltb 0 p.content)
     (λ t.
     let m = min p.content (length x) in
     let l : length (take m x) ≡ m = length-take-le m x (omega arith) in
     let k : min p.content (length (take m x)) ≡ m = omega arith in
     simp (t, k))
     (λ t.
-    byTest (ltb 0 p.padding)
+    by_test (ltb 0 p.padding)
     (λ v.
     let m = min p.padding (length x) in
     let l : length (take m x) ≡ m = length-take-le m x (omega arith) in
@@ -65,4 +65,4 @@ advanced_only p x proper some =
     let l : length (take m x) ≡ m = length-take-le m x (omega arith) in
     let k : min (8 - p.held) (length (take m x)) ≡ m = omega arith in
     let w : take m (take m x) ≡ take m x = take_all m (take m x) (omega arith) in
-    byTest (ltb (p.held + m) 8) (λ y. simp (t, v, few, y, k, w)) (λ y. simp (t, v, few, y, k, w))))
+    by_test (ltb (p.held + m) 8) (λ y. simp (t, v, few, y, k, w)) (λ y. simp (t, v, few, y, k, w))))

@@ -8,7 +8,7 @@ use native.Mathlib.Omega.{arith}
 use Rattle.std.proofs.Math.ListN.{length}
 use Rattle.std.proofs.Math.Dec.{eqb}
 use borrow.Author.Tests.{ne_eqb}
-use Rattle.wire.specs.Test.{byTest}
+use Rattle.wire.specs.Test.{by_test}
 use Rattle.wire.specs.Buffer.{put_at}
 use Rattle.record.specs.Header.{header_of}
 use Rattle.record.specs.declared.header.Header.{Header}
@@ -52,7 +52,7 @@ module _ (R : Rules) (L : Lawful R) where
   then_padding : (l : Left State Note) (y : List ℕ) (n : ℕ) → Ready l.state 0 → length y ≡ n
       → and_then R (standing R (at 0 n 0 no_header) l) (λ c. by_byte R c y) ≡ record { reader = between l.state; notes = l.notes }
   then_padding l y n ready e =
-      byTest (is_open l.state)
+      by_test (is_open l.state)
       (λ o.
       rw o
       (ap (λ (w : Run R). record { reader = w.reader; notes = l.notes ++ w.notes }) (padding_read l.state y n ready o e)
@@ -89,7 +89,7 @@ module _ (R : Rules) (L : Lawful R) where
       let rd : Ready l.state c = judged_ready s (header_of h) ready in
       by_byte_append R L h (between s) (x ++ y)
       ∙ ap (λ (w : Run R). and_then R w (λ c. by_byte R c (x ++ y))) (header_read s h ready o eight)
-      ∙ byTest (is_open l.state)
+      ∙ by_test (is_open l.state)
       (λ t. rw t (ap (λ (w : Run R). record { reader = w.reader; notes = l.notes ++ w.notes }) (content_read l.state c p x y rd t hc hp ∙ rw t)))
       (λ t. rw t (ap (λ (w : Run R). record { reader = w.reader; notes = l.notes ++ w.notes }) (by_byte_shut R L (x ++ y) (between l.state) t)))
 
@@ -100,10 +100,10 @@ module _ (R : Rules) (L : Lawful R) where
     where
       go : (y : List ℕ) → Ready (judged s h).state h.content → length y ≡ h.content → Ready (content_means R y (judged s h).state).state 0
       go [] k e =
-          byTest (is_open (judged s h).state) (λ o. let z : h.content ≡ 0 = omega arith in rw o (subst (Ready (judged s h).state) z k)) (λ o. rw o (closed_ready (judged s h).state h.content o k))
+          by_test (is_open (judged s h).state) (λ o. let z : h.content ≡ 0 = omega arith in rw o (subst (Ready (judged s h).state) z k)) (λ o. rw o (closed_ready (judged s h).state h.content o k))
       go (b ∷ y) k e =
           let ne : eqb (length (b ∷ y)) 0 ≡ false = ne_eqb (length (b ∷ y)) 0 (λ z. omega arith) in
           let m : h.content ≡ length (b ∷ y) + 0 = omega arith in
-          byTest (is_open (judged s h).state)
+          by_test (is_open (judged s h).state)
           (λ o. simp (o, ne) (taken_ready (judged s h).state (b ∷ y) 0 (subst (Ready (judged s h).state) m k)))
           (λ o. simp o (closed_ready (judged s h).state h.content o k))

@@ -1,6 +1,6 @@
 -- A reader of records over any rules: it stays in one phase, hands a whole header to be judged and content bytes to be taken in. Definitions only.
-use Rattle.std.specs.Prelude.{ℕ, zero, suc, ◌+◌, ◌<◌, ◌≡◌, Bool, true, false, List, [], ◌∷◌, ◌++◌, length, take, drop}
-use Rattle.wire.specs.Test.{if◌then◌else◌, ◌=?◌}
+use Rattle.std.specs.Prelude.{ℕ, zero, suc, ◌+◌, ◌<◌, ◌≡◌, Bool, true, false, List, [], ◌∷◌, ◌++◌, length, take, drop, if◌then◌else◌}
+use Rattle.wire.specs.Test.{◌=?◌}
 use Rattle.record.specs.declared.header.Header.{Header}
 use Rattle.record_reader.specs.Position.{between_records, advanced}
 use Rattle.record_reader.specs.declared.Position.{Position}

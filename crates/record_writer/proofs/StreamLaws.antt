@@ -7,7 +7,7 @@ use native.Mathlib.Omega.{arith}
 use Rattle.std.proofs.Math.Nat.{div-eq_of_lt, div-eq-sub-div, mod-eq-sub-mod}
 use Rattle.std.proofs.Math.Dec.{leb}
 use borrow.Author.Tests.{ltb-true, ltb-false, leb-true, lt-ltb, lt-leb, le-leb, eq-eqb, ne_eqb}
-use Rattle.wire.specs.Test.{byTest}
+use Rattle.wire.specs.Test.{by_test}
 use Rattle.wire.specs.Buffer.{put_at}
 use Rattle.wire.proofs.BufferLaws.{put_put, put_length, room_left}
 use Rattle.record_writer.specs.Written.{record_length, record_bytes, chunks_in, chunks, stream_bytes, stream_length, Placed, record_fits, stream_fits, record_placed, stream_placed}
@@ -113,7 +113,7 @@ stream_length_lem size kind id hs =
         ap length (stream_more size kind id x hs h)
         ∙ length-append (record_bytes kind id (take size x)) (stream_bytes size kind id (drop size x))
         ∙ ap₂ (λ (a b : ℕ). a + b) (record_length_lem kind id (take size x)) ih
-        ∙ byTest (ltb (length x) size) last whole
+        ∙ by_test (ltb (length x) size) last whole
       where
         last : ltb (length x) size ≡ true → record_length (length (take size x)) + stream_length size (length (drop size x)) ≡ stream_length size (length x)
         last t =
@@ -133,7 +133,7 @@ stream_length_lem size kind id hs =
 -- the first chunk, by the number of its bytes
 chunk_taken : (size : ℕ) (y : List ℕ) (n : ℕ) → n ≡ min size (length y) → (take size y ≡ take n y) × (drop size y ≡ drop n y) × (length (take n y) ≡ n)
 chunk_taken size y n e =
-    byTest (ltb (length y) size)
+    by_test (ltb (length y) size)
     (λ t.
     let l : length y < size = ltb-true (length y) size t in
     let k : n ≡ length y = omega arith in (
@@ -207,7 +207,7 @@ stream_unplaced l at kind id x size e = simp e
 pub stream_fits_lem : (size n at room : ℕ) → stream_fits size n at room ≡ true → (0 < size) × (at + stream_length size n ≤ room)
 unfolding stream_fits
 stream_fits_lem size n at room e =
-    byTest (ltb 0 size)
+    by_test (ltb 0 size)
     (λ t. (ltb-true 0 size t, leb-true (at + stream_length size n) room (simp t at e)))
     (λ t. let z : ◌≡◌ {A = ℕ} 0 1 = cc (simp t at e) in absurd (omega arith))
 

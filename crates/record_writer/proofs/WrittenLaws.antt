@@ -5,7 +5,7 @@ use Rattle.std.proofs.Common.{◌∙◌, leb-true, le-leb}
 use mathlib.Core.List.{List, ◌++◌}
 use native.Mathlib.Omega.{arith}
 use Rattle.std.proofs.Math.ListN.{length, take, length-append, length-replicate}
-use Rattle.wire.specs.Test.{byTest}
+use Rattle.wire.specs.Test.{by_test}
 use Rattle.wire.specs.Buffer.{put_at, copied, zeros}
 use Rattle.wire.proofs.BufferLaws.{put_put, put_length, copied_room}
 use Rattle.record.specs.Header.{header_bytes}
@@ -33,7 +33,7 @@ pub record Fits (n at room : ℕ) : Type 0 where
 pub record_fits_lem : (n at room : ℕ) → record_fits n at room ≡ true → Fits n at room
 unfolding record_fits record_length
 record_fits_lem n at room e =
-    byTest (leb n 65535)
+    by_test (leb n 65535)
     (λ t. record { said = leb-true n 65535 t; within = omega (arith, leb-true (at + (8 + n + padding_of n)) room (simp t at e)) })
     (λ t. let z : ◌≡◌ {A = ℕ} 0 1 = cc (simp t at e) in absurd (omega arith))
 

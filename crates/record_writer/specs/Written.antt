@@ -1,7 +1,7 @@
 -- Records as they are written: one record, and a stream cut into records.
-use Rattle.std.specs.Prelude.{ℕ, zero, suc, ◌+◌, ◌*◌, ◌-◌, ◌/◌, ◌%◌, Bool, false, length, take, drop}
+use Rattle.std.specs.Prelude.{ℕ, zero, suc, ◌+◌, ◌*◌, ◌-◌, ◌/◌, ◌%◌, Bool, false, length, take, drop, if◌then◌else◌}
 use mathlib.Core.List.{List, [], ◌∷◌, ◌++◌, map, flatten}
-use Rattle.wire.specs.Test.{if◌then◌else◌, ◌≤?◌, ◌<?◌, ◌=?◌}
+use Rattle.wire.specs.Test.{◌≤?◌, ◌<?◌, ◌=?◌}
 use Rattle.wire.specs.Buffer.{put_at, zeros}
 use Rattle.record.specs.Names.{HEADER_LEN, MAX_CONTENT}
 use Rattle.record.specs.Header.{header_bytes}

@@ -3,7 +3,7 @@
 use Rattle.std.specs.Prelude.{ℕ, ◌<◌, ◌≡◌, refl, get_or, eqb}
 use Rattle.std.proofs.Common.{sym, ap, ◌∙◌, subst, arith, eqb-true}
 use Rattle.std.proofs.lemmas.Bool.{eqb-false}
-use Rattle.wire.specs.Test.{byTest}
+use Rattle.wire.specs.Test.{by_test}
 use Rattle.connection.specs.declared.answer.Output.{Output}
 use Rattle.connection.specs.declared.request.RequestState.{RequestState}
 use Rattle.connection.specs.declared.request.Request.{Request}
@@ -94,7 +94,7 @@ pub each_at : (Q : ℕ → ℕ → RequestState → Type 0) (s : Table) (i : ℕ
     → ((id k : ℕ) → (k ≡ i → ⊥) → find s id ≡ Slot.At k → Q id k (request_at s k).state) → Each (put_request s i r) Q
 each_at Q s i r sized same own others id k e =
     let before : find s id ≡ Slot.At k = sym (find_put s i r id same) ∙ e in
-    byTest (eqb k i)
+    by_test (eqb k i)
     (λ x.
     let is : k ≡ i = eqb-true k i x in
     let low : i < SLOTS = subst (λ (n : ℕ). n < SLOTS) is (find_at s id k before).low in
@@ -117,7 +117,7 @@ each_freed Q s i tidy others id k e =
 pub each_opened : (Q : ℕ → ℕ → RequestState → Type 0) (s : Table) (i : ℕ) (q : Request) → Sized s → Tidy s → i < SLOTS → Q q.id i q.state → Each s Q → Each (take_slot s i q) Q
 each_opened Q s i q sized tidy low own a id k e =
     let h = find_at (take_slot s i q) id k e in
-    byTest (eqb k i)
+    by_test (eqb k i)
     (λ x.
     let at : request_at (take_slot s i q) k ≡ q = ap (request_at (take_slot s i q)) (eqb-true k i x) ∙ request_of_take s i q sized low in
     let is : q.id ≡ id = ap (λ (r : Request). r.id) (sym at) ∙ sym (id_at (take_slot s i q) k) ∙ h.has_id in

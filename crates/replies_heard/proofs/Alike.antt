@@ -1,14 +1,14 @@
 -- Reading does not rest on what was opened or written meanwhile: two states of the server's end, the second with the
 -- requests of the first, whatever their turns, and perhaps more, read the same bytes alike, as long as the first stays
 -- open.
-use Rattle.std.specs.Prelude.{ℕ, ◌+◌, ◌<◌, Bool, false, take, ltb, eqb}
+use Rattle.std.specs.Prelude.{ℕ, ◌+◌, ◌<◌, Bool, false, take, ltb, eqb, if◌then◌else◌}
 use Rattle.std.proofs.Math.Path.{◌≡◌, refl, ap, subst}
 use Rattle.std.proofs.Common.{sym, ◌∙◌, arith, eqb-true}
 use Rattle.std.proofs.Math.Bool.{true}
 use mathlib.Core.List.{List, [], ◌∷◌, ◌++◌}
 use Rattle.std.proofs.Math.ListN.{length}
 use Rattle.std.proofs.lemmas.Bool.{eqb-false}
-use Rattle.wire.specs.Test.{if◌then◌else◌, byTest}
+use Rattle.wire.specs.Test.{by_test}
 use Rattle.wire.specs.Buffer.{copied}
 use Rattle.slot_word.specs.Word.{taken}
 use Rattle.record.specs.declared.header.Header.{Header}
@@ -22,7 +22,7 @@ use Rattle.connection.specs.declared.state.Slot.{Slot}
 use Rattle.connection.specs.declared.state.Table.{Table}
 use Rattle.connection.specs.Sizes.{SLOTS, QUERY}
 use Rattle.connection.specs.RequestCalls.{is_ended, ended_on}
-use Rattle.connection.specs.Slots.{request_at, put_request, free_slot, find, onSlot}
+use Rattle.connection.specs.Slots.{request_at, put_request, free_slot, find, on_slot}
 use Rattle.connection.proofs.Laws.SlotsLaws.{Sized, Holds, find_at, put_occupied, put_ids, request_of_put, request_of_other, other_of_free, taken_of_free_other, taken_of_free, only_slot}
 use Rattle.connection.specs.Fits.{InUse}
 use Rattle.connection.proofs.Runs.CallShape.{free_holds}
@@ -85,7 +85,7 @@ module _ (w u : Table) where
         holds = λ id k h. (put_holds t' i q eq id k).1 (a.holds id k ((put_holds t i r er id k).0 h));
         ends = λ k y.
             let w0 : InUse t k = record { low = y.low; slot_taken = rw (put_occupied t i r) at y.slot_taken } in
-            byTest (eqb k i)
+            by_test (eqb k i)
             (λ x.
             let is : k ≡ i = eqb-true k i x in
             let ra : request_at (put_request t i r) k ≡ r = ap (request_at (put_request t i r)) is ∙ request_of_put t i r st busy.low in
@@ -170,7 +170,7 @@ module _ (w u : Table) where
     follows_request kind m i w =
         both (eqb kind 3) _ _ _ _ (λ k. both (eqb m 8) _ _ _ _ (λ e. still _ _ refl) (λ e. shut s 54 _)) (λ k. follows_output (output_of kind) m i w)
 
-    follows_slot : (kind m id : ℕ) (k : Slot) → find s.table id ≡ k → Follows (onSlot k (on_request s kind m) (closes s 53)) (onSlot (find t' id) (on_request s' kind m) (closes s' 53))
+    follows_slot : (kind m id : ℕ) (k : Slot) → find s.table id ≡ k → Follows (on_slot k (on_request s kind m) (closes s 53)) (on_slot (find t' id) (on_request s' kind m) (closes s' 53))
     follows_slot kind m id (Slot.At i) e =
         let h = find_at s.table id i e in
         let there : find t' id ≡ Slot.At i = only_slot t' ready'.tidy.distinct id i (a.holds id i h) in

@@ -5,7 +5,7 @@ use Rattle.std.proofs.Common.{sym, ◌∙◌, ⊎_elim, arith}
 use Rattle.std.proofs.Math.ListN.{length, take}
 use Rattle.std.proofs.Math.Seq.{take_at}
 use borrow.Author.Tests.{eqb-true, eqb-false}
-use Rattle.wire.specs.Test.{byTest}
+use Rattle.wire.specs.Test.{by_test}
 use Rattle.wire.proofs.Bytes.{AllBytes, append_bytes}
 use Rattle.record.specs.Names.{STDOUT, STDERR, END_REQUEST, REQUEST_COMPLETE}
 use Rattle.record.specs.Body.{end_body_bytes}
@@ -69,13 +69,13 @@ end_is_bytes false kind id k = no_bytes
 -- what is owed is not ended
 pub owes_out_lem : (m : RequestState) → owes_out m ≡ true → m.out_ended ≡ false
 unfolding owes_out
-owes_out_lem m e = byTest m.out_ended (λ t. let z : ◌≡◌ {A = ℕ} 0 1 = cc (simp t at e) in absurd (omega arith)) (λ t. t)
+owes_out_lem m e = by_test m.out_ended (λ t. let z : ◌≡◌ {A = ℕ} 0 1 = cc (simp t at e) in absurd (omega arith)) (λ t. t)
 
 pub owes_err_lem : (m : RequestState) → owes_err m ≡ true → m.err_ended ≡ false
 unfolding owes_err
 owes_err_lem m e =
-    byTest m.err_used
-    (λ u. byTest m.err_ended (λ t. let z : ◌≡◌ {A = ℕ} 0 1 = cc (simp (u, t) at e) in absurd (omega arith)) (λ t. t))
+    by_test m.err_used
+    (λ u. by_test m.err_ended (λ t. let z : ◌≡◌ {A = ℕ} 0 1 = cc (simp (u, t) at e) in absurd (omega arith)) (λ t. t))
     (λ u. let z : ◌≡◌ {A = ℕ} 0 1 = cc (simp u at e) in absurd (omega arith))
 
 -- ---- the bytes of a finish
@@ -114,9 +114,9 @@ refused_writes : (c : Conn) (store : List ℕ) (id status : ℕ) (buffer : List 
 unfolding C.finish C.finishes
 refused_writes c store id status buffer e =
     let r = request_at c.table (C.slot_of c id) in
-    byTest (eqb (C.lent_refusal c store id) 0)
-    (λ t. byTest (eqb (finish_in r status buffer).refusal 0)
-    (λ n. byTest r.state.keep (λ k. absurd (e (simp (t, n, k)))) (λ k. absurd (e (simp (t, n, k)))))
+    by_test (eqb (C.lent_refusal c store id) 0)
+    (λ t. by_test (eqb (finish_in r status buffer).refusal 0)
+    (λ n. by_test r.state.keep (λ k. absurd (e (simp (t, n, k)))) (λ k. absurd (e (simp (t, n, k)))))
     (λ n. simp (t, n)))
     (λ t. simp t)
 
@@ -131,7 +131,7 @@ module _ (c : Conn) (store : List ℕ) (id status : ℕ) (buffer : List ℕ) (t 
   pub finish_heard : status < 4294967296 → CallHeard id c.table t v (take w.written w.buffer) (unless w.refusal (finish_notes own.state id status)) w.conn.table
   unfolding C.released
   finish_heard small =
-      byTest (eqb w.refusal 0)
+      by_test (eqb w.refusal 0)
       (λ z.
       let e = eqb-true w.refusal 0 z in
       let d = did c store id status buffer e in

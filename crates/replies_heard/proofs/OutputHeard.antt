@@ -2,7 +2,7 @@
 use Rattle.std.specs.Prelude.{ℕ, ◌<◌, ◌≡◌, refl, true, false, List, [], ◌∷◌, take, eqb}
 use Rattle.std.proofs.Common.{sym, ap, ◌∙◌, subst, arith, eqb-true}
 use Rattle.std.proofs.lemmas.Bool.{eqb-false}
-use Rattle.wire.specs.Test.{byTest}
+use Rattle.wire.specs.Test.{by_test}
 use Rattle.wire.proofs.Bytes.{AllBytes}
 use Rattle.record_writer.specs.Written.{record_bytes, stream_bytes}
 use Rattle.connection.specs.declared.answer.Output.{Output}
@@ -81,7 +81,7 @@ module _ (c : Conn) (id : ℕ) (t : Table) (v : List ℕ) (ready : Ready (idle t
 
     output_heard : (Let o → CallHeard id c.table t v (f id) l (put_request c.table at (g own))) → CallHeard id c.table t v (take w.written w.buffer) (unless w.refusal l) w.conn.table
     output_heard through =
-        byTest (eqb w.refusal 0)
+        by_test (eqb w.refusal 0)
         (λ z.
         let e = eqb-true w.refusal 0 z in
         let d = did c id o (λ r. f r.id) g buffer e in

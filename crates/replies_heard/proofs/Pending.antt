@@ -1,10 +1,10 @@
 -- The ids whose opening is on its way or was refused: how a move of the station changes these two lists.
-use Rattle.std.specs.Prelude.{ℕ, ◌≡◌, refl, Bool, true, false, ◌⊎◌, eqb}
+use Rattle.std.specs.Prelude.{ℕ, ◌≡◌, refl, Bool, true, false, ◌⊎◌, eqb, if◌then◌else◌}
 use Rattle.std.proofs.Common.{sym, ◌∙◌, subst, inl, inr, ⊎_elim, arith, eqb-true}
 use mathlib.Core.List.Memᴰ
 use mathlib.Core.List.{List, [], ◌∷◌, Memᴰ}
 use Rattle.std.proofs.lemmas.Bool.{eqb-false}
-use Rattle.wire.specs.Test.{if◌then◌else◌, byTest}
+use Rattle.wire.specs.Test.{by_test}
 use Rattle.connection.specs.declared.request.RequestState.{RequestState}
 use Rattle.connection.specs.declared.state.Table.{Table}
 use Rattle.connection.specs.Slots.{no_state}
@@ -33,7 +33,7 @@ without_mem a b (c ∷ l) m = go (eqb c a) refl m (without_mem a b l)
 is_in_lem : (a : ℕ) (l : List ℕ) → is_in a l ≡ true → Memᴰ a l
 unfolding is_in
 is_in_lem a [] e = let z : ◌≡◌ {A = ℕ} 0 1 = cc in absurd (omega arith)
-is_in_lem a (c ∷ l) e = byTest (eqb c a) (λ t. Memᴰ.head (sym (eqb-true c a t))) (λ t. Memᴰ.tail (is_in_lem a l (simp t at e)))
+is_in_lem a (c ∷ l) e = by_test (eqb c a) (λ t. Memᴰ.head (sym (eqb-true c a t))) (λ t. Memᴰ.tail (is_in_lem a l (simp t at e)))
 
 module _ (w r : List ℕ) (apart : Apart w r) where
   -- an id that is refused: it is in the list if it waited

@@ -1,9 +1,9 @@
 -- The replies that events owe are heard as they were meant: values, unknown types, the ends of refused openings.
-use Rattle.std.specs.Prelude.{ℕ, ◌≡◌, Bool, true, false, List, [], ◌∷◌, ◌++◌, length, take, ltb, eqb}
+use Rattle.std.specs.Prelude.{ℕ, ◌≡◌, Bool, true, false, List, [], ◌∷◌, ◌++◌, length, take, ltb, eqb, if◌then◌else◌}
 use Rattle.std.proofs.Math.Path.{refl}
 use Rattle.std.proofs.Common.{sym, subst, arith, eqb-true}
 use Rattle.std.proofs.lemmas.Bool.{eqb-false}
-use Rattle.wire.specs.Test.{if◌then◌else◌, byTest}
+use Rattle.wire.specs.Test.{by_test}
 use Rattle.wire.specs.Buffer.{copied}
 use Rattle.wire.proofs.Bytes.{AllBytes, append_bytes}
 use Rattle.record.specs.Names.{END_REQUEST, GET_VALUES_RESULT, UNKNOWN_TYPE}
@@ -72,7 +72,7 @@ module _ (t : Table) (v : List ℕ) (ready : Ready (idle t true v) 0) (buffer : 
   -- a refused reply writes nothing
   refused_writes : (e : StationEvent) → ((w e).refusal ≡ 0 → ⊥) → take (w e).written (w e).buffer ≡ []
   unfolding C.replied
-  refused_writes e n = byTest (ltb (length buffer) (length (C.owed e))) (λ u. simp u) (λ u. absurd (n (simp u)))
+  refused_writes e n = by_test (ltb (length buffer) (length (C.owed e))) (λ u. simp u) (λ u. absurd (n (simp u)))
 
   nothing : (P : ℕ → Type 0) → Answered P t v [] []
   nothing P = record { table = t; values = v; heard = heard_nothing t v ready; stays = λ b m k o. o; ok = no_bytes }
@@ -81,7 +81,7 @@ module _ (t : Table) (v : List ℕ) (ready : Ready (idle t true v) 0) (buffer : 
   by_reply : (e : StationEvent) (l : List Note) → ((w e).refusal ≡ 0 → Answered (Spared e) t v (C.owed e) l)
       → Answered (Spared e) t v (take (w e).written (w e).buffer) (unless (w e).refusal l)
   by_reply e l written =
-      byTest (eqb (w e).refusal 0)
+      by_test (eqb (w e).refusal 0)
       (λ z. let ok = eqb-true (w e).refusal 0 z in rw (reply_front e buffer ok) (subst (λ (b : Bool). Answered (Spared e) t v (C.owed e) (if b then l else [])) (sym z) (written ok)))
       (λ z. rw (refused_writes e (eqb-false (w e).refusal 0 z)) (subst (λ (b : Bool). Answered (Spared e) t v [] (if b then l else [])) (sym z) (nothing (Spared e))))
 

@@ -1,8 +1,8 @@
 -- The calls of the server's end: its table changes, and what is on the wire is read all the same.
-use Rattle.std.specs.Prelude.{ℕ, ◌≤◌, ◌<◌, ◌≡◌, refl, Bool, true, List, ◌∷◌, length, eqb}
+use Rattle.std.specs.Prelude.{ℕ, ◌≤◌, ◌<◌, ◌≡◌, refl, Bool, true, List, ◌∷◌, length, eqb, if◌then◌else◌}
 use Rattle.std.proofs.Common.{sym, ap, ◌∙◌, subst, arith, eqb-true}
 use Rattle.std.proofs.lemmas.Bool.{eqb-false}
-use Rattle.wire.specs.Test.{if◌then◌else◌, ◌=?◌, byTest}
+use Rattle.wire.specs.Test.{◌=?◌, by_test}
 use Rattle.slot_word.specs.Word.{taken}
 use Rattle.slot_word.proofs.WordLaws.{least_free}
 use Rattle.connection.specs.declared.request.RequestState.{RequestState}
@@ -76,7 +76,7 @@ alike_changed t i r sized low same ends =
       from = λ id k h. h;
       holds = λ id k h. (put_holds t (put_request t i r) t i r same id k).1 h;
       ends = λ k y.
-          byTest (eqb k i)
+          by_test (eqb k i)
           (λ x.
           let is : k ≡ i = eqb-true k i x in
           let own : request_at (put_request t i r) k ≡ r = ap (request_at (put_request t i r)) is ∙ request_of_put t i r sized low in
@@ -122,8 +122,8 @@ part_moves server wire left t v id p buffer i =
     let k = slot_of c id in
     let r = request_at c.table k in
     let q = with_state r (state_after r.state p) in
-    byTest (call_refusal c id =? 0)
-    (λ x. byTest (own_refusal r p (length buffer) =? 0)
+    by_test (call_refusal c id =? 0)
+    (λ x. by_test (own_refusal r p (length buffer) =? 0)
     (λ y.
     let low = (find_at c.table id k (let_give c id p buffer (simp (x, y))).found).low in
     let fits : q.length ≤ AREA = subst (λ (n : ℕ). n ≤ AREA) (sym (length_of c.table k)) (i.good.fit.ready.tidy.lengths k low) in
@@ -176,7 +176,7 @@ open_moves P server wire left t v waiting id role keep buffer i done refused =
     let c = server.server in
     let room = length buffer in
     let long = length (begin_bytes id role keep) in
-    byTest (eqb (open_refusal c id role room long) 0)
+    by_test (eqb (open_refusal c id role room long) 0)
     (λ x. simp x (done _ (opened_moves server wire left t v id role keep room long i (let_open c id role room long (eqb-true (open_refusal c id role room long) 0 x)))))
     (λ x. simp x refused)
 
@@ -185,4 +185,4 @@ pub ask_moves : (server : State) (wire : List ℕ) (left : List Note) (t : Table
     → Moved wire left t v (state_of (ask_values server.server list buffer).server server.values)
 unfolding ask_values
 ask_moves server wire left t v list buffer i =
-    byTest (eqb (ask_refusal server.server list (length buffer)) 0) (λ x. simp x (unmoved server wire left t v i)) (λ x. simp x (unmoved server wire left t v i))
+    by_test (eqb (ask_refusal server.server list (length buffer)) 0) (λ x. simp x (unmoved server wire left t v i)) (λ x. simp x (unmoved server wire left t v i))

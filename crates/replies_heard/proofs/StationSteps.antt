@@ -1,8 +1,7 @@
 -- A step of the station keeps what holds of each active request, if it rests on the ended output streams alone and holds
 -- of what the step opens.
-use Rattle.std.specs.Prelude.{ℕ, ◌+◌, ◌<◌, ◌≡◌, Bool, true, false, List, length, leb}
+use Rattle.std.specs.Prelude.{ℕ, ◌+◌, ◌<◌, ◌≡◌, Bool, true, false, List, length, leb, if◌then◌else◌}
 use Rattle.std.proofs.Math.Path.{refl}
-use Rattle.wire.specs.Test.{if◌then◌else◌}
 use Rattle.wire.specs.Buffer.{copied}
 use Rattle.slot_word.specs.Word.{taken}
 use Rattle.slot_word.proofs.WordLaws.{least_free}

@@ -9,9 +9,9 @@
 -- wire is empty: the bytes that it said on each stream, the ends of streams, the statuses of its finishes, its replies to
 -- queries, to unknown types and to openings that it refused. No step of the server's end is refused, and it is open
 -- still. Definitions only; `JointTheorem` proves the statement.
-use Rattle.std.specs.Prelude.{ℕ, ◌≡◌, Bool, true, false, length, take, drop}
+use Rattle.std.specs.Prelude.{ℕ, ◌≡◌, Bool, true, false, length, take, drop, if◌then◌else◌}
 use mathlib.Core.List.{List, [], ◌∷◌, ◌++◌, Memᴰ}
-use Rattle.wire.specs.Test.{if◌then◌else◌, ◌=?◌}
+use Rattle.wire.specs.Test.{◌=?◌}
 use Rattle.connection.specs.Sizes.{QUERY, STORE}
 use Rattle.connection.specs.Event.{Event as StationEvent}
 use Rattle.connection.specs.Calls.{replied}

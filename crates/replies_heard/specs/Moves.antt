@@ -1,7 +1,7 @@
 -- What a station does while the web server's end listens: operations of its run, and the replies that events owe. What
 -- goes on the wire, and what is meant by it. Definitions only.
-use Rattle.std.specs.Prelude.{ℕ, ◌<◌, Bool, List, [], ◌∷◌, ◌++◌, take}
-use Rattle.wire.specs.Test.{if◌then◌else◌, ◌=?◌}
+use Rattle.std.specs.Prelude.{ℕ, ◌<◌, Bool, List, [], ◌∷◌, ◌++◌, take, if◌then◌else◌}
+use Rattle.wire.specs.Test.{◌=?◌}
 use Rattle.wire.proofs.Bytes.{AllBytes}
 use Rattle.record.specs.Names.{STDOUT, STDERR, REQUEST_COMPLETE}
 use Rattle.connection.specs.declared.request.RequestState.{RequestState}

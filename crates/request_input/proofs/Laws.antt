@@ -1,7 +1,7 @@
 -- What holds of a request's list and of the end of PARAMS.
 use Rattle.std.specs.Prelude.{◌≡◌, ℕ, ◌-◌, ◌≤◌, min, List, ltb, length, take}
 use Rattle.std.proofs.Common.{sym, ap, ◌∙◌, arith, take_all, ltb-true, ltb-false}
-use Rattle.wire.specs.Test.{byTest}
+use Rattle.wire.specs.Test.{by_test}
 use Rattle.connection.specs.declared.event.Fault.{Fault}
 use Rattle.std.proofs.Math.Option.{none, some}
 use Rattle.connection.specs.Codes.{fault_cause}
@@ -11,7 +11,7 @@ use Rattle.connection.specs.Request.{Held, list_of, after_params, faulted, turne
 -- a list that is cut where its area ends is the same list
 pub list_part : (area : List ℕ) (n k : ℕ) → k ≡ min n (length area) → take (k - 0) area ≡ take n area
 list_part area n k e =
-    byTest (ltb n (length area))
+    by_test (ltb n (length area))
     (λ t. let h : k - 0 ≡ n = omega (arith, ltb-true n (length area) t) in ap (λ (i : ℕ). take i area) h)
     (λ t.
     let h : length area ≤ n = ltb-false n (length area) t in

@@ -1,10 +1,10 @@
 -- What holds of a request's output as it is written.
-use Rattle.std.specs.Prelude.{ℕ, ◌+◌, ◌<◌, ◌≡◌, refl, Bool, false, List, [], ◌∷◌, length, ltb, leb}
+use Rattle.std.specs.Prelude.{ℕ, ◌+◌, ◌<◌, ◌≡◌, refl, Bool, false, List, [], ◌∷◌, length, ltb, leb, if◌then◌else◌}
 use Rattle.std.proofs.Common.{sym, ◌∙◌, arith, zero-add, ltb-true, ltb-false, le-leb}
 use Rattle.std.proofs.Math.Path.{ap}
 use Rattle.std.proofs.Math.Bool.{true, not}
 use Rattle.std.proofs.lemmas.Bool.{lt-leb}
-use Rattle.wire.specs.Test.{if◌then◌else◌, byTest}
+use Rattle.wire.specs.Test.{by_test}
 use Rattle.wire.specs.Buffer.{put_at}
 use Rattle.record_writer.specs.Written.{Placed, record_length, record_bytes, stream_length, stream_bytes, record_fits, stream_fits, record_placed, stream_placed}
 use Rattle.record_writer.proofs.WrittenLaws.{record_length_lem}
@@ -23,7 +23,7 @@ use Rattle.request_output.specs.Answer.{said_by}
 -- n bytes fit from the start of a buffer exactly if they are not longer than it
 room_is : (n room : ℕ) → leb (0 + n) room ≡ not (ltb room n)
 room_is n room =
-    byTest (ltb room n)
+    by_test (ltb room n)
     (λ t. let short = ltb-true room n t in simp (t, lt-leb (0 + n) room (omega arith)))
     (λ t. let fits = ltb-false room n t in simp (t, le-leb (0 + n) room (omega arith)))
 

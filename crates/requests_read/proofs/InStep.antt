@@ -3,7 +3,7 @@
 use Rattle.std.specs.Prelude.{ℕ, ◌≤◌, ◌<◌, ◌≡◌, refl, Bool, true, false, List, [], ◌∷◌, length, set, eqb}
 use Rattle.std.proofs.Common.{sym, ap, ap₂, ◌∙◌, subst, arith, eqb-true}
 use Rattle.std.proofs.lemmas.Bool.{eqb-false}
-use Rattle.wire.specs.Test.{byTest}
+use Rattle.wire.specs.Test.{by_test}
 use Rattle.wire.specs.Buffer.{put_at}
 use Rattle.slot_word.specs.Word.{lowest_free, with_slot}
 use Rattle.connection.specs.declared.request.Life.{Life}
@@ -64,7 +64,7 @@ each_with : (sb sb' : ServerState) (st st' : State) (store store' : List ℕ) (f
     → ((a k : ℕ) (u : SoFar) → (a ≡ id → ⊥) → StationHas st store a k u → StationHas st' store' a k u)
     → (a k : ℕ) → find sb'.server.table a ≡ Slot.At k → Both sb' st' store' (with_known f id s a) a k
 each_with sb sb' st st' store store' f id j s i slot mine was others a k e =
-    byTest (eqb a id)
+    by_test (eqb a id)
     (λ x.
     let is : a ≡ id = eqb-true a id x in
     let kj : k ≡ j = let z : Slot.At k ≡ Slot.At j = sym e ∙ ap (find sb'.server.table) is ∙ slot in cc in

@@ -3,11 +3,11 @@
 use Rattle.std.specs.Prelude.{ℕ, ◌≡◌, refl, List, [], ◌∷◌, ◌++◌, length, eqb}
 use Rattle.std.proofs.Common.{sym, ap, ap₂, ◌∙◌, subst, arith, eqb-true}
 use Rattle.std.proofs.lemmas.Bool.{eqb-false}
-use Rattle.wire.specs.Test.{byTest}
+use Rattle.wire.specs.Test.{by_test}
 use Rattle.connection.specs.declared.state.Slot.{Slot}
 use Rattle.connection.specs.declared.state.Table.{Table}
 use Rattle.connection.specs.Sizes.{SLOTS, QUERY, STORE}
-use Rattle.connection.specs.Slots.{find, onSlot}
+use Rattle.connection.specs.Slots.{find, on_slot}
 use Rattle.connection.specs.Step.{State, started}
 use Rattle.connection.specs.Bytewise.{Note, Run, by_byte}
 use Rattle.connection.proofs.Laws.SlotsLaws.{found_true}
@@ -54,7 +54,7 @@ all_come (x ∷ xs) sb st store f i fits =
     let c = sb.server in
     let w = calling c x in
     let sb' = state_of w.server sb.values in
-    byTest (eqb w.refusal 0)
+    by_test (eqb w.refusal 0)
     (λ t.
     let now : CallFits f x × AllFit w.server (known_after f x) xs = rw t at fits in
     let k = call_comes sb st store f x i now.0 (eqb-true w.refusal 0 t) in
@@ -94,7 +94,7 @@ calls_are_read xs values gathered store pieces hv hg hs fits e =
       has = λ id found.
           let c = after_all (serverStarted values).server xs in
           let s = found_true (find c.table id) found in
-          let slot : slot_of c id ≡ s.0 = ap (λ (x : Slot). onSlot x (λ i. i) SLOTS) s.1 in
+          let slot : slot_of c id ≡ s.0 = ap (λ (x : Slot). on_slot x (λ i. i) SLOTS) s.1 in
           let r = station_fed gathered store pieces in
           subst (λ (n : ℕ). StationHas r.state r.store id n (all_known (serverStarted values).server nothing_known xs id)) (sym slot)
           (rw fed (k.in_step.each id s.0 s.1).has);

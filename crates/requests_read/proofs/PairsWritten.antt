@@ -2,7 +2,7 @@
 -- repeat.
 use Rattle.std.specs.Prelude.{ℕ, ◌+◌, ◌≤◌, ◌<◌, ◌≡◌, refl, false, List, [], ◌∷◌, ◌++◌, map, length, ltb}
 use Rattle.std.proofs.Common.{sym, ap, ◌∙◌, append-nil, append_assoc, arith, length-append}
-use Rattle.wire.specs.Test.{byTest}
+use Rattle.wire.specs.Test.{by_test}
 use Rattle.wire.specs.Compare.{same_bytes}
 use Rattle.wire.proofs.CompareLaws.{same_is}
 use Rattle.pairs.specs.Length.{length_bytes}
@@ -52,7 +52,7 @@ differ_before (p ∷ ps) q k = (not_among_before p.name ps q k.0, differ_before 
 -- ---- a pair is written as some bytes
 some_length : (n : ℕ) → 0 < length (length_bytes n)
 unfolding length_bytes
-some_length n = byTest (ltb n 128) (λ t. rw t (omega arith)) (λ t. rw t (omega arith))
+some_length n = by_test (ltb n 128) (λ t. rw t (omega arith)) (λ t. rw t (omega arith))
 
 pub some_pair : (name value : List ℕ) → 0 < length (pair_bytes name value)
 unfolding pair_bytes
@@ -63,7 +63,7 @@ some_pair name value = simp length-append (omega (arith, some_length (length nam
 among_read : (s name : List ℕ) (ps : List Pair) → is_named (first_in s name ps) ≡ is_among name (map (named_in s) ps)
 unfolding first_in is_among
 among_read s name [] = refl
-among_read s name (p ∷ ps) = byTest (same_bytes (name_of s p) name) (λ t. simp t) (λ t. simp t (among_read s name ps))
+among_read s name (p ∷ ps) = by_test (same_bytes (name_of s p) name) (λ t. simp t) (λ t. simp t (among_read s name ps))
 
 -- The names of a list that was written are those of its pairs.
 pub names_written : (ps : List Named) (name : List ℕ) → Writable ps → names (written ps) name ≡ is_among name ps
@@ -74,7 +74,7 @@ not_among : (name : List ℕ) (ps : List Named) → NotAmong name ps → is_amon
 unfolding is_among
 not_among name [] k = refl
 not_among name (p ∷ ps) k =
-    byTest (same_bytes p.name name) (λ t. absurd (k.0 (sym (same_is p.name name t)))) (λ t. simp t (not_among name ps k.1))
+    by_test (same_bytes p.name name) (λ t. absurd (k.0 (sym (same_is p.name name t)))) (λ t. simp t (not_among name ps k.1))
 
 differ_read : (s : List ℕ) (ps : List Pair) → NamesDiffer (map (named_in s) ps) → repeats_in s ps ≡ false
 unfolding repeats_in

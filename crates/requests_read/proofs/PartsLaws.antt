@@ -1,7 +1,7 @@
 -- What holds of a request as it is written: content in two parts, the stream whose turn it is, and what each part keeps.
-use Rattle.std.specs.Prelude.{ℕ, ◌+◌, ◌≤◌, ◌≡◌, refl, Bool, true, false, List, [], ◌∷◌, ◌++◌, length, ltb}
+use Rattle.std.specs.Prelude.{ℕ, ◌+◌, ◌≤◌, ◌≡◌, refl, Bool, true, false, List, [], ◌∷◌, ◌++◌, length, ltb, if◌then◌else◌}
 use Rattle.std.proofs.Common.{sym, ap, ◌∙◌, arith, ltb-false, eqb-true, le-ltb}
-use Rattle.wire.specs.Test.{if◌then◌else◌, ◌=?◌, byTest}
+use Rattle.wire.specs.Test.{◌=?◌, by_test}
 use Rattle.record.specs.Names.{PARAMS, STDIN, DATA}
 use Rattle.pair_list.proofs.ReadBackList.{Named, Writable}
 use Rattle.connection.specs.declared.event.Stream.{Stream}
@@ -80,7 +80,7 @@ proper_short Abort k = refl
 -- no content is not counted
 counted_none : (n : ℕ) → n ≤ MOST → counted n 0 ≡ n
 unfolding counted
-counted_none n h = byTest (ltb (n + 0) MOST) (λ t. simp t (omega arith)) (λ t. simp t (omega (arith, ltb-false (n + 0) MOST t)))
+counted_none n h = by_test (ltb (n + 0) MOST) (λ t. simp t (omega arith)) (λ t. simp t (omega (arith, ltb-false (n + 0) MOST t)))
 
 abbrev with_shown : SoFar → Shown → SoFar
 with_shown s c = record { role = s.role; keep = s.keep; turn = s.turn; life = s.life; pairs = s.pairs; shown = c }

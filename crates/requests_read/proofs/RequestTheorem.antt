@@ -2,7 +2,7 @@
 -- in any cutting.
 use Rattle.std.specs.Prelude.{ℕ, ◌≤◌, ◌<◌, ◌≡◌, refl, true, List, [], ◌∷◌, ◌++◌, length, eqb}
 use Rattle.std.proofs.Common.{sym, ap, ◌∙◌, subst, arith, eqb-true, ltb-true, ltb-false}
-use Rattle.wire.specs.Test.{byTest}
+use Rattle.wire.specs.Test.{by_test}
 use Rattle.pair_list.proofs.ReadBackList.{written_contents}
 use Rattle.connection.specs.declared.state.Slot.{Slot}
 use Rattle.connection.specs.Sizes.{SLOTS}
@@ -42,7 +42,7 @@ calls_read [] sb st store id j i s small server has w turns fits = record { refu
 calls_read (x ∷ xs) sb st store id j i s small server has w turns fits =
     let p = x.part in
     let live = turns.0 in
-    byTest (lacks id x)
+    by_test (lacks id x)
     (λ l.
     let e = part_lacks sb id j s p x.buffer server live turns.1 turns.2 (ltb-true (length x.buffer) (length (part_bytes id p)) l) in
     let rest = calls_read xs sb st store id j i s small server has w (rw l at turns.3) (rw l at fits) in
@@ -64,9 +64,9 @@ calls_read (x ∷ xs) sb st store id j i s small server has w turns fits =
 -- a known role's number
 pub role_number_back : (n : ℕ) → is_role n ≡ true → n ≡ role_number (role_of n)
 role_number_back n e =
-    byTest (eqb n 1) (λ a. rw a (eqb-true n 1 a))
-    (λ a. byTest (eqb n 2) (λ b. rw (a, b) (eqb-true n 2 b))
-    (λ b. byTest (eqb n 3) (λ c. rw (a, b, c) (eqb-true n 3 c)) (λ c. let z : ◌≡◌ {A = ℕ} 0 1 = cc (simp (a, b, c) at e) in absurd (omega arith))))
+    by_test (eqb n 1) (λ a. rw a (eqb-true n 1 a))
+    (λ a. by_test (eqb n 2) (λ b. rw (a, b) (eqb-true n 2 b))
+    (λ b. by_test (eqb n 3) (λ c. rw (a, b, c) (eqb-true n 3 c)) (λ c. let z : ◌≡◌ {A = ℕ} 0 1 = cc (simp (a, b, c) at e) in absurd (omega arith))))
 
 pub fresh_server : (values : List ℕ) → ((serverStarted values).server.table ≡ no_requests) × ((serverStarted values).server.«open» ≡ true)
 unfolding serverStarted

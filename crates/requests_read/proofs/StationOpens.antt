@@ -1,8 +1,7 @@
 -- A BEGIN_REQUEST record that the server's end writes opens the request at the station, in the lowest-numbered free slot.
-use Rattle.std.specs.Prelude.{ℕ, zero, suc, ◌+◌, ◌<◌, Bool, true, false, List, [], ◌∷◌, ◌++◌, length, drop}
+use Rattle.std.specs.Prelude.{ℕ, zero, suc, ◌+◌, ◌<◌, Bool, true, false, List, [], ◌∷◌, ◌++◌, length, drop, if◌then◌else◌}
 use Rattle.std.proofs.Math.Path.{◌≡◌, refl, ap, subst}
 use Rattle.std.proofs.Common.{sym, ◌∙◌, append-nil, arith, lt-ltb, ne_eqb, eq-eqb}
-use Rattle.wire.specs.Test.{if◌then◌else◌}
 use Rattle.wire.specs.Number.{bytes2}
 use Rattle.wire.specs.Buffer.{zeros, copied}
 use Rattle.wire.proofs.BufferLaws.{copied_room}

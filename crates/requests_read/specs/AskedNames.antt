@@ -4,8 +4,7 @@
 -- A station that is open and stands between two records, and is fed what the call wrote, cut into any pieces, tells one
 -- query, with just those of the three names that are in the list; and it changes nothing but the bytes that it gathers a
 -- query in. Definitions only; `QueryTheorem` proves the statement.
-use Rattle.std.specs.Prelude.{ℕ, ◌≡◌, Bool, true, false, List, [], ◌∷◌}
-use Rattle.wire.specs.Test.{if◌then◌else◌}
+use Rattle.std.specs.Prelude.{ℕ, ◌≡◌, Bool, true, false, List, [], ◌∷◌, if◌then◌else◌}
 use Rattle.wire.specs.Buffer.{copied}
 use Rattle.wire.proofs.Bytes.{AllBytes}
 use Rattle.wire.specs.Compare.{same_bytes}

@@ -5,8 +5,8 @@
 -- are bytes, that names differ and that lists fit an area; nothing is asked about turns, since a part out of turn is
 -- refused. Then a fresh station that is fed what was written, cut into any pieces, tells just what these calls said, in
 -- their order, and has each request as it was written. Definitions only; `ManyTheorem` proves the statement.
-use Rattle.std.specs.Prelude.{ℕ, ◌<◌, ◌≡◌, Bool, false, true, List, [], ◌∷◌, ◌++◌, length}
-use Rattle.wire.specs.Test.{if◌then◌else◌, ◌=?◌}
+use Rattle.std.specs.Prelude.{ℕ, ◌<◌, ◌≡◌, Bool, false, true, List, [], ◌∷◌, ◌++◌, length, if◌then◌else◌}
+use Rattle.wire.specs.Test.{◌=?◌}
 use Rattle.connection.specs.declared.request.Role.{Role}
 use Rattle.connection.specs.Sizes.{QUERY, STORE}
 use Rattle.connection.specs.Event.{Event}

@@ -7,8 +7,8 @@
 -- tells just that request: it is opened; it is ready with just these pairs; every byte of its streams comes in order;
 -- their ends come with the word for what was written against what its list states; and the abort comes if there was one.
 -- The writing may stop after any part. Definitions only; `RequestTheorem` proves the statement.
-use Rattle.std.specs.Prelude.{ℕ, ◌≤◌, ◌<◌, ◌≡◌, Bool, true, List, [], ◌∷◌, ◌++◌, length, take}
-use Rattle.wire.specs.Test.{if◌then◌else◌, ◌<?◌}
+use Rattle.std.specs.Prelude.{ℕ, ◌≤◌, ◌<◌, ◌≡◌, Bool, true, List, [], ◌∷◌, ◌++◌, length, take, if◌then◌else◌}
+use Rattle.wire.specs.Test.{◌<?◌}
 use Rattle.pair_list.proofs.ReadBackList.{contents}
 use Rattle.connection.specs.declared.request.Life.{Life}
 use Rattle.connection.specs.Sizes.{QUERY, STORE}

@@ -1,7 +1,7 @@
 -- The server's end reads the same in every cutting: public steps, from any good state, closed on the way or not.
 use Rattle.std.specs.Prelude.{ℕ, zero, suc, ◌≤◌, ◌<◌, ◌≡◌, refl, true, List, [], ◌∷◌, ◌++◌, length, drop}
 use Rattle.std.proofs.Common.{sym, ap, ap₂, ◌∙◌}
-use Rattle.wire.specs.Test.{byTest}
+use Rattle.wire.specs.Test.{by_test}
 use Rattle.wire.proofs.Bytes.{AllBytes, drop_bytes}
 use Rattle.record_rules.specs.Rules.{step, used, by_byte, fed as fedOf, fed_pieces as fedPiecesOf, joined}
 use Rattle.record_rules.proofs.Laws.{step_shut, pieces_by_byte, uses}
@@ -28,7 +28,7 @@ pub record StepIs (st : State) (x : List ℕ) : Type 0 where
 
 step_is : (st : State) (x : List ℕ) → Good st → StepIs st x
 step_is st x good =
-    byTest st.server.«open»
+    by_test st.server.«open»
     (λ o. let k = reads st x good o in record { same = k.same; used_same = k.used_same })
     (λ o.
     let e = closed_stays st x good o in

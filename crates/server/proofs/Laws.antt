@@ -1,13 +1,13 @@
 -- The server's end reads as a reader of records does: its rules keep what cutting asks for.
 use Prim.Native.Nat.{ℕ, suc, ◌+◌, ◌≤◌, ◌<◌}
-use Rattle.std.specs.Prelude.{◌≡◌, Bool, false, take, ltb, eqb}
+use Rattle.std.specs.Prelude.{◌≡◌, Bool, false, take, ltb, eqb, if◌then◌else◌}
 use Rattle.std.proofs.Math.Path.{refl}
 use Rattle.std.proofs.Common.{sym, ap, ◌∙◌, subst, arith}
 use Rattle.std.proofs.Math.Bool.{true}
 use mathlib.Core.List.{List, [], ◌∷◌, ◌++◌}
 use Rattle.std.proofs.Math.ListN.{length}
 use borrow.Author.Tests.{ltb-false, eqb-true, eqb-false, ne_eqb}
-use Rattle.wire.specs.Test.{if◌then◌else◌, byTest}
+use Rattle.wire.specs.Test.{by_test}
 use Rattle.wire.specs.Buffer.{copied}
 use Rattle.wire.proofs.BufferLaws.{copied_copied}
 use Rattle.record.specs.declared.header.Header.{Header}
@@ -18,7 +18,7 @@ use Rattle.connection.specs.declared.answer.Output.{Output}
 use Rattle.connection.specs.declared.request.Request.{Request}
 use Rattle.connection.specs.Sizes.{QUERY}
 use Rattle.connection.specs.RequestCalls.{is_ended, ended_on}
-use Rattle.connection.specs.Slots.{request_at, put_request, free_slot, find, onSlot}
+use Rattle.connection.specs.Slots.{request_at, put_request, free_slot, find, on_slot}
 use Rattle.connection.proofs.Laws.SlotsLaws.{Sized, find_at, put_sized, free_sized}
 use Rattle.connection.proofs.Laws.ShapeLaws.{Tidy}
 use Rattle.connection.specs.Fits.{InUse}
@@ -53,7 +53,7 @@ true_false e = let z : ◌≡◌ {A = ℕ} 0 1 = cc in absurd (omega arith)
 
 waits_if : (left g : ℕ) (target : Target) (t : Table) → (0 < left → Waits target t g left) → Waits (target_if left target) t g left
 waits_if left g target t k =
-    byTest (eqb left 0) (λ e. rw e tt) (λ e. rw e (let ne = eqb-false left 0 e in k (omega arith)))
+    by_test (eqb left 0) (λ e. rw e tt) (λ e. rw e (let ne = eqb-false left 0 e in k (omega arith)))
 
 -- ---- what the rules leave
 -- by the two outcomes of a test
@@ -122,7 +122,7 @@ module _ (s : Inner) (m : ℕ) (ready : Ready s m) (n : ℕ) where
       (λ t. either Good (eqb n 8) _ _ (λ e. ready_aimed s s.table n (Target.End i) ready.sized ready.tidy ready.values (λ l. (u, omega (arith, eqb-true n 8 e)))) (λ e. good_closes 54))
       (λ t. good_output (output_of kind) i u)
 
-  good_slot : (kind id : ℕ) (k : Slot) → find s.table id ≡ k → Good (onSlot k (on_request s kind n) (closes s 53))
+  good_slot : (kind id : ℕ) (k : Slot) → find s.table id ≡ k → Good (on_slot k (on_request s kind n) (closes s 53))
   good_slot kind id (Slot.At i) e = let h = find_at s.table id i e in good_request kind i (record { low = h.low; slot_taken = h.slot_taken })
   good_slot kind id Slot.Nowhere e = good_closes 53
 
@@ -208,7 +208,7 @@ values_end : (s s' : Inner) (list y y' : List ℕ) → s.table ≡ s'.table → 
     → ◌≡◌ {A = Taken} (record { state = (valued s list).inner; told = notes (valued s list).event y (valued s list).inner.values })
     (record { state = (valued s' list).inner; told = notes (valued s' list).event y' (valued s' list).inner.values })
 unfolding valued closes
-values_end s s' list y y' e v = byTest (well_formed list) (λ w. simp w (rw (e, v))) (λ w. simp w (rw v))
+values_end s s' list y y' e v = by_test (well_formed list) (λ w. simp w (rw (e, v))) (λ w. simp w (rw v))
 
 module _ (t : Table) (g : ℕ) (body : List ℕ) (o : Bool) (values : List ℕ) (b : ℕ) (x : List ℕ) (n : ℕ) (some : 0 < length x) where
   -- after the first byte
@@ -244,14 +244,14 @@ module _ (t : Table) (g : ℕ) (body : List ℕ) (o : Bool) (values : List ℕ) 
   cut_at (Target.Stderr i) r = simp ne (ap (λ (l : List Note). record { state = inner t (target_if n (Target.Stderr i)) g body true values; told = l }) (shown (request_at t i).id 7))
   cut_at (Target.End i) r =
       let c = copied_copied body g (g + 1) (b ∷ []) x refl (omega (arith, r.body, r.target.1)) in
-      byTest (eqb n 0) (λ z. simp (ne, z, c, count)) (λ z. simp (ne, z, c, count))
+      by_test (eqb n 0) (λ z. simp (ne, z, c, count)) (λ z. simp (ne, z, c, count))
   cut_at Target.Unknown r =
       let c = copied_copied body g (g + 1) (b ∷ []) x refl (omega (arith, r.body, r.target)) in
-      byTest (eqb n 0) (λ z. simp (ne, z, c, count)) (λ z. simp (ne, z, c, count))
+      by_test (eqb n 0) (λ z. simp (ne, z, c, count)) (λ z. simp (ne, z, c, count))
   cut_at Target.Values r =
       let c = copied_copied values g (g + 1) (b ∷ []) x refl (omega (arith, r.values, r.target)) in
       let v = copied values g (b ∷ x) in
-      byTest (eqb n 0)
+      by_test (eqb n 0)
       (λ z. simp (ne, z, c, count) (values_end (inner t Target.Values g body o v) (inner t Target.Values (g + 1) body true v) (take (g + suc (length x)) v) (b ∷ x) x refl refl))
       (λ z. simp (ne, z, c, count))
 

@@ -1,16 +1,16 @@
 -- What the refusal of a call of the server's end says: of one that is let through no row holds, and one that is refused
 -- has changed nothing.
-use Rattle.std.specs.Prelude.{ℕ, ◌≤◌, ◌<◌, ◌≡◌, refl, Bool, true, false, not, List, [], ◌∷◌, length, ltb}
+use Rattle.std.specs.Prelude.{ℕ, ◌≤◌, ◌<◌, ◌≡◌, refl, Bool, true, false, not, List, [], ◌∷◌, length, ltb, if◌then◌else◌}
 use Rattle.std.proofs.Common.{sym, ap, ◌∙◌, arith, eqb-true, ltb-true, ltb-false}
 use Rattle.std.proofs.lemmas.Bool.{eqb-false, not-false}
-use Rattle.wire.specs.Test.{if◌then◌else◌, ◌<?◌, ◌=?◌, byTest}
+use Rattle.wire.specs.Test.{◌<?◌, ◌=?◌, by_test}
 use Rattle.record.specs.Names.{GET_VALUES}
 use Rattle.record_writer.specs.Written.{record_bytes}
 use Rattle.pair_list.specs.List.{well_formed}
 use Rattle.connection.specs.declared.state.Slot.{Slot}
 use Rattle.connection.specs.Sizes.{SLOTS, QUERY}
 use Rattle.connection.specs.Request.{is_spent}
-use Rattle.connection.specs.Slots.{request_at, free_slot_of, find, onSlot, is_found}
+use Rattle.connection.specs.Slots.{request_at, free_slot_of, find, on_slot, is_found}
 use Rattle.connection.specs.Refusal.{Row, ◌when◌, holds_in, first_in}
 use Rattle.connection.proofs.Laws.SlotsLaws.{found_true, found_false}
 use Rattle.server.specs.declared.state.Server.{Server}
@@ -27,11 +27,11 @@ is_number (m ∷ ms) n = if m =? 0 then false else if m =? n then true else is_n
 none_holds : (ns : List ℕ) (rows : List Row) (n : ℕ) → first_in ns rows ≡ 0 → is_number ns n ≡ true → holds_in n rows ≡ false
 none_holds [] rows n e i = let z : ◌≡◌ {A = ℕ} 0 1 = cc in absurd (omega arith)
 none_holds (m ∷ ms) rows n e i =
-    byTest (m =? 0)
+    by_test (m =? 0)
     (λ a. let z : ◌≡◌ {A = ℕ} 0 1 = cc (simp a at i) in absurd (omega arith))
-    (λ a. byTest (holds_in m rows)
+    (λ a. by_test (holds_in m rows)
     (λ h. absurd (eqb-false m 0 a (simp h at e)))
-    (λ h. byTest (m =? n) (λ b. ap (λ (k : ℕ). holds_in k rows) (sym (eqb-true m n b)) ∙ h) (λ b. none_holds ms rows n (simp h at e) (simp (a, b) at i))))
+    (λ h. by_test (m =? n) (λ b. ap (λ (k : ℕ). holds_in k rows) (sym (eqb-true m n b)) ∙ h) (λ b. none_holds ms rows n (simp h at e) (simp (a, b) at i))))
 
 -- Where nothing is refused, the row of a number does not hold.
 pub row_not : (rows : List Row) (n : ℕ) → refusal rows ≡ 0 → is_number refusal_order n ≡ true → holds_in n rows ≡ false
@@ -40,14 +40,14 @@ row_not rows n e i = none_holds refusal_order rows n e i
 -- ---- what a call writes
 -- let through
 pub let_write : (n : ℕ) (c after : Server) (bytes buffer : List ℕ) → (writes n c after bytes buffer).refusal ≡ 0 → n ≡ 0
-let_write n c after bytes buffer e = byTest (n =? 0) (λ t. eqb-true n 0 t) (λ t. absurd (eqb-false n 0 t (simp t at e)))
+let_write n c after bytes buffer e = by_test (n =? 0) (λ t. eqb-true n 0 t) (λ t. absurd (eqb-false n 0 t (simp t at e)))
 
 -- refused, by some number
 abbrev pub Unwritten : Server → List ℕ → Written → Type 0
 Unwritten c buffer w = (n : ℕ) × (w ≡ unwritten n c buffer)
 
 pub not_written : (n : ℕ) (c after : Server) (bytes buffer : List ℕ) → ((writes n c after bytes buffer).refusal ≡ 0 → ⊥) → Unwritten c buffer (writes n c after bytes buffer)
-not_written n c after bytes buffer e = byTest (n =? 0) (λ t. absurd (e (simp t))) (λ t. (n, simp t))
+not_written n c after bytes buffer e = by_test (n =? 0) (λ t. absurd (e (simp t))) (λ t. (n, simp t))
 
 -- ---- an opening
 pub record LetOpen (c : Server) (id role room long : ℕ) : Type 0 where
@@ -84,12 +84,12 @@ call_found c id e =
     let s = find c.table id in
     let rows = (9 when not (in_shape c)) ∷ (1 when not c.«open») ∷ (3 when not (is_found s)) ∷ [] in
     let k = found_true s (not-false (is_found s) (row_not rows 3 e refl)) in
-    k.1 ∙ ap Slot.At (sym (ap (λ (x : Slot). onSlot x (λ i. i) SLOTS) k.1))
+    k.1 ∙ ap Slot.At (sym (ap (λ (x : Slot). on_slot x (λ i. i) SLOTS) k.1))
 
 pub let_give : (c : Server) (id : ℕ) (part : Part) (buffer : List ℕ) → (write_part c id part buffer).refusal ≡ 0 → LetGive c id part buffer
 unfolding write_part writes_part
 let_give c id part buffer e =
-    byTest (call_refusal c id =? 0)
+    by_test (call_refusal c id =? 0)
     (λ t.
     let r = request_at c.table (slot_of c id) in
     let z = let_write (own_refusal r part (length buffer)) c _ (part_bytes r.id part) buffer (simp t at e) in
@@ -97,7 +97,7 @@ let_give c id part buffer e =
     let out = if spent then true else not (in_turn r.state.turn part) in
     let rows = (61 when out) ∷ (8 when too_long part) ∷ (6 when (length buffer <? length (part_bytes r.id part))) ∷ [] in
     let turn : out ≡ false = row_not rows 61 z refl in
-    byTest spent
+    by_test spent
     (λ s. let y : ◌≡◌ {A = ℕ} 0 1 = cc (simp s at turn) in absurd (omega arith))
     (λ s.
     record {
@@ -121,7 +121,7 @@ let_ask c list buffer e =
     let x = record_bytes GET_VALUES 0 list in
     let rows = (9 when not (in_shape c)) ∷ (1 when not c.«open») ∷ (62 when bad) ∷ (6 when (length buffer <? length x)) ∷ [] in
     let good : bad ≡ false = row_not rows 62 e refl in
-    byTest (ltb QUERY (length list))
+    by_test (ltb QUERY (length list))
     (λ s. let y : ◌≡◌ {A = ℕ} 0 1 = cc (simp s at good) in absurd (omega arith))
     (λ s.
     record {
@@ -139,6 +139,6 @@ pub part_refused_stays : (c : Server) (id : ℕ) (part : Part) (buffer : List �
 unfolding write_part writes_part
 part_refused_stays c id part buffer e =
     let r = request_at c.table (slot_of c id) in
-    byTest (call_refusal c id =? 0)
+    by_test (call_refusal c id =? 0)
     (λ t. rw t (not_written (own_refusal r part (length buffer)) c _ (part_bytes r.id part) buffer (rw t at e)))
     (λ t. (call_refusal c id, simp t))

@@ -1,9 +1,9 @@
 -- The public step of the server's end is a step of the reader of records: from a good state it is never refused while it is open, and leaves a good state.
-use Rattle.std.specs.Prelude.{ℕ, ◌+◌, ◌≤◌, ◌<◌, ◌≡◌, Bool, true, false, List, [], ◌∷◌, length, take, ltb, leb, eqb}
+use Rattle.std.specs.Prelude.{ℕ, ◌+◌, ◌≤◌, ◌<◌, ◌≡◌, Bool, true, false, List, [], ◌∷◌, length, take, ltb, leb, eqb, if◌then◌else◌}
 use Rattle.std.proofs.Math.Path.{refl}
 use Rattle.std.proofs.Common.{sym, ap, ◌∙◌, arith, lt-ltb, le-leb, eq-eqb, ne_eqb, ltb-true, leb-true, eqb-true}
 use Rattle.std.proofs.lemmas.List.{length-replicate}
-use Rattle.wire.specs.Test.{if◌then◌else◌, byTest}
+use Rattle.wire.specs.Test.{by_test}
 use Rattle.record.specs.declared.header.Header.{Header}
 use Rattle.record_reader.specs.Position.{between_records, held_and, advanced, Proper}
 use Rattle.record_reader.specs.declared.Position.{Position}
@@ -15,7 +15,7 @@ use Rattle.connection.specs.Sizes.{SLOTS, QUERY}
 use Rattle.slot_word.specs.Word.{taken as is_taken}
 use Rattle.connection.specs.Shape.{◌and◌, slots_fit, position_fits, due_fits}
 use Rattle.connection.specs.Shape as Station
-use Rattle.connection.specs.Slots.{request_at, find, onSlot}
+use Rattle.connection.specs.Slots.{request_at, find, on_slot}
 use Rattle.connection.specs.RequestCalls.{is_ended}
 use Rattle.connection.specs.Step.{no_frame, open_with}
 use Rattle.connection.proofs.Laws.SlotsLaws.{Sized}
@@ -122,7 +122,7 @@ module _ (s : Inner) (y v : List ℕ) where
       either Plain (eqb kind 3) _ _ (either Plain (eqb n 8) _ _ refl (plain_closes 54))
       (either Plain (is_ended (output_of kind) (request_at s.table i).state) _ _ (plain_closes 56) (either Plain (eqb n 0) _ _ refl refl))
 
-  plain_slot : (kind n : ℕ) (k : Slot) → Plain (onSlot k (on_request s kind n) (closes s 53))
+  plain_slot : (kind n : ℕ) (k : Slot) → Plain (on_slot k (on_request s kind n) (closes s 53))
   plain_slot kind n (Slot.At i) = plain_request kind n i
   plain_slot kind n Slot.Nowhere = plain_closes 53
 
@@ -239,8 +239,8 @@ bounded_reader : (a : Reader rules) (x : List ℕ) → Proper a.position → Bou
 unfolding step
 bounded_reader a x proper b all =
     let w = advanced a.position x in
-    byTest a.inner.«open»
-    (λ o. byTest (eqb (length x) 0)
+    by_test a.inner.«open»
+    (λ o. by_test (eqb (length x) 0)
     (λ e. simp (o, e) (record { content = b.content; padding = b.padding; bytes = b.bytes }))
     (λ e. simp (o, e) (bounded_phase w.phase a.inner (take w.used x) w.position (bounded_step a.position x proper b all))))
     (λ o. simp o (record { content = b.content; padding = b.padding; bytes = b.bytes }))
@@ -248,7 +248,7 @@ bounded_reader a x proper b all =
 -- Whatever the piece, of bytes.
 pub step_good : (st : State) (x : List ℕ) → Good st → AllBytes x → Good (stepped st x).state
 step_good st x good all =
-    byTest st.server.«open»
+    by_test st.server.«open»
     (λ o.
     let k = reads st x good o in
     let e : (stepped st x).state ≡ state_at (step rules (reader_of st) x).reader.position (step rules (reader_of st) x).reader.inner = ap (λ (c : Came). c.state) k.same in

@@ -3,7 +3,7 @@ use Rattle.std.specs.Prelude.{ℕ, ◌≤◌, ◌<◌, ◌≡◌, refl, Bool, tr
 use Rattle.std.proofs.Common.{sym, ◌∙◌, subst, arith}
 use Rattle.std.proofs.Math.Path.{ap}
 use borrow.Author.Tests.{lt-ltb, le-ltb, ne_eqb, eqb-true, eqb-false}
-use Rattle.wire.specs.Test.{byTest}
+use Rattle.wire.specs.Test.{by_test}
 use Rattle.wire.specs.Buffer.{put_at}
 use Rattle.slot_word.specs.Word.{taken}
 use Rattle.connection.specs.declared.request.Role.{Role}
@@ -62,7 +62,7 @@ good_take st i r good low fits some none =
     let t = st.server.table in
     let k = good.fit.ready in
     good_table st (take_slot t i r) good (take_sized t i r k.sized) (tidy_take t i r k.sized k.tidy fits some none)
-    (λ j u. record { low = u.low; slot_taken = byTest (eqb j i) (λ e. subst (λ (n : ℕ). taken n (take_slot t i r).occupied ≡ true) (sym (eqb-true j i e)) (taken_of_take t i r low)) (λ e. taken_of_take_other t i j r (eqb-false j i e) ∙ u.slot_taken) })
+    (λ j u. record { low = u.low; slot_taken = by_test (eqb j i) (λ e. subst (λ (n : ℕ). taken n (take_slot t i r).occupied ≡ true) (sym (eqb-true j i e)) (taken_of_take t i r low)) (λ e. taken_of_take_other t i j r (eqb-false j i e) ∙ u.slot_taken) })
 
 -- ---- a request that is open
 abbrev pub writing_state : Role → Bool → Turn → Life → RequestState

@@ -1,7 +1,7 @@
 -- What is written is bytes: records, streams, bodies, pairs.
-use Rattle.std.specs.Prelude.{ℕ, zero, suc, ◌+◌, ◌<◌, ◌≡◌, Bool, true, false, List, [], ◌∷◌, ◌++◌, length, take, drop, ltb}
+use Rattle.std.specs.Prelude.{ℕ, zero, suc, ◌+◌, ◌<◌, ◌≡◌, Bool, true, false, List, [], ◌∷◌, ◌++◌, length, take, drop, ltb, if◌then◌else◌}
 use Rattle.std.proofs.Common.{arith, ltb-true}
-use Rattle.wire.specs.Test.{if◌then◌else◌, ◌<?◌, byTest}
+use Rattle.wire.specs.Test.{◌<?◌, by_test}
 use Rattle.wire.specs.Number.{bytes4}
 use Rattle.wire.specs.Buffer.{zeros}
 use Rattle.wire.proofs.Bytes.{AllBytes, zeros_bytes, take_bytes, drop_bytes, append_bytes}
@@ -30,7 +30,7 @@ all_small (b ∷ x) = if b <? 256 then all_small x else false
 pub small_bytes : (x : List ℕ) → all_small x ≡ true → AllBytes x
 small_bytes [] e = no_bytes
 small_bytes (b ∷ x) e =
-    byTest (ltb b 256)
+    by_test (ltb b 256)
     (λ t. cons_bytes b x (ltb-true b 256 t) (small_bytes x (simp t at e)))
     (λ t. let z : ◌≡◌ {A = ℕ} 0 1 = cc (simp t at e) in absurd (omega arith))
 
@@ -79,7 +79,7 @@ unknown_body_is_bytes kind h = cons_bytes kind (zeros 7) h (zeros_bytes 7)
 
 length_is_bytes : (n : ℕ) → AllBytes (length_bytes n)
 unfolding length_bytes
-length_is_bytes n = byTest (ltb n 128) (λ t. rw t (cons_bytes n [] (omega (arith, ltb-true n 128 t)) no_bytes)) (λ t. rw t (four_bytes (n + 2147483648)))
+length_is_bytes n = by_test (ltb n 128) (λ t. rw t (cons_bytes n [] (omega (arith, ltb-true n 128 t)) no_bytes)) (λ t. rw t (four_bytes (n + 2147483648)))
 
 pub pair_is_bytes : (name value : List ℕ) → AllBytes name → AllBytes value → AllBytes (pair_bytes name value)
 unfolding pair_bytes

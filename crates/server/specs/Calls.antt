@@ -1,6 +1,6 @@
 -- The calls of the web server's end that write: refusals, then what is written, and the request afterwards.
-use Rattle.std.specs.Prelude.{ℕ, Bool, true, false, not, List, [], ◌∷◌, length}
-use Rattle.wire.specs.Test.{if◌then◌else◌, ◌<?◌, ◌=?◌}
+use Rattle.std.specs.Prelude.{ℕ, Bool, true, false, not, List, [], ◌∷◌, length, if◌then◌else◌}
+use Rattle.wire.specs.Test.{◌<?◌, ◌=?◌}
 use Rattle.wire.specs.Buffer.{put_at}
 use Rattle.slot_word.specs.Word.{taken_count}
 use Rattle.record.specs.Names.{BEGIN_REQUEST, ABORT_REQUEST, PARAMS, GET_VALUES}
@@ -18,8 +18,8 @@ use Rattle.connection.specs.declared.request.Request.{Request}
 use Rattle.connection.specs.Sizes.{SLOTS, QUERY, CHUNK}
 use Rattle.connection.specs.Codes.{stream_type}
 use Rattle.connection.specs.Request.{is_spent, after_params, after_stdin, turn_type, with_turn, with_life, with_state, opened}
-use Rattle.connection.specs.Slots.{request_at, put_request, take_slot, free_slot_of, find, onSlot, is_found}
-use Rattle.connection.specs.Step.{onRole}
+use Rattle.connection.specs.Slots.{request_at, put_request, take_slot, free_slot_of, find, on_slot, is_found}
+use Rattle.connection.specs.Step.{on_role}
 use Rattle.connection.specs.Refusal.{◌when◌}
 use Rattle.server.specs.declared.state.Input.{Input}
 use Rattle.server.specs.declared.state.Server.{Server}
@@ -50,10 +50,10 @@ abbrev pub begin_bytes : ℕ → ℕ → Bool → List ℕ
 begin_bytes id role keep = record_bytes BEGIN_REQUEST id (begin_body_bytes role keep)
 
 abbrev pub is_role : ℕ → Bool
-is_role n = onRole n (λ r. true) false
+is_role n = on_role n (λ r. true) false
 
 abbrev pub role_of : ℕ → Role
-role_of n = onRole n (λ r. r) Role.Responder
+role_of n = on_role n (λ r. r) Role.Responder
 
 -- Rows 9, 1, 57, 58, 59, 60 and 6, with so much room for so many bytes.
 unfoldable pub open_refusal : Server → ℕ → ℕ → ℕ → ℕ → ℕ
@@ -138,7 +138,7 @@ call_refusal c id =
     refusal ((9 when not (in_shape c)) ∷ (1 when not c.«open») ∷ (3 when not (is_found (find c.table id))) ∷ [])
 
 abbrev pub slot_of : Server → ℕ → ℕ
-slot_of c id = onSlot (find c.table id) (λ i. i) SLOTS
+slot_of c id = on_slot (find c.table id) (λ i. i) SLOTS
 
 abbrev pub with_request : Server → ℕ → Request → Server
 with_request c i r = record { table = put_request c.table i r; frame = c.frame; «open» = c.«open» }

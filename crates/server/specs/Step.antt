@@ -1,6 +1,6 @@
 -- The web server's end reads replies: what a whole header does, what content bytes do, and one step.
-use Rattle.std.specs.Prelude.{ℕ, ◌+◌, Bool, true, false, not, List, [], ◌∷◌, length, take}
-use Rattle.wire.specs.Test.{if◌then◌else◌, ◌<?◌, ◌=?◌}
+use Rattle.std.specs.Prelude.{ℕ, ◌+◌, Bool, true, false, not, List, [], ◌∷◌, length, take, if◌then◌else◌}
+use Rattle.wire.specs.Test.{◌<?◌, ◌=?◌}
 use Rattle.wire.specs.Buffer.{zeros, copied}
 use Rattle.record.specs.Names.{VERSION, END_REQUEST, STDOUT, STDERR, GET_VALUES_RESULT, UNKNOWN_TYPE}
 use Rattle.record.specs.Body.{end_body_of, unknown_type_of}
@@ -15,7 +15,7 @@ use Rattle.connection.specs.declared.answer.Output.{Output}
 use Rattle.connection.specs.Sizes.{QUERY}
 use Rattle.connection.specs.Codes.{output_type}
 use Rattle.connection.specs.RequestCalls.{is_ended, ended_on}
-use Rattle.connection.specs.Slots.{request_at, put_request, free_slot, no_requests, find, onSlot}
+use Rattle.connection.specs.Slots.{request_at, put_request, free_slot, no_requests, find, on_slot}
 use Rattle.connection.specs.Refusal.{◌when◌}
 use Rattle.record_rules.specs.Rules.{Rules}
 use Rattle.server.specs.declared.state.Target.{Target}
@@ -142,7 +142,7 @@ judged s h =
     if h.version =? VERSION then
     (if is_reply h.kind then
     (if is_management h.kind then (if h.id =? 0 then on_management s h.kind h.content else closes s 53)
-    else onSlot (find s.table h.id) (on_request s h.kind h.content) (closes s 53))
+    else on_slot (find s.table h.id) (on_request s h.kind h.content) (closes s 53))
     else closes s 52)
     else closes s 51
 

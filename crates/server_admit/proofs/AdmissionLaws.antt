@@ -1,8 +1,8 @@
 -- What a check and the admission of a call say: of one let through, the state and the slot; of a refused one, the row.
-use Rattle.std.specs.Prelude.{ℕ, ◌≡◌, refl, Bool, true, false, not, List, ◌∷◌, eqb}
+use Rattle.std.specs.Prelude.{ℕ, ◌≡◌, refl, Bool, true, false, not, List, ◌∷◌, eqb, if◌then◌else◌}
 use Rattle.std.proofs.Common.{sym, ap, arith, eqb-true}
 use Rattle.std.proofs.lemmas.Bool.{eqb-false}
-use Rattle.wire.specs.Test.{if◌then◌else◌, byTest}
+use Rattle.wire.specs.Test.{by_test}
 use Rattle.connection.specs.Refusal.{Row, ◌when◌}
 use Rattle.server.specs.declared.answer.ServerRefusal.{ServerRefusal}
 use Rattle.server.specs.declared.state.Server.{Server}
@@ -43,13 +43,13 @@ refused_first c why rest e = rows (in_shape c) c.«open» e
 -- ---- admission
 pub let_through : (n i j : ℕ) → admitted_by (Admitted.At j) ≡ admission n i → (n ≡ 0) × (j ≡ i)
 let_through n i j e =
-    byTest (eqb n 0)
+    by_test (eqb n 0)
     (λ t. (eqb-true n 0 t, ap (λ (a : Admission). a.slot) (simp t at e)))
     (λ t. absurd (eqb-false n 0 t (sym (ap (λ (a : Admission). a.refusal) (simp t at e)))))
 
 pub refused_by_lem : (n i : ℕ) (why : ServerRefusal) → admitted_by (Admitted.Refused why) ≡ admission n i → n ≡ refusal_number why
 refused_by_lem n i why e =
-    byTest (eqb n 0)
+    by_test (eqb n 0)
     (λ t. absurd (eqb-false (refusal_number why) 0 (refusal_some why) (ap (λ (a : Admission). a.refusal) (simp t at e))))
     (λ t. sym (ap (λ (a : Admission). a.refusal) (simp t at e)))
 

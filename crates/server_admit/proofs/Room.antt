@@ -2,7 +2,7 @@
 use Rattle.std.specs.Prelude.{ℕ, ◌+◌, ◌≤◌, ◌≡◌, Bool, true, false, not, List, length, ltb, leb}
 use Rattle.std.proofs.Common.{sym, ap, ◌∙◌, arith, zero-add, ltb-true, ltb-false, le-leb}
 use Rattle.std.proofs.lemmas.Bool.{lt-leb, not-true, not-false}
-use Rattle.wire.specs.Test.{byTest}
+use Rattle.wire.specs.Test.{by_test}
 use Rattle.wire.specs.Buffer.{put_at}
 use Rattle.record_writer.specs.Written.{Placed, placed, record_length, record_bytes, stream_length, stream_bytes, record_fits, stream_fits, record_placed, stream_placed}
 use Rattle.record_writer.proofs.WrittenLaws.{record_length_lem}
@@ -16,7 +16,7 @@ use Rattle.server.specs.Answer.{written_by, call_wrote}
 -- n bytes fit from the start of a buffer exactly if they are not longer than it
 room_is : (n room : ℕ) → leb (0 + n) room ≡ not (ltb room n)
 room_is n room =
-    byTest (ltb room n)
+    by_test (ltb room n)
     (λ t. let short = ltb-true room n t in simp (t, lt-leb (0 + n) room (omega arith)))
     (λ t. let fits = ltb-false room n t in simp (t, le-leb (0 + n) room (omega arith)))
 

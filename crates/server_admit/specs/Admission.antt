@@ -1,6 +1,6 @@
 -- Whether a call is let through to its request: the number of its refusal, 0 for none, and the request's slot.
-use Rattle.std.specs.Prelude.{ℕ}
-use Rattle.wire.specs.Test.{if◌then◌else◌, ◌=?◌}
+use Rattle.std.specs.Prelude.{ℕ, if◌then◌else◌}
+use Rattle.wire.specs.Test.{◌=?◌}
 use Rattle.connection.specs.Sizes.{SLOTS}
 use Rattle.server.specs.declared.state.Server.{Server}
 use Rattle.server.specs.Codes.{refusal_number}

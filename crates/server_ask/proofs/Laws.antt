@@ -1,7 +1,7 @@
 -- What asking for values needs: what the rows say together, and what is written.
-use Rattle.std.specs.Prelude.{ℕ, ◌≤◌, ◌≡◌, refl, Bool, true, false, not, List, [], ◌∷◌, length, ltb}
+use Rattle.std.specs.Prelude.{ℕ, ◌≤◌, ◌≡◌, refl, Bool, true, false, not, List, [], ◌∷◌, length, ltb, if◌then◌else◌}
 use Rattle.std.proofs.Common.{arith, ltb-false}
-use Rattle.wire.specs.Test.{if◌then◌else◌, byTest}
+use Rattle.wire.specs.Test.{by_test}
 use Rattle.record.specs.Names.{GET_VALUES}
 use Rattle.record_writer.specs.Written.{Placed, record_bytes, record_placed}
 use Rattle.connection.specs.Sizes.{QUERY}
@@ -21,7 +21,7 @@ use Rattle.server_ask.specs.Rows.{bad_query, own_rows}
 -- a list that row 62 lets through is not over 512 bytes
 pub not_long : (list : List ℕ) → bad_query list ≡ false → length list ≤ QUERY
 not_long list e =
-    byTest (ltb QUERY (length list))
+    by_test (ltb QUERY (length list))
     (λ t. let z : ◌≡◌ {A = ℕ} 0 1 = cc (simp t at e) in absurd (omega arith))
     (λ t. ltb-false QUERY (length list) t)
 

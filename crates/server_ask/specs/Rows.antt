@@ -1,6 +1,6 @@
 -- The rows of asking that are not about the state: from the list and the room in the buffer.
-use Rattle.std.specs.Prelude.{ℕ, Bool, true, not, List, [], ◌∷◌, length}
-use Rattle.wire.specs.Test.{if◌then◌else◌, ◌<?◌}
+use Rattle.std.specs.Prelude.{ℕ, Bool, true, not, List, [], ◌∷◌, length, if◌then◌else◌}
+use Rattle.wire.specs.Test.{◌<?◌}
 use Rattle.record.specs.Names.{GET_VALUES}
 use Rattle.record_writer.specs.Written.{record_bytes}
 use Rattle.pair_list.specs.List.{well_formed}

@@ -2,7 +2,7 @@
 use Rattle.std.specs.Prelude.{ℕ, ◌+◌, ◌-◌, ◌≤◌, ◌<◌, ◌≡◌, refl, Bool, false, eqb}
 use Rattle.std.proofs.Common.{sym, ap, ◌∙◌, arith, eqb-true, eq-eqb, ne_eqb}
 use Rattle.std.proofs.lemmas.Bool.{eqb-false}
-use Rattle.wire.specs.Test.{byTest}
+use Rattle.wire.specs.Test.{by_test}
 use Rattle.connection.specs.declared.state.Table.{Table}
 use Rattle.connection.specs.Sizes.{SLOTS}
 use Rattle.connection.specs.Shape.{◌and◌, slots_fit, position_fits}
@@ -15,7 +15,7 @@ use Rattle.server_check.specs.Fits.{target_of, shape_of}
 -- eight bytes, some of them gathered and some left
 pub eight_left : (gathered left : ℕ) → gathered ≤ 8 → eqb left (8 - gathered) ≡ eqb (gathered + left) 8
 eight_left gathered left h =
-    byTest (eqb left (8 - gathered))
+    by_test (eqb left (8 - gathered))
     (λ t. t ∙ sym (eq-eqb (gathered + left) 8 (omega (arith, eqb-true left (8 - gathered) t))))
     (λ t. t ∙ sym (ne_eqb (gathered + left) 8 (λ z. eqb-false left (8 - gathered) t (omega arith))))
 

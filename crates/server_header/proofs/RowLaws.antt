@@ -1,7 +1,7 @@
 -- That the rows come to what the definition says, and what is known of a record's owner.
-use Rattle.std.specs.Prelude.{ℕ, ◌≡◌, refl, Bool, true, false, List, get_or}
+use Rattle.std.specs.Prelude.{ℕ, ◌≡◌, refl, Bool, true, false, List, get_or, if◌then◌else◌}
 use Rattle.std.proofs.Common.{sym, ap, ap₂, ◌∙◌, arith}
-use Rattle.wire.specs.Test.{if◌then◌else◌, ◌=?◌}
+use Rattle.wire.specs.Test.{◌=?◌}
 use Rattle.record.specs.Names.{VERSION}
 use Rattle.record.specs.declared.header.Header.{Header}
 use Rattle.slot_word.specs.Word.{taken}
@@ -11,7 +11,7 @@ use Rattle.connection.specs.declared.state.Slot.{Slot}
 use Rattle.connection.specs.Sizes.{SLOTS}
 use Rattle.connection.specs.Codes.{output_type}
 use Rattle.connection.specs.RequestCalls.{is_ended}
-use Rattle.connection.specs.Slots.{request_at, find_from, find, onSlot}
+use Rattle.connection.specs.Slots.{request_at, find_from, find, on_slot}
 use Rattle.connection.proofs.Laws.SlotsLaws.{HoldsFrom, found_from}
 use Rattle.server.specs.declared.state.Target.{Target}
 use Rattle.server.specs.Event.{Event}
@@ -35,7 +35,7 @@ judged_rows s h =
         by_check (rows_of version reply (is_known owner)) s (by_owner owner s h.kind h.content))
         ≡ (if version then
         (if reply then
-        (if management then (if none then on_management s h.kind h.content else closes s 53) else onSlot k (on_request s h.kind h.content) (closes s 53))
+        (if management then (if none then on_management s h.kind h.content else closes s 53) else on_slot k (on_request s h.kind h.content) (closes s 53))
         else closes s 52)
         else closes s 51)
     rows false r m z k = refl

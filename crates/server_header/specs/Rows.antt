@@ -1,6 +1,6 @@
 -- The rows that a header is judged by, as the code takes them: whom it is for, then 51 to 53, then its own.
-use Rattle.std.specs.Prelude.{ℕ, ◌≡◌, Bool, true, false, List}
-use Rattle.wire.specs.Test.{if◌then◌else◌, ◌=?◌}
+use Rattle.std.specs.Prelude.{ℕ, ◌≡◌, Bool, true, false, List, if◌then◌else◌}
+use Rattle.wire.specs.Test.{◌=?◌}
 use Rattle.record.specs.Names.{VERSION}
 use Rattle.record.specs.declared.header.Header.{Header}
 use Rattle.connection.specs.declared.answer.Output.{Output}
@@ -8,7 +8,7 @@ use Rattle.connection.specs.declared.state.Table.{Table}
 use Rattle.connection.specs.declared.state.Slot.{Slot}
 use Rattle.connection.specs.Sizes.{SLOTS}
 use Rattle.connection.specs.Codes.{output_type}
-use Rattle.connection.specs.Slots.{request_at, find_from, onSlot}
+use Rattle.connection.specs.Slots.{request_at, find_from, on_slot}
 use Rattle.server.specs.declared.event.ServerClose.{ServerClose}
 use Rattle.server.specs.Codes.{close_number}
 use Rattle.server.specs.Event.{Event}
@@ -27,7 +27,7 @@ pub record Seen (t : Table) (all : List ℕ) (w : Words) : Type 0 where
   pub err_ended_same : t.err_ended ≡ w.err_ended
 
 abbrev pub slot_owner : Slot → Owner
-slot_owner s = onSlot s Owner.Request Owner.Nobody
+slot_owner s = on_slot s Owner.Request Owner.Nobody
 
 unfoldable pub owner_in : List ℕ → ℕ → ℕ → ℕ → Owner
 owner_in ids occupied kind id =

@@ -1,7 +1,7 @@
 -- What opening a request needs: whether BEGIN_REQUEST fits, what the rows say together, and what is written.
-use Rattle.std.specs.Prelude.{ℕ, ◌≡◌, refl, Bool, true, false, not, List, [], ◌∷◌, length, ltb, eqb}
+use Rattle.std.specs.Prelude.{ℕ, ◌≡◌, refl, Bool, true, false, not, List, [], ◌∷◌, length, ltb, eqb, if◌then◌else◌}
 use Rattle.std.proofs.Common.{sym, ap, ◌∙◌, arith}
-use Rattle.wire.specs.Test.{if◌then◌else◌, byTest}
+use Rattle.wire.specs.Test.{by_test}
 use Rattle.record.specs.Names.{BEGIN_REQUEST}
 use Rattle.record.specs.Body.{begin_body_bytes}
 use Rattle.record.proofs.BodyLaws.{begin_length}
@@ -49,7 +49,7 @@ pub rows_own : (c : Server) (id role room long : ℕ) (fits : Bool) → Passed c
     → own_rows c.table.ids c.table.occupied id role fits ≡ open_refusal c id role room long
 unfolding open_refusal own_rows
 rows_own c id role room long fits p e =
-    byTest (ltb room long)
+    by_test (ltb room long)
     (λ t. let short : fits ≡ false = e ∙ ap not t in simp (p.shape, p.is_open, short, t))
     (λ t. let enough : fits ≡ true = e ∙ ap not t in simp (p.shape, p.is_open, enough, t))
 

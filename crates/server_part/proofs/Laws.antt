@@ -1,7 +1,7 @@
 -- What holds of a part as it is written.
-use Rattle.std.specs.Prelude.{ℕ, ◌≡◌, refl, Bool, true, false, not, List, length, ltb}
+use Rattle.std.specs.Prelude.{ℕ, ◌≡◌, refl, Bool, true, false, not, List, length, ltb, if◌then◌else◌}
 use Rattle.std.proofs.Common.{ap, ◌∙◌}
-use Rattle.wire.specs.Test.{if◌then◌else◌, byTest}
+use Rattle.wire.specs.Test.{by_test}
 use Rattle.record.specs.Names.{PARAMS}
 use Rattle.record_writer.specs.Written.{stream_bytes, stream_fits}
 use Rattle.pairs.specs.Pair.{pair_bytes}
@@ -67,13 +67,13 @@ pair_rows : (r : Request) (name value l : List ℕ) → out_of_turn r.state Inpu
 unfolding pair_streamed part_in writes
 pair_rows r name value l e =
     let x = pair_bytes name value in
-    byTest (ltb MAX_WRITTEN (length name))
+    by_test (ltb MAX_WRITTEN (length name))
     (λ n. simp (e, n))
     (λ n.
-    byTest (ltb MAX_WRITTEN (length value))
+    by_test (ltb MAX_WRITTEN (length value))
     (λ v. simp (e, n, v))
     (λ v.
-    byTest (ltb (length l) (length (stream_bytes CHUNK PARAMS r.id x)))
+    by_test (ltb (length l) (length (stream_bytes CHUNK PARAMS r.id x)))
     (λ s. let f : stream_fits CHUNK (length x) 0 (length l) ≡ false = stream_room PARAMS r.id x (length l) ∙ ap not s in simp (e, n, v, s, f))
     (λ s. let f : stream_fits CHUNK (length x) 0 (length l) ≡ true = stream_room PARAMS r.id x (length l) ∙ ap not s in simp (e, n, v, s, f))))
 

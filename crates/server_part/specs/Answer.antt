@@ -1,6 +1,5 @@
 -- What one request writes, and what its part of a call comes to, read in the rules' numbers and values.
-use Rattle.std.specs.Prelude.{ℕ, Bool, true, not, List, length}
-use Rattle.wire.specs.Test.{if◌then◌else◌}
+use Rattle.std.specs.Prelude.{ℕ, Bool, true, not, List, length, if◌then◌else◌}
 use Rattle.pair_writer.specs.declared.PairWrote.{PairWrote}
 use Rattle.connection.specs.declared.request.RequestState.{RequestState}
 use Rattle.connection.specs.declared.request.Request.{Request}

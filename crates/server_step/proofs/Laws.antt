@@ -2,7 +2,7 @@
 use Rattle.std.specs.Prelude.{ℕ, ◌+◌, ◌-◌, ◌≤◌, ◌<◌, min, ◌≡◌, true, List, length, ltb, leb, eqb}
 use Rattle.std.proofs.Common.{sym, arith, ltb-true, leb-true, eqb-true}
 use Rattle.std.proofs.lemmas.List.{set-get_or}
-use Rattle.wire.specs.Test.{byTest}
+use Rattle.wire.specs.Test.{by_test}
 use Rattle.slot_word.specs.Word.{taken, marked}
 use Rattle.slot_word.proofs.WordLaws.{mark_same}
 use Rattle.record_reader.specs.declared.Position.{Position}
@@ -26,13 +26,13 @@ use Rattle.server_content.specs.Fed.{Fed}
 pub used_within : (p : Position) (x : List ℕ) → (advanced p x).used ≤ length x
 unfolding advanced in_header
 used_within p x =
-    byTest (ltb 0 p.content)
+    by_test (ltb 0 p.content)
     (λ t. simp t (omega arith))
-    (λ t. byTest (ltb 0 p.padding)
+    (λ t. by_test (ltb 0 p.padding)
     (λ u. simp (t, u) (omega arith))
-    (λ u. byTest (leb 8 p.held)
+    (λ u. by_test (leb 8 p.held)
     (λ v. simp (t, u, v) (omega arith))
-    (λ v. byTest (ltb (p.held + min (8 - p.held) (length x)) 8)
+    (λ v. by_test (ltb (p.held + min (8 - p.held) (length x)) 8)
     (λ w. simp (t, u, v, w) (omega arith))
     (λ w. simp (t, u, v, w) (omega arith)))))
 
@@ -40,13 +40,13 @@ used_within p x =
 pub content_within : (p : Position) (x : List ℕ) → (advanced p x).phase ≡ Phase.Content → (advanced p x).used ≤ p.content
 unfolding advanced in_header
 content_within p x =
-    byTest (ltb 0 p.content)
+    by_test (ltb 0 p.content)
     (λ t. simp t (λ e. omega arith))
-    (λ t. byTest (ltb 0 p.padding)
+    (λ t. by_test (ltb 0 p.padding)
     (λ u. simp (t, u) (λ e. let z : ◌≡◌ {A = ℕ} 0 1 = cc in absurd (omega arith)))
-    (λ u. byTest (leb 8 p.held)
+    (λ u. by_test (leb 8 p.held)
     (λ v. simp (t, u, v) (λ e. let z : ◌≡◌ {A = ℕ} 0 1 = cc in absurd (omega arith)))
-    (λ v. byTest (ltb (p.held + min (8 - p.held) (length x)) 8)
+    (λ v. by_test (ltb (p.held + min (8 - p.held) (length x)) 8)
     (λ w. simp (t, u, v, w) (λ e. let z : ◌≡◌ {A = ℕ} 0 1 = cc in absurd (omega arith)))
     (λ w. simp (t, u, v, w) (λ e. let z : ◌≡◌ {A = ℕ} 0 1 = cc in absurd (omega arith))))))
 

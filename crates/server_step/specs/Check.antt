@@ -1,7 +1,7 @@
 -- The check of a step: rows 9 and 1, and the empty piece.
-use Rattle.std.specs.Prelude.{ℕ, ◌≡◌, refl, Bool, true, false, List, length, eqb}
+use Rattle.std.specs.Prelude.{ℕ, ◌≡◌, refl, Bool, true, false, List, length, eqb, if◌then◌else◌}
 use Rattle.std.proofs.Common.{arith}
-use Rattle.wire.specs.Test.{if◌then◌else◌, ◌=?◌, byTest}
+use Rattle.wire.specs.Test.{◌=?◌, by_test}
 use Rattle.server.specs.declared.state.Server.{Server}
 use Rattle.server.specs.declared.answer.ServerRefusal.{ServerRefusal}
 use Rattle.server.specs.Codes.{refusal_number}
@@ -28,9 +28,9 @@ by_check StepCheck.Read c values piece = phased c values piece
 pub by_check_lem : (c : Server) (values piece : List ℕ) → by_check (checked_step (in_shape c) c.«open» (length piece)) c values piece ≡ stepped (state_of c values) piece
 unfolding checked_step stepped step_refusal phased
 by_check_lem c values piece =
-    byTest (in_shape c)
-    (λ f. byTest c.«open»
-    (λ o. byTest (eqb (length piece) 0) (λ z. simp (f, o, z)) (λ z. simp (f, o, z)))
+    by_test (in_shape c)
+    (λ f. by_test c.«open»
+    (λ o. by_test (eqb (length piece) 0) (λ z. simp (f, o, z)) (λ z. simp (f, o, z)))
     (λ o. simp (f, o)))
     (λ f. simp f)
 

@@ -2,7 +2,7 @@
 use Rattle.std.specs.Prelude.{ℕ, ◌≡◌, List, length, eqb}
 use Rattle.std.proofs.Math.Path.{ap}
 use Rattle.std.proofs.Common.{◌∙◌}
-use Rattle.wire.specs.Test.{byTest}
+use Rattle.wire.specs.Test.{by_test}
 use Rattle.connection.specs.declared.request.Request.{Request}
 use Rattle.connection.specs.declared.state.Table.{Table}
 use Rattle.connection.specs.RequestCalls.{Writing, writes}
@@ -29,7 +29,7 @@ part_put : (c : Server) (i : ℕ) (part : Part) (l : List ℕ) → puts_back c i
 unfolding writes_part part_in writes
 part_put c i part l =
     let r = request_at c.table i in
-    byTest (eqb (own_refusal r part (length l)) 0)
+    by_test (eqb (own_refusal r part (length l)) 0)
     (λ t. simp t)
     (λ t. simp t (ap (λ (u : Table). record { refusal = own_refusal r part (length l); written = 0; server = record { table = u; frame = c.frame; «open» = c.«open» }; buffer = l }) (put_same c.table i)))
 

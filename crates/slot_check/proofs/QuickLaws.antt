@@ -4,7 +4,7 @@ use Rattle.std.proofs.Common.{sym, ◌∙◌, arith, length-set, get_or-set_same
 use Rattle.std.proofs.Math.Bool.{or-false, or_assoc}
 use Rattle.std.proofs.lemmas.List.{get_or-replicate}
 use Rattle.std.proofs.lemmas.Bool.{eqb-false}
-use Rattle.wire.specs.Test.{byTest}
+use Rattle.wire.specs.Test.{by_test}
 use Rattle.connection.specs.Sizes.{SLOTS}
 use Rattle.slot_check.specs.Quick.{any_of, Gathers, key_of, key_below, KeysOf}
 
@@ -28,9 +28,9 @@ pub none_of : (n : ℕ) (test : ℕ → Bool) (i : ℕ) → any_of n test i ≡ 
 unfolding any_of
 none_of zero test i e k a b = absurd (omega arith)
 none_of (suc n) test i e k a b =
-    byTest (test i)
+    by_test (test i)
     (λ t. let z : ◌≡◌ {A = ℕ} 0 1 = cc (simp t at e) in absurd (omega arith))
-    (λ t. byTest (eqb i k)
+    (λ t. by_test (eqb i k)
     (λ q. rw (← eqb-true i k q) t)
     (λ q. let d = eqb-false i k q in none_of n test (i + 1) (simp t at e) k (omega arith) (omega arith)))
 
@@ -46,7 +46,7 @@ of_none (suc n) test i f =
 below_other : (ids : List ℕ) (occupied i j : ℕ) → (j ≡ i → ⊥)
     → key_below ids occupied i j ≡ key_below ids occupied (i + 1) j
 below_other ids occupied i j d =
-    byTest (ltb j i)
+    by_test (ltb j i)
     (λ t. let l = ltb-true j i t in simp (t, lt-ltb j (i + 1) (omega arith)))
     (λ t. let l = ltb-false j i t in simp (t, le-ltb j (i + 1) (omega arith)))
 
@@ -80,7 +80,7 @@ keys_next {ids} {occupied} {i} {keys} k h =
     stored : (l : List ℕ) (j p q : ℕ) → p < length l → (j ≡ i → q ≡ p) → (q ≡ p → j ≡ i)
         → get_or l q 0 ≡ key_below ids occupied i j → get_or (set l p key) q 0 ≡ key_below ids occupied (i + 1) j
     stored l j p q low to from old =
-        byTest (eqb j i)
+        by_test (eqb j i)
         (λ t. let e = eqb-true j i t in rw (to e, e) (get_or-set_same l p key 0 low ∙ below_same ids occupied i))
         (λ t.
         let d = eqb-false j i t in

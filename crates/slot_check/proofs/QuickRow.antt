@@ -5,7 +5,7 @@ use Rattle.std.proofs.Math.Bool.{true, or-true}
 use native.Mathlib.Omega.{arith}
 use Rattle.std.specs.Int.Bits.{bit_and}
 use Rattle.std.proofs.lemmas.Bool.{eqb-false, not-true}
-use Rattle.wire.specs.Test.{byTest, ◌=?◌}
+use Rattle.wire.specs.Test.{by_test, ◌=?◌}
 use Rattle.slot_word.specs.Word.{taken}
 use Rattle.slot_word.proofs.WordLaws.{taken_out}
 use Rattle.connection.specs.declared.state.Table.{Table}
@@ -46,7 +46,7 @@ not_again : (keys : List ℕ) (i : ℕ)
     → repeats keys i ≡ false
 unfolding repeats
 not_again keys i none =
-    byTest (eqb (get_or keys i 0) 0)
+    by_test (eqb (get_or keys i 0) 0)
     (λ t. simp t)
     (λ t.
     let some = eqb-false (get_or keys i 0) 0 t in
@@ -91,9 +91,9 @@ module _ (ids lengths : List ℕ) (occupied : ℕ) where
   -- A test that says that the slots are tidy is the slots' part of row 9.
   row : (b : Bool) → (b ≡ true → Tidy slots) → (Tidy slots → b ≡ true) → b ≡ slots_fit SLOTS ids lengths occupied 0
   row b says holds =
-      byTest (slots_fit SLOTS ids lengths occupied 0)
+      by_test (slots_fit SLOTS ids lengths occupied 0)
       (λ t. holds (fits_tidy t) ∙ sym t)
-      (λ t. byTest b
+      (λ t. by_test b
       (λ u. let f = tidy_fits (says u) in let z : ◌≡◌ {A = ℕ} 0 1 = cc (t, f) in absurd (omega arith))
       (λ u. u ∙ sym t))
 
@@ -144,13 +144,13 @@ module _ (ids lengths : List ℕ) (occupied : ℕ) where
     module _ (n : ℕ) (w : TakenBelow occupied n) (keys : List ℕ) (k : KeysOf ids occupied n keys) where
       below : (i : ℕ) → taken i occupied ≡ true → i < n
       below i t =
-          byTest (ltb i n)
+          by_test (ltb i n)
           (λ u. ltb-true i n u)
           (λ u. let f = w.free i (ltb-false i n u) in let z : ◌≡◌ {A = ℕ} 0 1 = cc (f, t) in absurd (omega arith))
 
       -- so the list has the keys of all slots
       key_below_lem : (i : ℕ) → key_below ids occupied n i ≡ key_of ids occupied i
-      key_below_lem i = byTest (ltb i n) (λ u. simp u) (λ u. simp (u, w.free i (ltb-false i n u)))
+      key_below_lem i = by_test (ltb i n) (λ u. simp u) (λ u. simp (u, w.free i (ltb-false i n u)))
 
       key_at : (i : ℕ) → i < SLOTS → get_or keys i 0 ≡ key_of ids occupied i
       key_at i h = k.here i h ∙ key_below_lem i
@@ -165,7 +165,7 @@ module _ (ids lengths : List ℕ) (occupied : ℕ) where
       -- a key that is not 0 is that of a slot taken
       holds_key : (i : ℕ) → i < SLOTS → (key_of ids occupied i ≡ 0 → ⊥) → Holds slots (key_of ids occupied i) i
       holds_key i h some =
-          byTest (taken i occupied)
+          by_test (taken i occupied)
           (λ t. record { low = h; slot_taken = t; has_id = simp t })
           (λ t. absurd (some (simp t)))
 
@@ -184,7 +184,7 @@ module _ (ids lengths : List ℕ) (occupied : ℕ) where
       ordered : any_of n (repeats keys) 0 ≡ false → (id i j : ℕ) → (id ≡ 0 → ⊥) → i < j
           → Holds slots id i → Holds slots id j → ⊥
       ordered none id i j some l a b =
-          byTest (leb (j - i) 8)
+          by_test (leb (j - i) 8)
           (λ t.
           let m = leb-true (j - i) 8 t in
           let e : i + ((j - i - 1) + 1) ≡ j = omega arith in
@@ -198,9 +198,9 @@ module _ (ids lengths : List ℕ) (occupied : ℕ) where
       well nameless same =
           tidy named
           (λ id i j a b.
-          byTest (ltb i j)
+          by_test (ltb i j)
           (λ t. absurd (ordered same id i j (some id i a) (ltb-true i j t) a b))
-          (λ t. byTest (ltb j i)
+          (λ t. by_test (ltb j i)
           (λ u. absurd (ordered same id j i (some id j b) (ltb-true j i u) b a))
           (λ u. let p = ltb-false i j t in let q = ltb-false j i u in omega arith)))
         where
@@ -219,7 +219,7 @@ module _ (ids lengths : List ℕ) (occupied : ℕ) where
       behind : (i d : ℕ) → i < SLOTS → d < 8
           → (j : ℕ) × ((j < SLOTS) × ((j ≡ i → ⊥) × (get_or keys (i + (d + 1)) 0 ≡ key_of ids occupied j)))
       behind i d h l =
-          byTest (ltb (i + (d + 1)) SLOTS)
+          by_test (ltb (i + (d + 1)) SLOTS)
           (λ t.
           let m = ltb-true (i + (d + 1)) SLOTS t in
           (i + (d + 1), (m, ((λ q. omega arith), key_at (i + (d + 1)) m))))
@@ -247,7 +247,7 @@ module _ (ids lengths : List ℕ) (occupied : ℕ) where
       none_nameless t =
           of_none n (is_nameless ids occupied) 0
           (λ i a b.
-          byTest (taken i occupied)
+          by_test (taken i occupied)
           (λ u.
           let l : i < SLOTS = omega (arith, w.within) in
           simp (u, ne_eqb (get_or ids i 0) 0 (λ e. t.ids i (record { low = l; slot_taken = u; has_id = e }))))

@@ -5,7 +5,7 @@ use Rattle.std.specs.Int.Bits.{bit_and, and_step, and_self}
 use Rattle.std.proofs.lemmas.Nat.{and_mask}
 use Rattle.std.specs.Int.Count.{count_trailing_zeros, under}
 use Rattle.std.proofs.lemmas.Bool.{eqb-false, not-false}
-use Rattle.wire.specs.Test.{byTest}
+use Rattle.wire.specs.Test.{by_test}
 use Rattle.slot_word.specs.Word.{taken}
 use Rattle.slot_word.proofs.WordLaws.{digit, taken_out}
 use Rattle.connection.specs.Sizes.{SLOTS}
@@ -25,7 +25,7 @@ bit_is i h =
 
 twice : (a b c : ℕ) → c ≡ b * 2 → eqb (a * 2) c ≡ eqb a b
 twice a b c e =
-    byTest (eqb a b)
+    by_test (eqb a b)
     (λ t. let q = eqb-true a b t in eq-eqb (a * 2) c (omega arith) ∙ sym t)
     (λ t. let q = eqb-false a b t in ne_eqb (a * 2) c (λ z. q (omega arith)) ∙ sym t)
 
@@ -46,7 +46,7 @@ bit_in i o h = ap (λ (n : ℕ). eqb (bit_and o n) n) (bit_is i h) ∙ power_in 
 -- ---- the slots to look at
 pub reach_below : (o : ℕ) → o < 65536 → TakenBelow o (8 + (o / 256 + 255) / 256 * 8)
 reach_below o h =
-    byTest (ltb o 256)
+    by_test (ltb o 256)
     (λ t. let l = ltb-true o 256 t in record { within = omega arith; free = λ i m. taken_out 8 i o l (omega arith) })
     (λ t. let l = ltb-false o 256 t in record { within = omega arith; free = λ i m. taken_out 16 i o h (omega arith) })
 
@@ -74,7 +74,7 @@ only_one zero zero o a s t = refl
 only_one zero (suc j) o a s t = absurd (alone j o a (eqb-true (o % 2) 1 s) t)
 only_one (suc i) zero o a s t = absurd (alone i o a (eqb-true (o % 2) 1 t) s)
 only_one (suc i) (suc j) o a s t =
-    byTest (eqb (o % 2) 1)
+    by_test (eqb (o % 2) 1)
     (λ q. absurd (alone i o a (eqb-true (o % 2) 1 q) s))
     (λ q. let d = eqb-false (o % 2) 1 q in ap suc (only_one i j (o / 2) (halved o a (omega arith)) s t))
 

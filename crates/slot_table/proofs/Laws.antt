@@ -1,10 +1,9 @@
 -- What the proofs of this crate share.
-use Rattle.std.specs.Prelude.{ℕ, suc, ◌+◌, ◌-◌, ◌^◌, ◌≤◌, ◌<◌, ◌≡◌, List, map, length}
+use Rattle.std.specs.Prelude.{ℕ, suc, ◌+◌, ◌-◌, ◌^◌, ◌≤◌, ◌<◌, ◌≡◌, List, map, length, if◌then◌else◌}
 use Rattle.std.proofs.Common.{sym, ◌∙◌, arith}
 use Rattle.std.proofs.lemmas.List.{length-map}
 use Rattle.std.proofs.Math.ListN.{get_or-eq_default}
 use Rattle.std.proofs.Math.Seq.{set_out}
-use Rattle.wire.specs.Test.{if◌then◌else◌}
 use Rattle.slot_word.proofs.WordLaws.{taken_out, mark_out}
 use Rattle.connection.specs.declared.request.Request.{Request}
 use Rattle.connection.specs.declared.state.Table.{Table}
@@ -56,8 +55,8 @@ request_out t i s n h =
     ))
 
 -- the length of an array of structs
-pub mapped-length {ℓ κ} : {A : Type ℓ} {B : Type κ} (f : A → B) (l : List A) (n : ℕ) → length (map f l) ≡ n → length l ≡ n
-mapped-length f l n e = sym (length-map l f) ∙ e
+pub mapped_length {ℓ κ} : {A : Type ℓ} {B : Type κ} (f : A → B) (l : List A) (n : ℕ) → length (map f l) ≡ n → length l ≡ n
+mapped_length f l n e = sym (length-map l f) ∙ e
 
 -- a turn of the search for an id, and its end
 pub find_turn : (ids : List ℕ) (occupied id i : ℕ) → i < SLOTS

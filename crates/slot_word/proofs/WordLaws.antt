@@ -1,5 +1,5 @@
 -- What holds of a word that has a bit for each slot: that of occupancy, and those of the marks.
-use Rattle.std.specs.Prelude.{◌≡◌, refl, ℕ, zero, suc, ◌+◌, ◌-◌, ◌*◌, ◌/◌, ◌%◌, ◌^◌, ◌≤◌, ◌<◌, Bool, true, false, ltb, eqb}
+use Rattle.std.specs.Prelude.{◌≡◌, refl, ℕ, zero, suc, ◌+◌, ◌-◌, ◌*◌, ◌/◌, ◌%◌, ◌^◌, ◌≤◌, ◌<◌, Bool, true, false, ltb, eqb, if◌then◌else◌}
 use Rattle.std.proofs.Common.{sym, ap, ap₂, ◌∙◌, arith, pow-suc, le_of_suc-le-suc, mod-eq_of_lt, div-one, mul_comm, pow_pos, lt-ltb, le-ltb, ltb-true, ltb-false, eq-eqb, eqb-true}
 use Rattle.std.proofs.Math.Nat.{div-div-eq-div-mul}
 use Rattle.std.proofs.Math.Pow.{pow-lt}
@@ -8,7 +8,7 @@ use Rattle.std.specs.Int.Bits.{bit_or, bit_and, or_step, and_step, or_zero_r}
 use Rattle.std.proofs.lemmas.Nat.{and_mask}
 use Rattle.std.proofs.lemmas.Bool.{eqb-false}
 use Rattle.slot_word.specs.Word.{taken, lowest_free, taken_count, with_bit, without_bit, with_slot, without_slot, marked}
-use Rattle.wire.specs.Test.{if◌then◌else◌, byTest}
+use Rattle.wire.specs.Test.{by_test}
 
 -- a digit is 0 or 1: a statement of a number's lowest digit, by its two cases
 pub digit : (P : ℕ → Type 0) (n : ℕ) → (n % 2 ≡ 0 → P 0) → (n % 2 ≡ 1 → P 1) → P (n % 2)
@@ -35,16 +35,16 @@ pub least_free : (k o : ℕ) → lowest_free k o < k → taken (lowest_free k o)
 unfolding lowest_free taken
 least_free zero o h = absurd (omega arith)
 least_free (suc k) o h =
-    byTest (eqb (o % 2) 1)
+    by_test (eqb (o % 2) 1)
     (λ e. simp e (least_free k (o / 2) (le_of_suc-le-suc (simp e at h))))
     (λ e. simp e)
 
 pub least_below : (k o j : ℕ) → j < lowest_free k o → taken j o ≡ true
 unfolding lowest_free taken
 least_below zero o j h = absurd (omega arith)
-least_below (suc k) o zero h = byTest (eqb (o % 2) 1) (λ e. e) (λ e. absurd (omega (arith, simp e at h)))
+least_below (suc k) o zero h = by_test (eqb (o % 2) 1) (λ e. e) (λ e. absurd (omega (arith, simp e at h)))
 least_below (suc k) o (suc j) h =
-    byTest (eqb (o % 2) 1)
+    by_test (eqb (o % 2) 1)
     (λ e. least_below k (o / 2) j (le_of_suc-le-suc (simp e at h)))
     (λ e. absurd (omega (arith, simp e at h)))
 
@@ -201,12 +201,12 @@ mark_out i false o h = simp (le-ltb i 16 h)
 
 -- by the two cases of a slot: one of the 16, or none
 by_slot : (P : Type 0) (i : ℕ) → (i < 16 → P) → (16 ≤ i → P) → P
-by_slot P i low high = byTest (ltb i 16) (λ e. low (ltb-true i 16 e)) (λ e. high (ltb-false i 16 e))
+by_slot P i low high = by_test (ltb i 16) (λ e. low (ltb-true i 16 e)) (λ e. high (ltb-false i 16 e))
 
 -- a mark put as it is changes nothing
 pub mark_same : (i o : ℕ) → marked i (taken i o) o ≡ o
 mark_same i o = by_slot (marked i (taken i o) o ≡ o) i
-    (λ h. mark_bit i (taken i o) o h ∙ byTest (taken i o) (λ e. rw e (with_same i o e)) (λ e. rw e (without_same i o e)))
+    (λ h. mark_bit i (taken i o) o h ∙ by_test (taken i o) (λ e. rw e (with_same i o e)) (λ e. rw e (without_same i o e)))
     (mark_out i (taken i o) o)
 
 -- the mark put is read back

@@ -10,7 +10,7 @@ use Rattle.std.proofs.lemmas.Nat.{and_le_r}
 use Rattle.std.proofs.lemmas.Bool.{eqb-false}
 use Rattle.slot_word.specs.Word.{taken}
 use Rattle.slot_word.proofs.WordLaws.{digit, taken_out}
-use Rattle.wire.specs.Test.{byTest}
+use Rattle.wire.specs.Test.{by_test}
 
 -- an operation on words that goes digit by digit: its digit, and the digit's bit, are those of the operands
 module _ (word digits : ℕ → ℕ → ℕ) (bits : Bool → Bool → Bool)
@@ -81,6 +81,6 @@ apart k a o h f =
   where
     none : (i : ℕ) → i < k → taken i (bit_and a (2 ^ k - 1 - o)) ≡ false
     none i l =
-        byTest (taken i o)
+        by_test (taken i o)
         (λ t. simp (taken_and i a (2 ^ k - 1 - o), taken_not k i o l h, t, and-false))
         (λ t. simp (taken_and i a (2 ^ k - 1 - o), f i l t))

@@ -1,6 +1,6 @@
 -- The word of occupancy, read from its lowest bit on.
-use Rattle.std.specs.Prelude.{ℕ, zero, suc, ◌+◌, ◌*◌, ◌/◌, ◌%◌, Bool}
-use Rattle.wire.specs.Test.{if◌then◌else◌, ◌<?◌, ◌=?◌}
+use Rattle.std.specs.Prelude.{ℕ, zero, suc, ◌+◌, ◌*◌, ◌/◌, ◌%◌, Bool, if◌then◌else◌}
+use Rattle.wire.specs.Test.{◌<?◌, ◌=?◌}
 
 -- slot i is taken: its bit is 1
 unfoldable pub taken : ℕ → ℕ → Bool

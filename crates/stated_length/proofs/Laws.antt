@@ -2,7 +2,7 @@
 use Rattle.std.specs.Prelude.{ℕ, ◌≤◌, ◌≡◌, List, ltb}
 use Rattle.std.proofs.Math.Option.{Option, none, some}
 use Rattle.std.proofs.Common.{arith, ltb-false}
-use Rattle.wire.specs.Test.{byTest}
+use Rattle.wire.specs.Test.{by_test}
 use Rattle.pairs.specs.Pair.{value_of}
 use Rattle.pair_list.specs.List.{first_named}
 use Rattle.pair_list.specs.declared.Found.{Found}
@@ -12,7 +12,7 @@ use Rattle.stated_length.specs.Stated.{LARGEST, up_to_largest, of_found, stated_
 largest : (o : Option ℕ) (n : ℕ) → up_to_largest o ≡ some n → n ≤ LARGEST
 largest none n e = let z : ◌≡◌ {A = ℕ} 0 1 = cc in absurd (omega arith)
 largest (some m) n e =
-    byTest (ltb LARGEST m)
+    by_test (ltb LARGEST m)
     (λ t. let z : ◌≡◌ {A = ℕ} 0 1 = cc (simp t at e) in absurd (omega arith))
     (λ t. let q : m ≡ n = cc (simp t at e) in omega (arith, ltb-false LARGEST m t))
 

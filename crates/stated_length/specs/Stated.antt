@@ -1,7 +1,7 @@
 -- The length that a list states under a name (request [8]).
-use Rattle.std.specs.Prelude.{ℕ, List}
+use Rattle.std.specs.Prelude.{ℕ, List, if◌then◌else◌}
 use Rattle.std.proofs.Math.Option.{Option, none, some}
-use Rattle.wire.specs.Test.{if◌then◌else◌, ◌<?◌}
+use Rattle.wire.specs.Test.{◌<?◌}
 use Rattle.decimal.specs.Decimal.{decimal_of}
 use Rattle.pairs.specs.Pair.{value_of}
 use Rattle.pair_list.specs.List.{first_named}

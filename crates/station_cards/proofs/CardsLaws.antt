@@ -7,7 +7,7 @@ use Rattle.std.proofs.Math.Seq.{take-length}
 use Rattle.std.specs.Float.{binary64}
 use Rattle.std.specs.Float.Ieee.{of_int, of_bits}
 use Rattle.std.proofs.lemmas.Bool.{eqb-false}
-use Rattle.wire.specs.Test.{byTest, ◌<?◌, ◌=?◌}
+use Rattle.wire.specs.Test.{by_test, ◌<?◌, ◌=?◌}
 use Rattle.decimal.specs.Decimal.{is_digit, digit_value, digits_after, decimal_of}
 use Rattle.decimal.proofs.Laws.{digit_byte, ten_to}
 use Rattle.bytes.specs.Bytes.{slice, index_of}
@@ -47,14 +47,14 @@ digits_under : (text : List ℕ) (v n : ℕ) → digits_after v text ≡ some n 
 unfolding digits_after ten_to
 digits_under [] v n e = omega (arith, the_number e)
 digits_under (byte ∷ text) v n e =
-    byTest (is_digit byte) (λ t. one_more_lem byte v n (ten_to (length text)) t (digits_under text (v * 10 + digit_value byte) n (simp t at e)))
+    by_test (is_digit byte) (λ t. one_more_lem byte v n (ten_to (length text)) t (digits_under text (v * 10 + digit_value byte) n (simp t at e)))
     (λ t. let z : ◌≡◌ {A = ℕ} 0 1 = cc (simp t at e) in absurd (omega arith))
 
 pub decimal_under : (text : List ℕ) (n : ℕ) → decimal_of text ≡ some n → n < ten_to (length text)
 unfolding decimal_of
 decimal_under text n e =
-    byTest (length text =? 0) (λ t. let z : ◌≡◌ {A = ℕ} 0 1 = cc (simp t at e) in absurd (omega arith))
-    (λ t. byTest (10 <? length text) (λ u. let z : ◌≡◌ {A = ℕ} 0 1 = cc (simp (t, u) at e) in absurd (omega arith))
+    by_test (length text =? 0) (λ t. let z : ◌≡◌ {A = ℕ} 0 1 = cc (simp t at e) in absurd (omega arith))
+    (λ t. by_test (10 <? length text) (λ u. let z : ◌≡◌ {A = ℕ} 0 1 = cc (simp (t, u) at e) in absurd (omega arith))
     (λ u. omega (arith, digits_under text 0 n (simp (t, u) at e))))
 
 -- Up to four digits before the point, and up to three after it.

@@ -4,7 +4,7 @@ use Rattle.std.specs.Prelude.{ℕ, zero, suc, ◌+◌, ◌-◌, ◌*◌, ◌/◌
 use Rattle.std.proofs.Common.{sym, ap, ◌∙◌, subst, arith, length-append, take_at, lt-ltb, le-ltb, le-leb, ltb-true, ltb-false, eq-eqb, ne_eqb}
 use Rattle.std.proofs.Math.Option.{Option, none, some}
 use Rattle.std.proofs.Math.Seq.{drop-append-add}
-use Rattle.wire.specs.Test.{byTest, ◌<?◌}
+use Rattle.wire.specs.Test.{by_test, ◌<?◌}
 use Rattle.bytes.specs.Bytes.{index_of, index_after}
 use Rattle.decimal.specs.Decimal.{is_digit, digit_value, digits_after, decimal_of}
 use Rattle.decimal.proofs.Laws.{digit_byte, ten_to}
@@ -29,14 +29,14 @@ digits_more [] d v n h e = simp (is_digit_lem d h) (ap some (ap (λ (k : ℕ). v
     the_number : {a b : ℕ} → some a ≡ some b → a ≡ b
     the_number q = cc q
 digits_more (byte ∷ x) d v n h e =
-    byTest (is_digit byte) (λ t. simp t (digits_more x d (v * 10 + digit_value byte) n h (simp t at e)))
+    by_test (is_digit byte) (λ t. simp t (digits_more x d (v * 10 + digit_value byte) n h (simp t at e)))
     (λ t. let z : ◌≡◌ {A = ℕ} 0 1 = cc (simp t at e) in absurd (omega arith))
 
 digits_back : (k n : ℕ) → n < k → digits_after 0 (decimal n) ≡ some n
 unfolding digits_after
 digits_back zero n h = absurd (omega arith)
 digits_back (suc k) n h =
-    byTest (n <? 10)
+    by_test (n <? 10)
     (λ t. let one : 0 * 10 + digit_value (digit n) ≡ n = omega arith in
     rw (decimal_one n (ltb-true n 10 t)) (simp (is_digit_lem n (ltb-true n 10 t)) (ap some one)))
     (λ t. let more : 10 ≤ n = ltb-false n 10 t in
@@ -45,7 +45,7 @@ digits_back (suc k) n h =
 
 not_empty : (n : ℕ) → length (decimal n) ≡ 0 → ⊥
 not_empty n e =
-    byTest (n <? 10) (λ t. omega (arith, e, ap length (decimal_one n (ltb-true n 10 t))))
+    by_test (n <? 10) (λ t. omega (arith, e, ap length (decimal_one n (ltb-true n 10 t))))
     (λ t. omega (arith, e, ap length (decimal_more n (ltb-false n 10 t)), length-append (decimal (n / 10)) (digit (n % 10) ∷ [])))
 
 -- The digits of a number of up to ten digits, read by the reader of lengths.
@@ -60,7 +60,7 @@ point_behind : (x r : List ℕ) (v n : ℕ) → digits_after v x ≡ some n → 
 unfolding digits_after index_of index_after
 point_behind [] r v n e = refl
 point_behind (byte ∷ x) r v n e =
-    byTest (is_digit byte)
+    by_test (is_digit byte)
     (λ t. let other : byte ≡ 46 → ⊥ = λ z. omega (arith, z, digit_byte byte t) in
     simp (ne_eqb byte 46 other) (ap suc (point_behind x r (v * 10 + digit_value byte) n (simp t at e))))
     (λ t. let z : ◌≡◌ {A = ℕ} 0 1 = cc (simp t at e) in absurd (omega arith))
@@ -104,7 +104,7 @@ digit_first : (x r : List ℕ) (v n : ℕ) → digits_after v x ≡ some n → (
 unfolding digits_after
 digit_first [] r v n e long minus = long refl
 digit_first (byte ∷ x) r v n e long minus =
-    byTest (is_digit byte) (λ t. omega (arith, minus, digit_byte byte t))
+    by_test (is_digit byte) (λ t. omega (arith, minus, digit_byte byte t))
     (λ t. let z : ◌≡◌ {A = ℕ} 0 1 = cc (simp t at e) in absurd (omega arith))
 
 not_none : (x r : List ℕ) → length (x ++ (46 ∷ r)) ≡ 0 → ⊥

@@ -1,6 +1,6 @@
 -- Numbers of bytes, and the part of a piece that an event shows.
-use Rattle.std.specs.Prelude.{ℕ, ◌+◌, ◌-◌, min, List, take, drop}
-use Rattle.wire.specs.Test.{if◌then◌else◌, ◌=?◌}
+use Rattle.std.specs.Prelude.{ℕ, ◌+◌, ◌-◌, min, List, take, drop, if◌then◌else◌}
+use Rattle.wire.specs.Test.{◌=?◌}
 use Rattle.connection.specs.declared.event.Event.{Event}
 
 -- A sum; where it would not fit into 64 bits, the largest number that does.

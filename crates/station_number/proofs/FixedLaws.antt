@@ -9,7 +9,7 @@ use Rattle.std.specs.Float.Ieee.Exact.{HasValue, odd_sign}
 use Rattle.std.specs.Float.Ieee.Nearest.{div_same}
 use Rattle.std.specs.Float.Ieee.Bits.{of_bits-to_bits}
 use Rattle.std.proofs.lemmas.Bool.{eqb-false}
-use Rattle.wire.specs.Test.{byTest, ◌=?◌}
+use Rattle.wire.specs.Test.{by_test, ◌=?◌}
 use Rattle.ice_correction.specs.FloatSize.{AtMost}
 use Rattle.station_number.specs.Fixed.{signed, nearest_thousandths, thousandths}
 use Rattle.station_number.specs.Pattern.{pattern_size}

@@ -6,7 +6,7 @@ use Rattle.std.specs.Float.Ieee.{odd, fits, of_fields, of_bits, to_bits}
 use Rattle.std.specs.Float.Ieee.Exact.{HasValue, odd_sign}
 use Rattle.std.specs.Float.Ieee.Bits.{of_bits-to_bits}
 use Rattle.std.proofs.lemmas.Bool.{eqb-false}
-use Rattle.wire.specs.Test.{byTest, ◌<?◌, ◌=?◌}
+use Rattle.wire.specs.Test.{by_test, ◌<?◌, ◌=?◌}
 use Rattle.ice_correction.specs.FloatSize.{AtMost}
 use Rattle.station_number.specs.Fixed.{signed, nearest_thousandths, thousandths}
 use Rattle.station_number.specs.Pattern.{pattern_size}
@@ -27,7 +27,7 @@ normal_value s k t h =
 -- 2,047 is the field of what is not finite.
 no_value : (s : Bool) (t B : ℕ) → AtMost (of_fields binary64 s 2047 t) B → ⊥
 unfolding of_fields
-no_value s t B h = byTest (eqb t 0) (λ e. absurd (simp e at h)) (λ e. absurd (simp e at h))
+no_value s t B h = by_test (eqb t 0) (λ e. absurd (simp e at h)) (λ e. absurd (simp e at h))
 
 -- The weight of a field, taken from the digits to the fraction's other half.
 weighed : (d k : ℕ) → k ≤ 1074 → nearest_thousandths (d * 2 ^ k) (2 ^ 1074) ≡ nearest_thousandths d (2 ^ (1074 - k))
@@ -41,7 +41,7 @@ too_large : (p q x : ℕ) → q ≡ p * 34359738368 → 4503599627370496 * p ≤
 too_large p q x whole least most some = omega arith
 
 field_low : (s : Bool) (k t : ℕ) → AtMost (of_fields binary64 s (suc k) t) 126535 → k < 1039
-field_low s k t h = byTest (k =? 2046) high other
+field_low s k t h = by_test (k =? 2046) high other
   where
     high : (k =? 2046) ≡ true → k < 1039
     high e = absurd (no_value s t 126535 (subst (λ (f : ℕ). AtMost (of_fields binary64 s (suc f) t) 126535) (eqb-true k 2046 e) h))
@@ -51,7 +51,7 @@ field_low s k t h = byTest (k =? 2046) high other
         let v = normal_value s k t (λ z. eqb-false k 2046 e (omega (arith, z))) in
         let most = value_at_most (of_fields binary64 s (suc k) t) s ((4503599627370496 + t) * 2 ^ k) (2 ^ 1074) 126535 v h in
         let digits : 4503599627370496 ≤ 4503599627370496 + t = omega arith in
-        byTest (k <? 1039) (λ l. ltb-true k 1039 l)
+        by_test (k <? 1039) (λ l. ltb-true k 1039 l)
         (λ l. absurd
         (too_large (2 ^ 1039) (2 ^ 1074) ((4503599627370496 + t) * 2 ^ k) (pow-add 2 1039 35) (mul-le-mul digits (pow_mono (ltb-false k 1039 l))) most (pow_pos 1039)))
 

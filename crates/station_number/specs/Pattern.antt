@@ -1,6 +1,6 @@
 -- The size of a float in thousandths, from its bit pattern without the sign.
-use Rattle.std.specs.Prelude.{ℕ, ◌+◌, ◌*◌, ◌-◌, ◌/◌, ◌%◌, ◌^◌}
-use Rattle.wire.specs.Test.{if◌then◌else◌, ◌=?◌}
+use Rattle.std.specs.Prelude.{ℕ, ◌+◌, ◌*◌, ◌-◌, ◌/◌, ◌%◌, ◌^◌, if◌then◌else◌}
+use Rattle.wire.specs.Test.{◌=?◌}
 use Rattle.station_number.specs.Fixed.{nearest_thousandths}
 
 -- Of the pattern's digits there are 52. A field of 0 stands for no leading digit, any other for one, and for a weight of

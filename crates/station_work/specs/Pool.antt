@@ -1,7 +1,7 @@
 -- The pool of 1,024 blocks of 4,096 bytes, and for each block the number of the one behind it; behind the number 1,024
 -- stands the first free one.
-use Rattle.std.specs.Prelude.{ℕ, ◌+◌, ◌-◌, ◌*◌, ◌%◌, min, List, [], get_or, set, take, drop}
-use Rattle.wire.specs.Test.{if◌then◌else◌, ◌<?◌, ◌≤?◌}
+use Rattle.std.specs.Prelude.{ℕ, ◌+◌, ◌-◌, ◌*◌, ◌%◌, min, List, [], get_or, set, take, drop, if◌then◌else◌}
+use Rattle.wire.specs.Test.{◌<?◌, ◌≤?◌}
 
 unfoldable pub behind_of : List ℕ → ℕ → ℕ
 behind_of chains block = if 1024 <? block then 1024 else get_or chains block 0

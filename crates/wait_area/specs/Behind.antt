@@ -1,6 +1,6 @@
 -- The marks with one more end behind the last of so many bytes.
-use Rattle.std.specs.Prelude.{ℕ, ◌-◌, List, set}
-use Rattle.wire.specs.Test.{if◌then◌else◌, ◌=?◌}
+use Rattle.std.specs.Prelude.{ℕ, ◌-◌, List, set, if◌then◌else◌}
+use Rattle.wire.specs.Test.{◌=?◌}
 use Rattle.wire.specs.Buffer.{byte_at}
 use Rattle.connection.specs.declared.answer.Output.{Output}
 use Rattle.queue_slot.specs.Wait.{mark_ended}

@@ -1,7 +1,7 @@
 -- How the search for the next record's bytes goes on from a place.
-use Rattle.std.specs.Prelude.{◌≡◌, refl, ℕ, zero, suc, ◌+◌, ◌-◌, ◌%◌, ◌<◌, min, true, false, List, [], ◌∷◌, length, drop}
+use Rattle.std.specs.Prelude.{◌≡◌, refl, ℕ, zero, suc, ◌+◌, ◌-◌, ◌%◌, ◌<◌, min, true, false, List, [], ◌∷◌, length, drop, if◌then◌else◌}
 use Rattle.std.proofs.Common.{sym, ◌∙◌, arith, zero-add, length-drop, drop-cons, leb-true, leb-false}
-use Rattle.wire.specs.Test.{if◌then◌else◌, ◌=?◌, ◌≤?◌, byTest}
+use Rattle.wire.specs.Test.{◌=?◌, ◌≤?◌, by_test}
 use Rattle.wire.specs.Buffer.{byte_at}
 use Rattle.queue_slot.specs.Atoms.{RUN}
 use Rattle.queue_slot.specs.Wait.{no_ends, mark_ends, run_length}
@@ -11,8 +11,8 @@ use Rattle.wait_mark.specs.Joins.{joins, run_from}
 two_turn : (k m next : ℕ) (l : List ℕ) → run_length (suc k) (m ∷ (next ∷ l)) ≡ (if joins m next then suc (run_length k (next ∷ l)) else 1)
 unfolding run_length
 two_turn k m next l =
-    byTest (no_ends (mark_ends m))
-    (λ t. byTest (m % 2 =? next % 2) (λ e. simp (t, e)) (λ e. simp (t, e)))
+    by_test (no_ends (mark_ends m))
+    (λ t. by_test (m % 2 =? next % 2) (λ e. simp (t, e)) (λ e. simp (t, e)))
     (λ t. simp t)
 
 -- one byte may go into the record
@@ -20,7 +20,7 @@ one_turn : (l : List ℕ) → 0 < length l → run_length 1 l ≡ 1
 unfolding run_length
 one_turn [] h = absurd (omega arith)
 one_turn (m ∷ []) h = refl
-one_turn (m ∷ (next ∷ l)) h = two_turn 0 m next l ∙ byTest (joins m next) (λ t. simp t) (λ t. simp t)
+one_turn (m ∷ (next ∷ l)) h = two_turn 0 m next l ∙ by_test (joins m next) (λ t. simp t) (λ t. simp t)
 
 -- one byte waits
 last_turn : (k : ℕ) (l : List ℕ) → 0 < k → length l ≡ 1 → run_length k l ≡ 1
@@ -57,7 +57,7 @@ run_next marks (suc j) p h n =
     let e : suc j - 1 ≡ j = omega arith in
     let d : suc j + 1 - 1 ≡ suc j = omega arith in
     let f : j + 1 ≡ suc j = omega arith in
-    rw (e, d, run_turn marks j (omega arith) n) (byTest (joins (byte_at marks j) (byte_at marks (suc j))) (λ t. simp t (omega arith)) (λ t. simp t f))
+    rw (e, d, run_turn marks j (omega arith) n) (by_test (joins (byte_at marks j) (byte_at marks (suc j))) (λ t. simp t (omega arith)) (λ t. simp t f))
 
 -- the run goes on
 pub run_joins : (marks : List ℕ) (k : ℕ) → 0 < k → k < RUN → k < length marks → joins (byte_at marks (k - 1)) (byte_at marks k) ≡ true → run_from marks k ≡ run_from marks (k + 1)
@@ -69,7 +69,7 @@ run_stops marks k p h n t = run_next marks k p h n ∙ simp t
 
 -- The run ends with the last byte, or with the last that may go into a record.
 pub run_ends : (marks : List ℕ) (k : ℕ) → 0 < k → k ≡ min RUN (length marks) → run_from marks k ≡ k
-run_ends marks k p e = byTest (RUN ≤? length marks) full whole
+run_ends marks k p e = by_test (RUN ≤? length marks) full whole
   where
     rest : length (drop (k - 1) marks) ≡ length marks - (k - 1)
     rest = length-drop (k - 1) marks

@@ -1,8 +1,8 @@
 -- Bytes that have one mark without an end go into one record.
-use Rattle.std.specs.Prelude.{◌≡◌, refl, ℕ, zero, suc, ◌+◌, ◌-◌, ◌%◌, ◌≤◌, ◌<◌, min, true, false, List, length}
+use Rattle.std.specs.Prelude.{◌≡◌, refl, ℕ, zero, suc, ◌+◌, ◌-◌, ◌%◌, ◌≤◌, ◌<◌, min, true, false, List, length, if◌then◌else◌}
 use Rattle.std.proofs.Common.{◌∙◌, arith, eq-eqb, eqb-true}
 use Rattle.std.proofs.lemmas.Bool.{not-false}
-use Rattle.wire.specs.Test.{if◌then◌else◌, ◌=?◌, byTest}
+use Rattle.wire.specs.Test.{◌=?◌, by_test}
 use Rattle.wire.specs.Buffer.{byte_at}
 use Rattle.slot_check.specs.Quick.{any_of}
 use Rattle.slot_check.proofs.QuickLaws.{none_of}
@@ -44,7 +44,7 @@ pub run_alike : (marks : List ℕ) (m n : ℕ) → m < 2 → 1 < n → n ≡ min
     → run_length RUN marks ≡ (if m % 2 =? byte_at marks (n - 1) % 2 then n else n - 1)
 run_alike marks m n h p e f =
     run_same marks m (n - 1) h (omega arith) (omega (arith, e)) (omega (arith, e)) f
-    ∙ byTest (m % 2 =? byte_at marks (n - 1) % 2)
+    ∙ by_test (m % 2 =? byte_at marks (n - 1) % 2)
     (λ t. run_joins marks (n - 1) (omega arith) (omega (arith, e)) (omega (arith, e)) (last ∙ t) ∙ all ∙ simp t)
     (λ t. run_stops marks (n - 1) (omega arith) (omega (arith, e)) (omega (arith, e)) (last ∙ t) ∙ simp t)
   where

@@ -1,6 +1,6 @@
 -- The code's forms: ends doubled, whether two bytes go into one record, and how many are known to.
-use Rattle.std.specs.Prelude.{ℕ, ◌+◌, ◌-◌, ◌*◌, ◌%◌, Bool, false, not, List, drop}
-use Rattle.wire.specs.Test.{if◌then◌else◌, ◌=?◌}
+use Rattle.std.specs.Prelude.{ℕ, ◌+◌, ◌-◌, ◌*◌, ◌%◌, Bool, false, not, List, drop, if◌then◌else◌}
+use Rattle.wire.specs.Test.{◌=?◌}
 use Rattle.wire.specs.Buffer.{byte_at}
 use Rattle.queue_slot.specs.declared.Ends.{Ends}
 use Rattle.queue_slot.specs.Atoms.{RUN}

@@ -1,11 +1,11 @@
 -- The quick test of what waits tells what its part of row 9 tells: both say the same record of facts.
 use Prim.Native.Nat.{ℕ, zero, suc, ◌+◌, ◌-◌, ◌≤◌, ◌<◌}
-use Rattle.std.specs.Prelude.{◌≡◌, Bool, true, false, not, ◌||◌, List, get_or, leb, ltb, eqb}
+use Rattle.std.specs.Prelude.{◌≡◌, Bool, true, false, not, ◌||◌, List, get_or, leb, ltb, eqb, if◌then◌else◌}
 use Rattle.std.proofs.Math.Path.{refl}
 use Rattle.std.proofs.Common.{sym, ap, ◌∙◌, arith}
 use Rattle.std.specs.Int.Bits.{bit_and}
 use borrow.Author.Tests.{leb-true, leb-false, le-leb, ltb-true, ltb-false, le-ltb, eqb-true, eqb-false, ne_eqb, not-true}
-use Rattle.wire.specs.Test.{if◌then◌else◌, byTest}
+use Rattle.wire.specs.Test.{by_test}
 use Rattle.slot_word.specs.Word.{taken}
 use Rattle.slot_word.proofs.WordLaws.{taken_out}
 use Rattle.slot_word.proofs.WordOps.{taken_or, within, apart}
@@ -68,7 +68,7 @@ module _ (waits : List ℕ) (occupied : ℕ) where
       → wait_fits waits occupied i ≡ true
   unfolding wait_fits
   one_fits i count home =
-      byTest (taken i occupied)
+      by_test (taken i occupied)
       (λ t. simp (le-leb (count_at waits i) ROOM count, t))
       (λ t. simp (le-leb (count_at waits i) ROOM count, t, home t))
 
@@ -97,7 +97,7 @@ module _ (waits : List ℕ) (occupied : ℕ) where
   fit_all zero i e k a b = absurd (omega arith)
   fit_all (suc n) i e k a b =
       let p = and_true (wait_fits waits occupied i) (waits_fit n waits occupied (i + 1)) e in
-      byTest (eqb i k)
+      by_test (eqb i k)
       (λ t. rw (← eqb-true i k t) p.0)
       (λ t. let d = eqb-false i k t in fit_all n (i + 1) p.1 k (omega arith) (omega arith))
 
@@ -105,9 +105,9 @@ module _ (waits : List ℕ) (occupied : ℕ) where
   row : (b : Bool) → (b ≡ true → Fit waits occupied) → (Fit waits occupied → b ≡ true)
       → b ≡ waits_fit SLOTS waits occupied 0
   row b says holds =
-      byTest (waits_fit SLOTS waits occupied 0)
+      by_test (waits_fit SLOTS waits occupied 0)
       (λ t. holds (fit t) ∙ sym t)
-      (λ t. byTest b
+      (λ t. by_test b
       (λ u. let f = fits (says u) in let z : ◌≡◌ {A = ℕ} 0 1 = cc (t, f) in absurd (omega arith))
       (λ u. u ∙ sym t))
     where
@@ -161,7 +161,7 @@ module _ (waits : List ℕ) (occupied : ℕ) where
       where
         count : (i : ℕ) → i < SLOTS → count_at waits i ≤ ROOM
         count i h =
-            byTest (ltb i n)
+            by_test (ltb i n)
             (λ t.
             let short = none_of n (is_long waits) 0 e i (omega arith) (omega (arith, ltb-true i n t)) in
             count_short waits i (leb-false ROOM (get_or waits i 0) short))

@@ -2,7 +2,7 @@
 use Rattle.std.specs.Prelude.{ℕ, suc, ◌+◌, ◌-◌, ◌≤◌, ◌<◌, ◌≡◌, refl, Bool, true, false, List, get_or}
 use Rattle.std.proofs.Common.{◌∙◌, arith, lt-ltb, le-ltb}
 use Rattle.std.proofs.Math.Option.{none, some}
-use Rattle.wire.specs.Test.{byTest}
+use Rattle.wire.specs.Test.{by_test}
 use Rattle.connection.specs.Sizes.{SLOTS}
 use Rattle.machine_queue.specs.Pump.{slot_after, next_waiting}
 use Rattle.machine_queue.proofs.Pumping.{after_below}
@@ -33,7 +33,7 @@ count_none waits i t = simp t
 -- where a slot's number is below ROOM, at most ROOM data bytes wait there
 pub count_short : (waits : List ℕ) (i : ℕ) → get_or waits i 0 < ROOM → count_at waits i ≤ ROOM
 count_short waits i h =
-    byTest (bit_at waits HOLDING i)
+    by_test (bit_at waits HOLDING i)
     (λ t. omega (arith, count_some waits i (get_or waits i 0 + 1) t refl))
     (λ t. omega (arith, count_none waits i t))
 

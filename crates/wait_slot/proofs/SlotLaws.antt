@@ -1,7 +1,7 @@
 -- What waits in slot i, as the code puts it back.
-use Rattle.std.specs.Prelude.{◌≡◌, refl, ℕ, ◌+◌, ◌≤◌, ◌<◌, Bool, true, false, List, [], length}
+use Rattle.std.specs.Prelude.{◌≡◌, refl, ℕ, ◌+◌, ◌≤◌, ◌<◌, Bool, true, false, List, [], length, if◌then◌else◌}
 use Rattle.std.proofs.Common.{sym, ap, ◌∙◌, length-set, leb-true}
-use Rattle.wire.specs.Test.{if◌then◌else◌, ◌=?◌, byTest}
+use Rattle.wire.specs.Test.{◌=?◌, by_test}
 use Rattle.connection.specs.declared.answer.Output.{Output}
 use Rattle.connection.specs.declared.request.RequestState.{RequestState}
 use Rattle.connection.specs.RequestCalls.{owes_out, owes_err}
@@ -39,16 +39,16 @@ room_for memory waits marks queue i content h = leb-true (count_at waits i + len
 -- an end changes no count and no byte
 end_count : (w : Wait) (o : Output) → (wait_end w o).count ≡ w.count
 unfolding wait_end
-end_count w o = byTest (w.count =? 0) (λ t. simp t) (λ t. simp t)
+end_count w o = by_test (w.count =? 0) (λ t. simp t) (λ t. simp t)
 
 pub end_bytes_lem : (w : Wait) (o : Output) → (wait_end w o).bytes ≡ w.bytes
 unfolding wait_end
-end_bytes_lem w o = byTest (w.count =? 0) (λ t. simp t) (λ t. simp t)
+end_bytes_lem w o = by_test (w.count =? 0) (λ t. simp t) (λ t. simp t)
 
 -- there are as many marks as before
 end_marks : (w : Wait) (o : Output) → length (wait_end w o).marks ≡ length w.marks
 unfolding wait_end
-end_marks w o = byTest (w.count =? 0) (λ t. simp t) (λ t. simp (t, length-set))
+end_marks w o = by_test (w.count =? 0) (λ t. simp t) (λ t. simp (t, length-set))
 
 -- ---- the ends that a finish owes
 -- the end of a stream, where it is owed

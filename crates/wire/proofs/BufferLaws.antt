@@ -4,7 +4,7 @@ use Rattle.std.proofs.Common.{sym, ap, ap₂, ◌∙◌, arith, add_assoc, add-z
 use Rattle.std.proofs.Math.Seq.{paste, paste-suc, drop-length, take-length}
 use Rattle.std.proofs.lemmas.Bool.{lt-leb}
 use borrow.Rule.Slice.PartMut.{put_mid}
-use Rattle.wire.specs.Test.{byTest}
+use Rattle.wire.specs.Test.{by_test}
 use Rattle.wire.specs.Buffer.{put_at, copied, zeros}
 
 -- a buffer keeps its length
@@ -57,7 +57,7 @@ zeroed l i e h = e ∙ rw (h, drop-length l) (append-nil (zeros (length l)))
 
 -- room after a place, tested without a sum that could overflow
 pub room_left : (at n room : ℕ) → at ≤ room → leb n (room - at) ≡ leb (at + n) room
-room_left at n room h = byTest (leb n (room - at)) fits not_fits
+room_left at n room h = by_test (leb n (room - at)) fits not_fits
   where
     fits : leb n (room - at) ≡ true → leb n (room - at) ≡ leb (at + n) room
     fits t = t ∙ sym (le-leb (at + n) room (omega (arith, leb-true n (room - at) t)))

@@ -1,8 +1,8 @@
 -- What holds of names compared.
-use Rattle.std.specs.Prelude.{◌≡◌, refl, ℕ, suc, ◌+◌, ◌<◌, ◌≤◌, true, false, List, [], ◌∷◌, length, drop}
+use Rattle.std.specs.Prelude.{◌≡◌, refl, ℕ, suc, ◌+◌, ◌<◌, ◌≤◌, true, false, List, [], ◌∷◌, length, drop, if◌then◌else◌}
 use Rattle.std.proofs.Common.{ap, ap₂, arith, add-one, zero-add, add-zero, drop_of_length-le, drop-cons, eqb-true, eq-eqb, ne_eqb}
 use Rattle.wire.specs.declared.Compared.{Compared}
-use Rattle.wire.specs.Test.{if◌then◌else◌, ◌=?◌, byTest}
+use Rattle.wire.specs.Test.{◌=?◌, by_test}
 use Rattle.wire.specs.Buffer.{byte_at}
 use Rattle.wire.specs.Compare.{same_bytes, places_up_to, compared}
 
@@ -13,7 +13,7 @@ same_is [] [] h = refl
 same_is [] (y ∷ ys) h = let z : ◌≡◌ {A = ℕ} 0 1 = cc in absurd (omega arith)
 same_is (x ∷ xs) [] h = let z : ◌≡◌ {A = ℕ} 0 1 = cc in absurd (omega arith)
 same_is (x ∷ xs) (y ∷ ys) h =
-    byTest (x =? y)
+    by_test (x =? y)
     (λ t. ap₂ (λ (b : ℕ) (l : List ℕ). b ∷ l) (eqb-true x y t) (same_is xs ys (simp t at h)))
     (λ t. let z : ◌≡◌ {A = ℕ} 0 1 = cc (simp t at h) in absurd (omega arith))
 
@@ -29,7 +29,7 @@ unfolding same_bytes
 same_long [] [] h = absurd (h refl)
 same_long [] (y ∷ ys) h = refl
 same_long (x ∷ xs) [] h = refl
-same_long (x ∷ xs) (y ∷ ys) h = byTest (x =? y) (λ t. simp t (same_long xs ys (λ e. h (ap suc e)))) (λ t. simp t)
+same_long (x ∷ xs) (y ∷ ys) h = by_test (x =? y) (λ t. simp t (same_long xs ys (λ e. h (ap suc e)))) (λ t. simp t)
 
 -- a turn of the comparison from place i on
 pub same_step : (a b : List ℕ) (i : ℕ) → i < length a → i < length b
@@ -85,7 +85,7 @@ unfolding same_bytes places_up_to
 all_places [] b h = refl
 all_places (x ∷ xs) [] h = let z : ◌≡◌ {A = ℕ} 0 1 = cc in absurd (omega arith)
 all_places (x ∷ xs) (y ∷ ys) h =
-    byTest (x =? y)
+    by_test (x =? y)
     (λ t. simp t (ap suc (all_places xs ys (simp t at h))))
     (λ t. let z : ◌≡◌ {A = ℕ} 0 1 = cc (simp t at h) in absurd (omega arith))
 

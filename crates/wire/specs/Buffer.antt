@@ -1,6 +1,6 @@
 -- Bytes put into a lent buffer.
-use Rattle.std.specs.Prelude.{ℕ, ◌+◌, Bool, List, ◌++◌, length, take, drop, get_or, replicate}
-use Rattle.wire.specs.Test.{if◌then◌else◌, ◌≤?◌}
+use Rattle.std.specs.Prelude.{ℕ, ◌+◌, Bool, List, ◌++◌, length, take, drop, get_or, replicate, if◌then◌else◌}
+use Rattle.wire.specs.Test.{◌≤?◌}
 
 -- the byte at a place, counted from 0
 abbrev pub byte_at : List ℕ → ℕ → ℕ

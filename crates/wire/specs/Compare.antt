@@ -1,6 +1,6 @@
 -- Two names are the same where they have the same length and the same bytes.
-use Rattle.std.specs.Prelude.{ℕ, suc, Bool, true, false, List, [], ◌∷◌, length}
-use Rattle.wire.specs.Test.{if◌then◌else◌, ◌=?◌}
+use Rattle.std.specs.Prelude.{ℕ, suc, Bool, true, false, List, [], ◌∷◌, length, if◌then◌else◌}
+use Rattle.wire.specs.Test.{◌=?◌}
 use Rattle.wire.specs.declared.Compared.{Compared}
 
 unfoldable pub same_bytes : List ℕ → List ℕ → Bool

@@ -18,7 +18,7 @@ use Rattle.connection.specs.Step.{Stepped, open_with, on_phase, leaves, advances
 use Rattle.connection.specs.Decision.{open_state}
 use Rattle.connection.proofs.Laws.ShapeLaws.{shaped}
 use Rattle.conn_step.proofs.Laws.{used_fits}
-use Rattle.slot_table.proofs.Laws.{mapped-length}
+use Rattle.slot_table.proofs.Laws.{mapped_length}
 use borrow.Author.Rules.{rules}
 use Rattle.conn_step.proofs.go_on.Statement.{statement}
 use Rattle.conn_step.proofs.go_on.Tie as tie
@@ -47,7 +47,7 @@ arrays c =
     let own : AllBytes a.f.position.header = λ i. let f : Fits w8 (get_or a.f.position.header i 0) = search rules in f.fits in
     let ids : length a.t.ids ≡ SLOTS = search rules in
     let lengths : length a.t.lengths ≡ SLOTS = search rules in
-    let standings : length a.t.standings ≡ SLOTS = search mapped-length in
+    let standings : length a.t.standings ≡ SLOTS = search mapped_length in
     let stdin : length a.t.stdin_shown ≡ SLOTS = search rules in
     let «data» : length a.t.data_shown ≡ SLOTS = search rules in
     let header : length a.f.position.header ≡ 8 = search rules in

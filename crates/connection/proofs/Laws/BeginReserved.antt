@@ -2,7 +2,7 @@
 use Rattle.std.specs.Prelude.{ℕ, ◌-◌, ◌%◌, ◌≤◌, ◌<◌, min, ◌≡◌, refl, List, length, take, eqb}
 use Rattle.std.proofs.Common.{sym, ap, ◌∙◌, arith, eqb-true}
 use Rattle.std.proofs.lemmas.Bool.{eqb-false}
-use Rattle.wire.specs.Test.{byTest}
+use Rattle.wire.specs.Test.{by_test}
 use Rattle.wire.specs.Buffer.{byte_at, copied}
 use Rattle.record.specs.Body.{begin_body_of}
 use Rattle.record.specs.declared.body.BeginBody.{BeginBody}
@@ -61,7 +61,7 @@ module _ (st : State) (store : List ℕ) (id : ℕ) (target : st.conn.frame.targ
   pub begin_reserved_bytes : (x y : List ℕ) → st.conn.frame.position.content ≤ length x → length x ≡ length y
       → begin_body_of (body_with st x) ≡ begin_body_of (body_with st y) → stepped st store x ≡ stepped st store y
   begin_reserved_bytes x y enough same_length e =
-      byTest (eqb (step_refusal st.conn store) 0)
+      by_test (eqb (step_refusal st.conn store) 0)
       (λ t.
       let a = eqb-true (step_refusal st.conn store) 0 t in
       by_body st store id target some x enough a

@@ -1,9 +1,9 @@
 -- Which header and which content closes a connection, and by which number and place.
 use Rattle.std.proofs.Math.Path.{◌≡◌}
-use Rattle.std.specs.Prelude.{refl, ℕ, ◌+◌, ◌<◌, Bool, true, false, ◌↔◌, ◌⊎◌, List, [], length, take, ltb, eqb}
+use Rattle.std.specs.Prelude.{refl, ℕ, ◌+◌, ◌<◌, Bool, true, false, ◌↔◌, ◌⊎◌, List, [], length, take, ltb, eqb, if◌then◌else◌}
 use Rattle.std.proofs.Common.{sym, ap, inl, inr, arith}
 use borrow.Author.Tests.{ltb-true, eqb-true, eqb-false, lt-ltb, eq-eqb, ne_eqb}
-use Rattle.wire.specs.Test.{if◌then◌else◌, byTest}
+use Rattle.wire.specs.Test.{by_test}
 use Rattle.wire.specs.Buffer.{copied}
 use Rattle.record.specs.Names.{VERSION, BEGIN_REQUEST, GET_VALUES, RESPONDER, AUTHORIZER, FILTER}
 use Rattle.record.specs.declared.body.BeginBody.{BeginBody}
@@ -18,7 +18,7 @@ use Rattle.connection.specs.declared.state.Target.{Target}
 use Rattle.connection.specs.declared.state.Frame.{Frame}
 use Rattle.connection.specs.Sizes.{SLOTS, QUERY}
 use Rattle.connection.specs.Event.{Event}
-use Rattle.connection.specs.Slots.{held_at, find, onSlot, free_slot_of}
+use Rattle.connection.specs.Slots.{held_at, find, on_slot, free_slot_of}
 use Rattle.connection.specs.Step.{State, Left, closes, query_of, queried, on_management, on_inactive, on_active, judged, opens, begun, of_begin, of_query, of_request, on_target, on_phase, advances, step_refusal, stepped}
 use Rattle.connection.proofs.Laws.Closing.{is_closing, header_goes_on}
 use Rattle.machine.specs.Cause.{Cause, Plain, At}
@@ -75,7 +75,7 @@ module _ (st : State) (store : List ℕ) (h : Header) where
       (λ v. Verdict.Version (eqb-false h.version VERSION v))
     where
       placed : h.version ≡ VERSION → (h.id ≡ 0 → ⊥) → (k : Slot) → find st.conn.table h.id ≡ k
-          → Verdict st h (onSlot k (on_active st store h) (on_inactive st store h)).event
+          → Verdict st h (on_slot k (on_active st store h) (on_inactive st store h)).event
       placed is some (Slot.At i) e = Verdict.Goes _ (header_goes_on h.kind h.content (held_at st.conn.table store i))
       placed is some Slot.Nowhere e =
           choose (eqb h.kind BEGIN_REQUEST) _ _
@@ -148,9 +148,9 @@ query_closes st store bytes p cause = (there, λ f. simp (eq-eqb p.content 0 f.1
   where
     there : (of_query st store bytes p).event ≡ Event.Closed cause → (cause ≡ At 14 (broken_at (asked st bytes))) × (p.content ≡ 0) × (well_formed (asked st bytes) ≡ false)
     there e =
-        byTest (eqb p.content 0)
+        by_test (eqb p.content 0)
         (λ z.
-        byTest (well_formed (asked st bytes))
+        by_test (well_formed (asked st bytes))
         (λ w. let q : ◌≡◌ {A = ℕ} 0 1 = cc (simp (z, w) at e) in absurd (omega arith))
         (λ w. let q : At 14 (broken_at (asked st bytes)) ≡ cause = cc (simp (z, w) at e) in (sym q, eqb-true p.content 0 z, w)))
         (λ z. let q : ◌≡◌ {A = ℕ} 0 1 = cc (simp z at e) in absurd (omega arith))
@@ -159,19 +159,19 @@ query_closes st store bytes p cause = (there, λ f. simp (eq-eqb p.content 0 f.1
 module _ (st : State) (store : List ℕ) (id : ℕ) where
   opens_goes_on : (b : BeginBody) (role : Role) (f : Frame) → is_closing (opens st store id b role f).event ≡ false
   unfolding opens
-  opens_goes_on b role f = byTest (ltb (free_slot_of st.conn.table) SLOTS) (λ t. simp t) (λ t. simp t)
+  opens_goes_on b role f = by_test (ltb (free_slot_of st.conn.table) SLOTS) (λ t. simp t) (λ t. simp t)
 
   begun_goes_on : (b : BeginBody) (f : Frame) → is_closing (begun st store id b f).event ≡ false
   unfolding begun
   begun_goes_on b f =
-      byTest (eqb b.role RESPONDER) (λ t. simp t (opens_goes_on b Role.Responder f))
+      by_test (eqb b.role RESPONDER) (λ t. simp t (opens_goes_on b Role.Responder f))
       (λ t.
-      byTest (eqb b.role AUTHORIZER) (λ q. simp (t, q) (opens_goes_on b Role.Authorizer f))
-      (λ q. byTest (eqb b.role FILTER) (λ r. simp (t, q, r) (opens_goes_on b Role.Filter f)) (λ r. simp (t, q, r))))
+      by_test (eqb b.role AUTHORIZER) (λ q. simp (t, q) (opens_goes_on b Role.Authorizer f))
+      (λ q. by_test (eqb b.role FILTER) (λ r. simp (t, q, r) (opens_goes_on b Role.Filter f)) (λ r. simp (t, q, r))))
 
   begin_goes_on : (bytes : List ℕ) (p : Position) → is_closing (of_begin st store id bytes p).event ≡ false
   unfolding of_begin
-  begin_goes_on bytes p = byTest (eqb p.content 0) (λ t. simp t (begun_goes_on _ _)) (λ t. simp t)
+  begin_goes_on bytes p = by_test (eqb p.content 0) (λ t. simp t (begun_goes_on _ _)) (λ t. simp t)
 
 -- Of content only a query's closes, at its last byte, by 14, with its place.
 pub content_closes : (target : Target) (st : State) (store bytes : List ℕ) (p : Position) (cause : Cause) → (on_target target st store bytes p).event ≡ Event.Closed cause
@@ -203,8 +203,8 @@ pub closing_place : (st : State) (store piece : List ℕ) (cause : Cause) → (s
     (advanced st.conn.frame.position piece).phase
 unfolding stepped advances
 closing_place st store piece cause e =
-    byTest (eqb (step_refusal st.conn store) 0)
+    by_test (eqb (step_refusal st.conn store) 0)
     (λ t.
-    byTest (eqb (length piece) 0) (λ z. let q : ◌≡◌ {A = ℕ} 0 1 = cc (simp (t, z) at e) in absurd (omega arith))
+    by_test (eqb (length piece) 0) (λ z. let q : ◌≡◌ {A = ℕ} 0 1 = cc (simp (t, z) at e) in absurd (omega arith))
     (λ z. phase_closes (advanced st.conn.frame.position piece).phase st store _ _ cause (simp (t, z) at e)))
     (λ t. let q : ◌≡◌ {A = ℕ} 0 1 = cc (simp t at e) in absurd (omega arith))

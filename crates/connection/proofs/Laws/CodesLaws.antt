@@ -1,7 +1,7 @@
 -- Each case of the code's enums has numbers and values of its own: what is read in them can be read back.
-use Rattle.std.specs.Prelude.{ℕ, ◌≡◌, refl}
+use Rattle.std.specs.Prelude.{ℕ, ◌≡◌, refl, if◌then◌else◌}
 use Rattle.std.proofs.Common.{sym, ap, ◌∙◌}
-use Rattle.wire.specs.Test.{if◌then◌else◌, ◌=?◌}
+use Rattle.wire.specs.Test.{◌=?◌}
 use Rattle.machine.specs.Cause.{Cause, Plain, At}
 use Rattle.connection.specs.declared.request.Role.{Role}
 use Rattle.connection.specs.declared.event.Stream.{Stream}

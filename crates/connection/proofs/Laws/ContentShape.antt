@@ -4,7 +4,7 @@ use Rattle.std.proofs.Math.Path.{refl}
 use Rattle.std.proofs.Common.{◌∙◌, arith}
 use Rattle.std.proofs.Math.ListN.{length}
 use borrow.Author.Tests.{leb-true, leb-false, eqb-true}
-use Rattle.wire.specs.Test.{byTest}
+use Rattle.wire.specs.Test.{by_test}
 use Rattle.wire.specs.Buffer.{copied}
 use Rattle.wire.proofs.BufferLaws.{put_length, copied_room, copied_none}
 use Rattle.record.specs.Names.{RESPONDER, AUTHORIZER, FILTER}
@@ -31,7 +31,7 @@ use Rattle.connection.specs.Step.{State, no_body, frame_within, open_with, opens
 -- bytes copied into a buffer keep its length, whether they fit or not
 copied_length : (l : List ℕ) (at : ℕ) (x : List ℕ) → length (copied l at x) ≡ length l
 copied_length l at x =
-    byTest (leb (at + length x) (length l))
+    by_test (leb (at + length x) (length l))
     (λ t. let h : at + length x ≤ length l = leb-true (at + length x) (length l) t in rw (copied_room l at x h) (put_length l at x h))
     (λ t. rw (copied_none l at x (leb-false (at + length x) (length l) t)))
 

@@ -2,7 +2,7 @@
 use Rattle.std.specs.Prelude.{ℕ, ◌+◌, ◌≤◌, ◌≡◌, refl, List, ◌++◌, length, ltb}
 use Rattle.std.proofs.Math.Option.{some}
 use Rattle.std.proofs.Common.{arith, length-append, ltb-true, ltb-false, lt-ltb, le-ltb}
-use Rattle.wire.specs.Test.{byTest}
+use Rattle.wire.specs.Test.{by_test}
 use Rattle.stated_length.specs.Stated.{stated_in}
 use Rattle.stated_length.proofs.Laws.{stated_largest}
 use Rattle.connection.specs.declared.event.Measure.{Measure}
@@ -14,7 +14,7 @@ pub counted_twice : (count a b : ℕ) → counted (counted count a) b ≡ counte
 unfolding counted
 counted_twice count a b =
     let sum : count + a + b ≡ count + (a + b) = omega arith in
-    byTest (ltb (count + a) MOST)
+    by_test (ltb (count + a) MOST)
     (λ t. simp t (rw sum))
     (λ t.
     let low : MOST ≤ count + a = ltb-false (count + a) MOST t in
@@ -24,7 +24,7 @@ counted_twice count a b =
 pub counted_most : (count n : ℕ) → counted count n ≤ MOST
 unfolding counted
 counted_most count n =
-    byTest (ltb (count + n) MOST) (λ t. simp t (omega (arith, ltb-true (count + n) MOST t))) (λ t. simp t (omega arith))
+    by_test (ltb (count + n) MOST) (λ t. simp t (omega (arith, ltb-true (count + n) MOST t))) (λ t. simp t (omega arith))
 
 more_twice : (due : Due) (a b : ℕ) (c : Shown) → shown_more due b (shown_more due a c) ≡ shown_more due (a + b) c
 more_twice Due.Skip a b c = refl

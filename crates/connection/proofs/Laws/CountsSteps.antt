@@ -2,7 +2,7 @@
 use Rattle.std.specs.Prelude.{◌≡◌, refl, List, [], ◌∷◌, ◌++◌, map, Bool, true, ℕ, suc, ◌+◌, ◌<◌, min, length, take, eqb, leb}
 use Rattle.std.proofs.Common.{ap, ap₂, sym, ◌∙◌, subst, arith, take_all, length-take-le, eqb-true, eq-eqb, ne_eqb}
 use Rattle.std.proofs.lemmas.Bool.{eqb-false}
-use Rattle.wire.specs.Test.{byTest}
+use Rattle.wire.specs.Test.{by_test}
 use Rattle.record.specs.Names.{STDIN, DATA}
 use Rattle.record_reader.specs.declared.Position.{Position}
 use Rattle.connection.specs.declared.request.Request.{Request}
@@ -148,7 +148,7 @@ content_counts : (R : ℕ) (due : Due) (bytes x : List ℕ) (h : Held) → (on_c
 unfolding grown shown_in
 content_counts R Due.Skip bytes x h e some = record { id = refl; own = λ e. refl; other = λ e c. refl }
 content_counts R Due.Params bytes x h e some =
-    byTest (leb (h.request.length + length bytes) AREA)
+    by_test (leb (h.request.length + length bytes) AREA)
     (λ t. simp t (record { id = refl; own = λ e. refl; other = λ e c. refl }))
     (λ t. simp t (record { id = refl; own = λ e. refl; other = λ e c. refl }))
 content_counts R Due.Stdin bytes x h e some = stream_counts R Due.Stdin STDIN bytes x h (stdin_grows R x some) (cc)
@@ -168,7 +168,7 @@ pub put_counts : (R : ℕ) (c d : Shown) (t : Table) (j : ℕ) (r : Request) →
     → (find t R ≡ Slot.At j → r.state.shown ≡ d) → ((find t R ≡ Slot.At j → ⊥) → c ≡ d) → CountsIn R d (put_request t j r)
 put_counts R c d t j r sized counts id own other i f =
     let found : find t R ≡ Slot.At i = sym (find_put t j r R id) ∙ f in
-    byTest (eqb i j)
+    by_test (eqb i j)
     (λ e.
     let q : i ≡ j = eqb-true i j e in
     subst (λ k. (request_at (put_request t k r) i).state.shown ≡ d) q
@@ -182,7 +182,7 @@ take_counts : (R : ℕ) (c : Shown) (t : Table) (id : ℕ) (role : Role) (keep :
     → CountsIn R (shown_after R c (heard_of (Event.Open id (role_number role) keep) x)) (take_slot t (free_slot_of t) (opened id role keep))
 unfolding opened shown_in request_at
 take_counts R c t id role keep x sized distinct low idle counts i f =
-    byTest (eqb i k) (λ e. taken_now (eqb-true i k e)) (λ e. taken_before (eqb-false i k e))
+    by_test (eqb i k) (λ e. taken_now (eqb-true i k e)) (λ e. taken_before (eqb-false i k e))
   where
     k : ℕ
     k = free_slot_of t

@@ -7,7 +7,7 @@ use mathlib.Core.List.{List, [], ◌∷◌, ◌++◌, append-nil, append_assoc}
 use native.Mathlib.Omega.{arith}
 use Rattle.std.proofs.Math.ListN.{length}
 use Rattle.std.proofs.lemmas.Bool.{eqb-false}
-use Rattle.wire.specs.Test.{byTest}
+use Rattle.wire.specs.Test.{by_test}
 use Rattle.wire.specs.Buffer.{put_at}
 use Rattle.wire.proofs.BufferLaws.{put_put}
 use Rattle.record.specs.Header.{header_of}
@@ -172,7 +172,7 @@ cut_step st store b x sizes a some all = by_position st.conn.frame.position cont
 -- a step that used something was not refused
 pub used_admitted : (st : State) (store x : List ℕ) → 0 < (stepped st store x).used → step_refusal st.conn store ≡ 0
 used_admitted st store x some =
-    byTest (eqb (step_refusal st.conn store) 0) (λ t. eqb-true (step_refusal st.conn store) 0 t)
+    by_test (eqb (step_refusal st.conn store) 0) (λ t. eqb-true (step_refusal st.conn store) 0 t)
     (λ t.
     let r = ap (λ (s : Stepped). s.used) (step_refused st store x (eqb-false (step_refusal st.conn store) 0 t)) in
     absurd (omega arith))
@@ -246,7 +246,7 @@ cutting zero st store [] sizes l = refl
 cutting zero st store (b ∷ x) sizes l = absurd (omega arith)
 cutting (suc k) st store x sizes l =
     let s = stepped st store x in
-    byTest (eqb (step_refusal st.conn store) 0)
+    by_test (eqb (step_refusal st.conn store) 0)
     (λ t.
     ap (noted (notes s.event (take s.used x))) (cutting k s.state s.store (drop s.used x) (sizes_stay st store x sizes)
     (less_left st store x k (eqb-true (step_refusal st.conn store) 0 t) l))

@@ -3,7 +3,7 @@
 use Rattle.std.specs.Prelude.{ℕ, zero, suc, ◌≤◌, ◌≡◌, refl, List, [], ◌∷◌, ◌++◌, length, take, drop, eqb}
 use Rattle.std.proofs.Common.{sym, ap, ap₂, ◌∙◌, arith, take-append-drop, length-take-le, eqb-true, eq-eqb, ne_eqb}
 use Rattle.std.proofs.lemmas.Bool.{eqb-false}
-use Rattle.wire.specs.Test.{byTest}
+use Rattle.wire.specs.Test.{by_test}
 use Rattle.connection.specs.Step.{State, Stepped, step_refusal, stepped}
 use Rattle.connection.specs.Bytewise.{left_of, unread}
 use Rattle.connection.proofs.Laws.Progress.{step_refused, step_nothing, step_uses_no_more, used_only, less_left}
@@ -50,7 +50,7 @@ left_by_byte (suc k) st store x sizes l =
     let s = stepped st store x in
     let y = take s.used x in
     let e = used_only st store x in
-    byTest (eqb (step_refusal st.conn store) 0)
+    by_test (eqb (step_refusal st.conn store) 0)
     (λ t.
     left_by_byte k s.state s.store (drop s.used x) (sizes_stay st store x sizes) (less_left st store x k (eqb-true (step_refusal st.conn store) 0 t) l)
     ∙ sym

@@ -2,7 +2,7 @@
 use Rattle.std.specs.Prelude.{◌≡◌, refl, ℕ, ◌<◌, true, false, List, length, eqb}
 use Rattle.std.proofs.Common.{sym, ap, ◌∙◌, arith}
 use Rattle.std.proofs.lemmas.List.{length-replicate}
-use Rattle.wire.specs.Test.{byTest}
+use Rattle.wire.specs.Test.{by_test}
 use Rattle.wire.specs.Buffer.{zeros}
 use Rattle.slot_word.specs.Word.{taken}
 use Rattle.record.specs.declared.header.Header.{Header}
@@ -119,7 +119,7 @@ only_rules st store h i used sized full found r is skip fits q a same_request sa
       area = area_of_put store i r.held.area full low fits ∙ same_area;
       occupied = put_occupied st.conn.table i r.held.request;
       others = untouched_put st store i full low r.held fits _ _ used;
-      rest = rw skip (byTest (eqb h.content 0) (λ t. simp t) (λ t. simp t));
+      rest = rw skip (by_test (eqb h.content 0) (λ t. simp t) (λ t. simp t));
     })
 
 fault_rule : (kind m : ℕ) (h : Held) (id : ℕ) (cause : Cause) → (on_header kind m h).event ≡ Event.Fault id cause

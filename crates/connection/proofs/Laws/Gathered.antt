@@ -1,11 +1,11 @@
 -- Gathered bytes past the count never matter: what a step answers does not depend on them.
-use Rattle.std.specs.Prelude.{◌≡◌, Bool, true, false, length, take, drop, ltb, eqb}
+use Rattle.std.specs.Prelude.{◌≡◌, Bool, true, false, length, take, drop, ltb, eqb, if◌then◌else◌}
 use Rattle.std.proofs.Math.Path.{refl}
 use Rattle.std.proofs.Common.{sym, ap, ◌∙◌, arith, length-append, take_at, eqb-true}
 use Prim.Native.Nat.{ℕ, ◌+◌, ◌≤◌, min}
 use mathlib.Core.List.{List, [], ◌++◌}
 use Rattle.std.proofs.Math.Seq.{length-take-le}
-use Rattle.wire.specs.Test.{if◌then◌else◌, byTest}
+use Rattle.wire.specs.Test.{by_test}
 use Rattle.wire.specs.Buffer.{copied}
 use Rattle.wire.proofs.BufferLaws.{copied_room}
 use Rattle.record.specs.Names.{VERSION, BEGIN_REQUEST, GET_VALUES, RESPONDER, AUTHORIZER, FILTER}
@@ -24,7 +24,7 @@ use Rattle.connection.specs.declared.state.Frame.{Frame}
 use Rattle.connection.specs.declared.state.Conn.{Conn}
 use Rattle.connection.specs.Sizes.{SLOTS, QUERY}
 use Rattle.connection.specs.Event.{Event}
-use Rattle.connection.specs.Slots.{free_slot_of, find, onSlot}
+use Rattle.connection.specs.Slots.{free_slot_of, find, on_slot}
 use Rattle.connection.specs.Fits.{Aimed}
 use Rattle.connection.proofs.Laws.ShapeLaws.{shaped}
 use Rattle.connection.proofs.Laws.PieceLaws.{by_step}
@@ -67,7 +67,7 @@ alike_none target g g' = alike_up_to target 0 g g' refl
 
 -- a target that is forgotten counts none
 alike_if : (left : ℕ) (target : Target) (n : ℕ) (g g' : List ℕ) → Alike (count_for target n) g g' → Alike (count_for (target_if left target) n) g g'
-alike_if left target n g g' a = byTest (eqb left 0) (λ t. simp t) (λ t. simp t a)
+alike_if left target n g g' a = by_test (eqb left 0) (λ t. simp t) (λ t. simp t a)
 
 -- a query's list is what was gathered, and the bytes after it
 put_count_lem : (g : List ℕ) (n : ℕ) (x : List ℕ) → n + length x ≤ length g → take (n + length x) (copied g n x) ≡ take n g ++ x
@@ -126,7 +126,7 @@ module _ (c : Conn) (g g' store : List ℕ) where
   inactive_agree h =
       both (eqb h.kind BEGIN_REQUEST) (both (eqb h.content 8) (behind_agree h (Target.Begin h.id) Event.None) (closes_agree (Plain 12))) (behind_agree h Target.Skip Event.None)
 
-  placed_agree : (h : Header) (k : Slot) → Agree g g' (onSlot k (on_active one store h) (on_inactive one store h)) (onSlot k (on_active two store h) (on_inactive two store h))
+  placed_agree : (h : Header) (k : Slot) → Agree g g' (on_slot k (on_active one store h) (on_inactive one store h)) (on_slot k (on_active two store h) (on_inactive two store h))
   unfolding on_active
   placed_agree h (Slot.At i) =
       record { conn = refl; store = refl; event = refl; alike = alike_none (target_if h.content _) g g'; long = refl; long' = refl }
@@ -220,8 +220,8 @@ module _ (c : Conn) (g g' store : List ℕ) (room : Roomy c g) (room' : Roomy c 
   step_agree : (piece : List ℕ) → Same g g' (stepped (record { conn = c; gathered = g }) store piece) (stepped (record { conn = c; gathered = g' }) store piece)
   unfolding stepped advances
   step_agree piece =
-      byTest (eqb (step_refusal c store) 0)
-      (λ t. byTest (eqb (length piece) 0) (λ z. simp (t, z) (still 0))
+      by_test (eqb (step_refusal c store) 0)
+      (λ t. by_test (eqb (length piece) 0) (λ z. simp (t, z) (still 0))
       (λ z.
       let s = shaped c (admitted_fits c store (eqb-true (step_refusal c store) 0 t)).shape in
       let p = c.frame.position in

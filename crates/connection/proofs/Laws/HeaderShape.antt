@@ -12,7 +12,7 @@ use Rattle.connection.specs.declared.state.Slot.{Slot}
 use Rattle.connection.specs.declared.state.Target.{Target}
 use Rattle.connection.specs.Sizes.{AREA, QUERY}
 use Rattle.connection.specs.Request.{on_header}
-use Rattle.connection.specs.Slots.{request_at, held_at, put_request, find, onSlot}
+use Rattle.connection.specs.Slots.{request_at, held_at, put_request, find, on_slot}
 use Rattle.connection.proofs.Laws.SlotsLaws.{find_at}
 use Rattle.connection.specs.Fits.{InUse, Aimed}
 use Rattle.connection.proofs.Laws.TableShape.{length_of, use_put, length_put}
@@ -85,6 +85,6 @@ module _ (st : State) (store : List ℕ) (before : Good st.conn) (h : Header) (f
       (λ b. go (eqb-false h.id 0 b) (find st.conn.table h.id) refl))
       (λ a. good_closes st store (Plain 11))
     where
-      go : (h.id ≡ 0 → ⊥) → (s : Slot) → find st.conn.table h.id ≡ s → Good (onSlot s (on_active st store h) (on_inactive st store h)).conn
+      go : (h.id ≡ 0 → ⊥) → (s : Slot) → find st.conn.table h.id ≡ s → Good (on_slot s (on_active st store h) (on_inactive st store h)).conn
       go some (Slot.At i) e = good_active i e
       go some Slot.Nowhere e = good_inactive some e

@@ -2,7 +2,7 @@
 use Rattle.std.specs.Prelude.{◌≡◌, ℕ, ◌+◌, ◌-◌, ◌≤◌, ◌<◌, min, List, length, ltb}
 use Rattle.std.proofs.Common.{arith, ltb-true, ltb-false}
 use Rattle.std.proofs.lemmas.Bool.{lt-leb}
-use Rattle.wire.specs.Test.{byTest}
+use Rattle.wire.specs.Test.{by_test}
 use Rattle.wire.proofs.Bytes.{AllBytes}
 use Rattle.record.specs.Header.{header_of}
 use Rattle.record_reader.specs.Position.{after_header, held_and, in_header, advanced}
@@ -31,10 +31,10 @@ pub by_step : (P : Advanced → Type 0) (p : Position) (piece : List ℕ) → p.
     → P (advanced p piece)
 unfolding advanced in_header
 by_step P p piece held content padding part whole =
-    byTest (ltb 0 p.content)
+    by_test (ltb 0 p.content)
     (λ c. simp c (content (ltb-true 0 p.content c)))
-    (λ c. let none : p.content ≡ 0 = omega (arith, ltb-false 0 p.content c) in byTest (ltb 0 p.padding)
+    (λ c. let none : p.content ≡ 0 = omega (arith, ltb-false 0 p.content c) in by_test (ltb 0 p.padding)
     (λ d. simp (c, d) (padding none (ltb-true 0 p.padding d)))
-    (λ d. let n = min (8 - p.held) (length piece) in byTest (ltb (p.held + n) 8)
+    (λ d. let n = min (8 - p.held) (length piece) in by_test (ltb (p.held + n) 8)
     (λ e. simp (c, d, lt-leb 8 p.held (omega arith), e) (part none n (omega arith) (ltb-true (p.held + n) 8 e)))
     (λ e. simp (c, d, lt-leb 8 p.held (omega arith), e) (whole none n (omega arith) (omega (arith, ltb-false (p.held + n) 8 e))))))

@@ -3,7 +3,7 @@ use Rattle.std.specs.Prelude.{ℕ, zero, suc, ◌+◌, ◌-◌, ◌≤◌, ◌<�
 use Rattle.std.proofs.Common.{sym, ap, ◌∙◌, arith, length-drop, take-take, take_all, length-take-le, lt-ltb, le-ltb, le-leb, ltb-true, ltb-false, eqb-true, eq-eqb, ne_eqb}
 use Rattle.std.proofs.Math.Seq.{take-nil}
 use Rattle.std.proofs.lemmas.Bool.{lt-leb, eqb-false}
-use Rattle.wire.specs.Test.{byTest}
+use Rattle.wire.specs.Test.{by_test}
 use Rattle.wire.specs.Buffer.{put_at}
 use Rattle.record_reader.specs.Position.{held_and, after_header, in_header, advanced}
 use Rattle.record_reader.proofs.PositionLaws.{at}
@@ -33,11 +33,11 @@ fits_admitted c store f = simp (eq-eqb (length store) STORE f.size, f.shape, f.i
 pub admitted_fits : (c : Conn) (store : List ℕ) → step_refusal c store ≡ 0 → Fits c store
 unfolding step_refusal
 admitted_fits c store e =
-    byTest (eqb (length store) STORE)
+    by_test (eqb (length store) STORE)
     (λ s.
-    byTest (in_shape c)
+    by_test (in_shape c)
     (λ i.
-    byTest c.«open»
+    by_test c.«open»
     (λ o. record { size = eqb-true (length store) STORE s; shape = i; is_open = o })
     (λ o. let z : ◌≡◌ {A = ℕ} 1 0 = simp (s, i, o) at e in absurd (omega arith)))
     (λ i. let z : ◌≡◌ {A = ℕ} 9 0 = simp (s, i) at e in absurd (omega arith)))
@@ -89,17 +89,17 @@ in_whole k h x l g =
 -- by the phases of a position: content, padding, header
 pub by_position : {P : Type 0} (p : Position) → (0 < p.content → P) → (p.content ≡ 0 → 0 < p.padding → P) → (p.content ≡ 0 → p.padding ≡ 0 → P) → P
 by_position p content padding header =
-    byTest (ltb 0 p.content)
+    by_test (ltb 0 p.content)
     (λ t. content (ltb-true 0 p.content t))
     (λ t.
     let z : p.content ≡ 0 = omega (arith, ltb-false 0 p.content t) in
-    byTest (ltb 0 p.padding) (λ s. padding z (ltb-true 0 p.padding s)) (λ s. header z (omega (arith, ltb-false 0 p.padding s))))
+    by_test (ltb 0 p.padding) (λ s. padding z (ltb-true 0 p.padding s)) (λ s. header z (omega (arith, ltb-false 0 p.padding s))))
 
 -- by the bytes of a header: it holds eight already, they are part of it, they make it whole
 pub by_header : {P : Type 0} (k : ℕ) (x : List ℕ) → (8 ≤ k → P) → (k + length x < 8 → P) → (k < 8 → 8 ≤ k + length x → P) → P
 by_header k x over part whole =
-    byTest (ltb k 8)
-    (λ t. byTest (ltb (k + length x) 8) (λ s. part (ltb-true (k + length x) 8 s)) (λ s. whole (ltb-true k 8 t) (ltb-false (k + length x) 8 s)))
+    by_test (ltb k 8)
+    (λ t. by_test (ltb (k + length x) 8) (λ s. part (ltb-true (k + length x) 8 s)) (λ s. whole (ltb-true k 8 t) (ltb-false (k + length x) 8 s)))
     (λ t. over (ltb-false k 8 t))
 
 -- eight held already, which no reading makes
@@ -161,7 +161,7 @@ step_refused st store x r = simp (ne_eqb (step_refusal st.conn store) 0 r)
 pub step_nothing : (st : State) (store : List ℕ) → stepped st store [] ≡ stays (step_refusal st.conn store) st store
 unfolding stepped
 step_nothing st store =
-    byTest (eqb (step_refusal st.conn store) 0)
+    by_test (eqb (step_refusal st.conn store) 0)
     (λ t. simp t (ap (λ (n : ℕ). stays n st store) (sym (eqb-true (step_refusal st.conn store) 0 t))))
     (λ t. simp t)
 
@@ -186,7 +186,7 @@ pub step_uses_no_more : (st : State) (store x : List ℕ) → (stepped st store 
 unfolding advances
 step_uses_no_more st store [] = rw (step_nothing st store) (omega arith)
 step_uses_no_more st store (b ∷ x) =
-    byTest (eqb (step_refusal st.conn store) 0)
+    by_test (eqb (step_refusal st.conn store) 0)
     (λ t. rw (step_advances st store (b ∷ x) (eqb-true (step_refusal st.conn store) 0 t) (omega arith)) (uses_no_more st.conn.frame.position (b ∷ x)))
     (λ t. rw (step_refused st store (b ∷ x) (eqb-false (step_refusal st.conn store) 0 t)) (omega arith))
 
@@ -195,7 +195,7 @@ pub used_only : (st : State) (store x : List ℕ) → stepped st store (take (st
 unfolding advances
 used_only st store [] = ap (stepped st store) (take-nil (stepped st store []).used)
 used_only st store (b ∷ x) =
-    byTest (eqb (step_refusal st.conn store) 0) admitted
+    by_test (eqb (step_refusal st.conn store) 0) admitted
     (λ t.
     let r = eqb-false (step_refusal st.conn store) 0 t in
     step_refused st store (take (stepped st store (b ∷ x)).used (b ∷ x)) r ∙ sym (step_refused st store (b ∷ x) r))
@@ -219,7 +219,7 @@ pub less_left : (st : State) (store x : List ℕ) (k : ℕ) → step_refusal st.
 less_left st store x k a l =
     let f = admitted_fits st.conn store a in
     let d = length-drop (stepped st store x).used x in
-    byTest (eqb (length x) 0) (λ z. omega (arith, eqb-true (length x) 0 z))
+    by_test (eqb (length x) 0) (λ z. omega (arith, eqb-true (length x) 0 z))
     (λ z. omega (arith, step_uses_some st store x f.shape f.is_open f.size (omega (arith, eqb-false (length x) 0 z))))
 
 -- ---- steps, one after the other
@@ -246,14 +246,14 @@ few_steps zero st store x = omega arith
 few_steps (suc k) st store x =
     let s = stepped st store x in
     let ih = few_steps k s.state s.store (drop s.used x) in
-    byTest (eqb s.used 0) (λ t. simp t (omega arith))
+    by_test (eqb s.used 0) (λ t. simp t (omega arith))
     (λ t. simp t (omega (arith, eqb-false s.used 0 t, length-drop s.used x, step_uses_no_more st store x)))
 
 -- steps that read nothing change nothing
 idle : (k : ℕ) (st : State) (store x : List ℕ) → (stepped st store x).used ≡ 0 → fed k st store x ≡ resting st store
 idle k st store [] z = fed_nothing k st store
 idle k st store (b ∷ x) z =
-    byTest (eqb (step_refusal st.conn store) 0)
+    by_test (eqb (step_refusal st.conn store) 0)
     (λ t.
     let f = admitted_fits st.conn store (eqb-true (step_refusal st.conn store) 0 t) in
     absurd (omega (arith, step_uses_some st store (b ∷ x) f.shape f.is_open f.size (omega arith))))
@@ -266,7 +266,7 @@ steps_taken zero st store x = refl
 steps_taken (suc k) st store x =
     let s = stepped st store x in
     let ih = steps_taken k s.state s.store (drop s.used x) in
-    byTest (eqb s.used 0) (λ t. simp t (sym (idle (suc k) st store x (eqb-true s.used 0 t))))
+    by_test (eqb s.used 0) (λ t. simp t (sym (idle (suc k) st store x (eqb-true s.used 0 t))))
     (λ t. simp t (ap (λ (w : Run). record { state = w.state; store = w.store; notes = notes s.event (take s.used x) ++ w.notes }) ih))
 
 -- With n steps allowed, n bytes are used up, unless the state comes to refuse (is closed).
@@ -277,7 +277,7 @@ steps_enough zero st store [] l e = refl
 steps_enough zero st store (b ∷ x) l e = absurd (omega arith)
 steps_enough (suc k) st store x l e =
     let s = stepped st store x in
-    byTest (eqb (step_refusal st.conn store) 0)
+    by_test (eqb (step_refusal st.conn store) 0)
     (λ t. steps_enough k s.state s.store (drop s.used x) (less_left st store x k (eqb-true (step_refusal st.conn store) 0 t) l) e)
     (λ t.
     let r = eqb-false (step_refusal st.conn store) 0 t in

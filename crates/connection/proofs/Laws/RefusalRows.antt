@@ -1,11 +1,11 @@
 -- The refusal of every call is that of all its own rows at once, also where the definition tests them one after the
 -- other: the one order governs.
-use Rattle.std.specs.Prelude.{◌≡◌, Bool, not, List, [], ◌∷◌, ℕ, eqb}
+use Rattle.std.specs.Prelude.{◌≡◌, Bool, not, List, [], ◌∷◌, ℕ, eqb, if◌then◌else◌}
 use Rattle.std.proofs.Math.Path.{refl}
 use Rattle.std.proofs.Common.{sym, ◌∙◌, arith, eqb-true}
 use Rattle.std.proofs.Math.Bool.{true, false}
 use Rattle.std.proofs.Math.ListN.{length}
-use Rattle.wire.specs.Test.{if◌then◌else◌, byTest, ◌<?◌, ◌=?◌}
+use Rattle.wire.specs.Test.{by_test, ◌<?◌, ◌=?◌}
 use Rattle.pair_list.specs.List.{first_named, pair_number}
 use Rattle.pair_list.specs.declared.Found.{Found}
 use Rattle.connection.specs.declared.request.Request.{Request}
@@ -16,7 +16,7 @@ use Rattle.connection.specs.Sizes.{SLOTS, STORE}
 use Rattle.connection.specs.Refusal.{Row, ◌when◌, first_in, refusal}
 use Rattle.connection.specs.Request.{list_of}
 use Rattle.connection.specs.RequestCalls as Of
-use Rattle.connection.specs.Slots.{request_at, held_at, find, onSlot, is_found}
+use Rattle.connection.specs.Slots.{request_at, held_at, find, on_slot, is_found}
 use Rattle.connection.specs.Shape.{in_shape}
 use Rattle.connection.specs.Step.{State, advances, step_refusal, stepped, started}
 use Rattle.connection.specs.Calls as C
@@ -66,7 +66,7 @@ call_rows c id rest = shape_row c ∷ closed_row c ∷ active_row c id ∷ rest
 -- A row of the request with that id: a test of its slot. What it says where no request has the id is left open, and
 -- never matters, since row 3 comes first.
 abbrev pub of_slot : Conn → ℕ → (ℕ → Bool) → Bool → Bool
-of_slot c id test absent = onSlot (find c.table id) test absent
+of_slot c id test absent = on_slot (find c.table id) test absent
 
 -- no pair was found
 abbrev pub is_missing : Found → Bool
@@ -135,12 +135,12 @@ module _ {A : Type 0} (number : A → ℕ) (refused_by : ℕ → A) (law : (n : 
       go Slot.Nowhere e = rw e (nested number refused_by law false (not (in_shape c)) (not c.«open») true (rest Slot.Nowhere) (inner SLOTS) (λ q. true_false q))
 
 -- what a request answers itself
-source_inner : (unready : Bool) (f : Found) → source_number (if unready then Of.SourceRefused 4 else Of.onFound f (λ p. Of.FromStore) Of.FromFallback) ≡ refusal ((4 when unready) ∷ [])
+source_inner : (unready : Bool) (f : Found) → source_number (if unready then Of.SourceRefused 4 else Of.on_found f (λ p. Of.FromStore) Of.FromFallback) ≡ refusal ((4 when unready) ∷ [])
 source_inner true f = refl
 source_inner false (Found.At p) = refl
 source_inner false Found.Nothing = refl
 
-pair_inner : (unready : Bool) (f : Found) → pair_refusal (if unready then Of.PairRefused 4 else Of.onFound f Of.PairIs (Of.PairRefused 7)) ≡ refusal ((4 when unready) ∷ (7 when is_missing f) ∷ [])
+pair_inner : (unready : Bool) (f : Found) → pair_refusal (if unready then Of.PairRefused 4 else Of.on_found f Of.PairIs (Of.PairRefused 7)) ≡ refusal ((4 when unready) ∷ (7 when is_missing f) ∷ [])
 pair_inner true f = refl
 pair_inner false (Found.At p) = refl
 pair_inner false Found.Nothing = refl
@@ -151,28 +151,28 @@ walk_inner false l = refl
 
 pub writes_number : (n : ℕ) (bytes : List ℕ) (after r : Request) (buffer : List ℕ) → (Of.writes n bytes after r buffer).refusal ≡ n
 unfolding Of.writes
-writes_number n bytes after r buffer = byTest (eqb n 0) (λ t. simp t (sym (eqb-true n 0 t))) (λ t. simp t)
+writes_number n bytes after r buffer = by_test (eqb n 0) (λ t. simp t (sym (eqb-true n 0 t))) (λ t. simp t)
 
 -- What finish comes to is refused as its writing is.
 pub finishes_number : (c : Conn) (store : List ℕ) (i : ℕ) (keep : Bool) (w : Of.Writing) → (C.finishes c store i keep w).refusal ≡ w.refusal
 unfolding C.finishes
-finishes_number c store i true w = byTest (eqb w.refusal 0) (λ t. simp t (sym (eqb-true w.refusal 0 t))) (λ t. simp t)
-finishes_number c store i false w = byTest (eqb w.refusal 0) (λ t. simp t (sym (eqb-true w.refusal 0 t))) (λ t. simp t)
+finishes_number c store i true w = by_test (eqb w.refusal 0) (λ t. simp t (sym (eqb-true w.refusal 0 t))) (λ t. simp t)
+finishes_number c store i false w = by_test (eqb w.refusal 0) (λ t. simp t (sym (eqb-true w.refusal 0 t))) (λ t. simp t)
 
 -- ---- the calls
 -- Start has row 2 alone.
 pub start_rows : (gathered store : List ℕ) → (started gathered store).refusal ≡ refusal (store_row store ∷ [])
 unfolding started
-start_rows gathered store = byTest (eqb (length store) STORE) (λ t. simp t) (λ t. simp t)
+start_rows gathered store = by_test (eqb (length store) STORE) (λ t. simp t) (λ t. simp t)
 
 -- the refusal of a step is its number
 step_number : (st : State) (store piece : List ℕ) → (stepped st store piece).refusal ≡ step_refusal st.conn store
 unfolding stepped advances
 step_number st store piece =
-    byTest (eqb (step_refusal st.conn store) 0)
+    by_test (eqb (step_refusal st.conn store) 0)
     (λ t.
     let z = sym (eqb-true (step_refusal st.conn store) 0 t) in
-    byTest (eqb (length piece) 0) (λ l. simp (t, l) z) (λ l. simp (t, l) z))
+    by_test (eqb (length piece) 0) (λ l. simp (t, l) z) (λ l. simp (t, l) z))
     (λ t. simp t)
 
 -- A step has the rows 2, 9 and 1.
@@ -183,7 +183,7 @@ step_rows_lem st store piece = step_number st store piece
 -- The active number has the rows 9 and 1.
 pub count_rows_lem : (c : Conn) → (C.active_count c).refusal ≡ refusal (shape_row c ∷ closed_row c ∷ [])
 unfolding C.active_count C.count_refusal
-count_rows_lem c = byTest (in_shape c) (λ s. byTest c.«open» (λ o. simp (s, o)) (λ o. simp (s, o))) (λ s. simp s)
+count_rows_lem c = by_test (in_shape c) (λ s. by_test c.«open» (λ o. simp (s, o)) (λ o. simp (s, o))) (λ s. simp s)
 
 -- What a request is has the rows 9, 1 and 3.
 pub request_rows : (c : Conn) (id : ℕ) → request_refusal (C.request_named c id) ≡ refusal (call_rows c id [])
@@ -197,7 +197,7 @@ module _ (c : Conn) (store : List ℕ) (id : ℕ) (absent : Bool) where
       → source_number (C.source c store id name) ≡ refusal (lent_rows c store id ((4 when of_slot c id (λ i. Of.no_list (request_at c.table i)) absent) ∷ []))
   unfolding C.source Of.source_in
   source_rows name =
-      lent_nested source_number Of.SourceRefused (λ n. refl) c id (λ s. (4 when onSlot s (λ i. Of.no_list (request_at c.table i)) absent) ∷ [])
+      lent_nested source_number Of.SourceRefused (λ n. refl) c id (λ s. (4 when on_slot s (λ i. Of.no_list (request_at c.table i)) absent) ∷ [])
       (λ i. Of.source_in (held_at c.table store i) name)
       (λ i. source_inner (Of.no_list (request_at c.table i)) (first_named (list_of (held_at c.table store i)) name)) store
 
@@ -205,10 +205,10 @@ module _ (c : Conn) (store : List ℕ) (id : ℕ) (absent : Bool) where
   pub value_refused : (name fallback : List ℕ) → (source_number (C.source c store id name) ≡ 0 → ⊥) → C.value c store id name fallback ≡ fallback
   unfolding C.source C.value Of.source_in Of.value_in
   value_refused name fallback r =
-      byTest (eqb (C.lent_refusal c store id) 0)
+      by_test (eqb (C.lent_refusal c store id) 0)
       (λ t.
       let h = held_at c.table store (C.slot_of c id) in
-      byTest (Of.no_list h.request) (λ n. simp (t, n)) (λ n. absurd (r (simp (t, n) (source_inner false (first_named (list_of h) name))))))
+      by_test (Of.no_list h.request) (λ n. simp (t, n)) (λ n. absurd (r (simp (t, n) (source_inner false (first_named (list_of h) name))))))
       (λ t. simp t)
 
   -- Pair by number has the rows 2, 9, 1, 3, 4 and 7.
@@ -223,8 +223,8 @@ module _ (c : Conn) (store : List ℕ) (id : ℕ) (absent : Bool) where
   pair_rows k absent-pair =
       lent_nested pair_refusal Of.PairRefused (λ n. refl) c id
       (λ s.
-      (4 when onSlot s (λ i. Of.no_list (request_at c.table i)) absent)
-      ∷ (7 when onSlot s (λ i. is_missing (pair_number (list_of (held_at c.table store i)) k)) absent-pair)
+      (4 when on_slot s (λ i. Of.no_list (request_at c.table i)) absent)
+      ∷ (7 when on_slot s (λ i. is_missing (pair_number (list_of (held_at c.table store i)) k)) absent-pair)
       ∷ [])
       (λ i. Of.pair_in (held_at c.table store i) k)
       (λ i. pair_inner (Of.no_list (request_at c.table i)) (pair_number (list_of (held_at c.table store i)) k)) store
@@ -233,7 +233,7 @@ module _ (c : Conn) (store : List ℕ) (id : ℕ) (absent : Bool) where
   pub walk_rows : (C.walk c store id).refusal ≡ refusal (lent_rows c store id ((4 when of_slot c id (λ i. Of.no_list (request_at c.table i)) absent) ∷ []))
   unfolding C.walk Of.walk_in
   walk_rows =
-      lent_nested (λ (w : Of.Walk). w.refusal) Of.no_walk (λ n. refl) c id (λ s. (4 when onSlot s (λ i. Of.no_list (request_at c.table i)) absent) ∷ [])
+      lent_nested (λ (w : Of.Walk). w.refusal) Of.no_walk (λ n. refl) c id (λ s. (4 when on_slot s (λ i. Of.no_list (request_at c.table i)) absent) ∷ [])
       (λ i. Of.walk_in (held_at c.table store i))
       (λ i. walk_inner (Of.no_list (request_at c.table i)) (list_of (held_at c.table store i))) store
 
@@ -244,7 +244,7 @@ module _ (c : Conn) (store : List ℕ) (id : ℕ) (absent : Bool) where
   unfolding C.finish Of.finish_in
   finish_rows_lem status buffer =
       lent_nested (λ (w : C.Finished). w.refusal) (λ n. C.unfinished n c store buffer) (λ n. refl) c id
-      (λ s. (6 when onSlot s (λ i. length buffer <? length (Of.finish_bytes (request_at c.table i) status)) absent) ∷ [])
+      (λ s. (6 when on_slot s (λ i. length buffer <? length (Of.finish_bytes (request_at c.table i) status)) absent) ∷ [])
       (λ i. C.finishes c store i (request_at c.table i).state.keep (Of.finish_in (request_at c.table i) status buffer))
       (λ i.
       let r = request_at c.table i in
@@ -257,9 +257,9 @@ module _ (c : Conn) (id : ℕ) (output : Output) (buffer : List ℕ) (unready en
   -- The rows of a call that writes these bytes for its request.
   abbrev pub output_rows : (Request → List ℕ) → Slot → List Row
   output_rows bytes s =
-      (4 when onSlot s (λ i. Of.no_output (request_at c.table i)) unready)
-      ∷ (5 when onSlot s (λ i. Of.is_ended output (request_at c.table i).state) ended)
-      ∷ (6 when onSlot s (λ i. length buffer <? length (bytes (request_at c.table i))) short)
+      (4 when on_slot s (λ i. Of.no_output (request_at c.table i)) unready)
+      ∷ (5 when on_slot s (λ i. Of.is_ended output (request_at c.table i).state) ended)
+      ∷ (6 when on_slot s (λ i. length buffer <? length (bytes (request_at c.table i))) short)
       ∷ []
 
   -- what such a call comes to in slot i

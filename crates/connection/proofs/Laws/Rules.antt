@@ -1,9 +1,9 @@
 -- What a header can do to its request, case by case: one list of cases for all that is proved of rules 5 to 10.
-use Rattle.std.specs.Prelude.{◌≡◌, ℕ, ◌+◌, ◌≤◌, Bool, true, false, ltb, eqb}
+use Rattle.std.specs.Prelude.{◌≡◌, ℕ, ◌+◌, ◌≤◌, Bool, true, false, ltb, eqb, if◌then◌else◌}
 use Rattle.std.proofs.Math.Path.{refl}
 use Rattle.std.proofs.Math.Option.{none}
 use borrow.Author.Tests.{ltb-false, eqb-true}
-use Rattle.wire.specs.Test.{if◌then◌else◌, ◌=?◌, byTest}
+use Rattle.wire.specs.Test.{◌=?◌, by_test}
 use Rattle.record.specs.Names.{BEGIN_REQUEST, ABORT_REQUEST, STDIN, DATA}
 use Rattle.pair_list.specs.List.{well_formed, broken_at}
 use Rattle.machine.specs.Cause.{Cause, Plain, At}
@@ -55,9 +55,9 @@ module _ (kind n : ℕ) (h : Held) where
   of_ended : OnTurn kind h Turn.Params → n ≡ 0 → Rule kind n h (params_ended h)
   unfolding params_ended params_fault
   of_ended t z =
-      byTest (well_formed (list_of h))
+      by_test (well_formed (list_of h))
       (λ w.
-      byTest (repeats (list_of h))
+      by_test (repeats (list_of h))
       (λ r. simp (w, r) (Rule.Faults 26 refl))
       (λ r. simp (w, r) (Rule.Readies t z (simp (w, r)))))
       (λ w. simp w (Rule.Breaks t z w))

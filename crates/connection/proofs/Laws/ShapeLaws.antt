@@ -2,7 +2,7 @@
 use Rattle.std.specs.Prelude.{◌≡◌, refl, ℕ, zero, suc, ◌+◌, ◌≤◌, ◌<◌, Bool, true, false, not, List, get_or, eqb}
 use Rattle.std.proofs.Common.{sym, ◌∙◌, arith, leb-true, ltb-true, eqb-true, le-leb, lt-ltb, eq-eqb, ne_eqb}
 use Rattle.std.proofs.lemmas.Bool.{eqb-false, not-true}
-use Rattle.wire.specs.Test.{byTest, ◌≤?◌, ◌<?◌, ◌=?◌}
+use Rattle.wire.specs.Test.{by_test, ◌≤?◌, ◌<?◌, ◌=?◌}
 use Rattle.slot_word.specs.Word.{taken}
 use Rattle.record_reader.specs.declared.Position.{Position}
 use Rattle.connection.specs.declared.state.Table.{Table}
@@ -71,14 +71,14 @@ id_fit n ids occupied i e =
 fit_id : (n : ℕ) (ids : List ℕ) (occupied i : ℕ) → IdFit n ids occupied i → id_fits ids occupied n i ≡ true
 unfolding id_fits
 fit_id n ids occupied i f =
-    byTest (taken i occupied) (λ t. simp (t, ne_eqb (get_or ids i 0) 0 (f.some t), f.alone t)) (λ t. simp t)
+    by_test (taken i occupied) (λ t. simp (t, ne_eqb (get_or ids i 0) 0 (f.some t), f.alone t)) (λ t. simp t)
 
 -- the first of n + 1 slots, and those after it
 module _ (n : ℕ) (ids : List ℕ) (occupied i : ℕ) where
   -- a slot among them is the first, or after it
   first_or : (id k : ℕ) {P : Type 0} → HoldsFrom (suc n) ids occupied id i k → (i ≡ k → P) → (HoldsFrom n ids occupied id (i + 1) k → P) → P
   first_or id k h first behind =
-      byTest (eqb i k)
+      by_test (eqb i k)
       (λ t. first (eqb-true i k t))
       (λ t. let q = eqb-false i k t in behind (record { low = omega arith; high = omega arith; slot_taken = h.slot_taken; has_id = h.has_id }))
 
@@ -96,7 +96,7 @@ module _ (n : ℕ) (ids : List ℕ) (occupied i : ℕ) where
   fit_more : (lengths : List ℕ) → get_or lengths i 0 ≤ AREA → IdFit n ids occupied i → Fit n ids lengths occupied (i + 1) → Fit (suc n) ids lengths occupied i
   fit_more lengths h f r =
       record {
-        short = λ k a b. byTest (eqb i k) (λ t. rw (← eqb-true i k t) h) (λ t. let q = eqb-false i k t in r.short k (omega arith) (omega arith));
+        short = λ k a b. by_test (eqb i k) (λ t. rw (← eqb-true i k t) h) (λ t. let q = eqb-false i k t in r.short k (omega arith) (omega arith));
         some = λ k g. first_or 0 k g (λ e. f.some (rw e g.slot_taken) (rw e g.has_id)) (r.some k);
         distinct = λ id k l g m.
             first_or id k g

@@ -10,7 +10,7 @@ use Rattle.std.proofs.lemmas.List.{set-get_or, take-append-le, drop-append-le}
 use Rattle.std.proofs.Math.Seq.{length-take-le, take_at, drop-append-add}
 use Rattle.std.proofs.Math.Dec.{ltb}
 use borrow.Author.Tests.{lt-ltb, ltb-true, ltb-false, eqb-true, eqb-false, eq-eqb}
-use Rattle.wire.specs.Test.{byTest}
+use Rattle.wire.specs.Test.{by_test}
 use Rattle.slot_word.specs.Word.{taken, with_slot, without_slot}
 use Rattle.slot_word.proofs.WordLaws.{with_taken_lem, with_other, without_free, without_other, mark_same, mark_read, mark_other}
 use Rattle.connection.specs.declared.request.Request.{Request}
@@ -128,7 +128,7 @@ taken_of_take t i r h = simp (lt-ltb i SLOTS h) (with_taken_lem i t.occupied)
 -- Another slot is taken or free as it was.
 pub taken_of_take_other : (t : Table) (i j : ℕ) (r : Request) → (j ≡ i → ⊥) → taken j (take_slot t i r).occupied ≡ taken j t.occupied
 unfolding take_slot with_slot
-taken_of_take_other t i j r h = byTest (ltb i SLOTS) (λ e. simp e (with_other i j t.occupied h)) (λ e. simp e)
+taken_of_take_other t i j r h = by_test (ltb i SLOTS) (λ e. simp e (with_other i j t.occupied h)) (λ e. simp e)
 
 -- The arrays keep their lengths.
 pub take_sized : (t : Table) (i : ℕ) (r : Request) → Sized t → Sized (take_slot t i r)
@@ -153,7 +153,7 @@ taken_of_free t i h = simp (lt-ltb i SLOTS h) (without_free i t.occupied)
 -- Another slot is taken or free as it was.
 pub taken_of_free_other : (t : Table) (i j : ℕ) → (j ≡ i → ⊥) → taken j (free_slot t i).occupied ≡ taken j t.occupied
 unfolding free_slot without_slot
-taken_of_free_other t i j h = byTest (ltb i SLOTS) (λ e. simp e (without_other i j t.occupied h)) (λ e. simp e)
+taken_of_free_other t i j h = by_test (ltb i SLOTS) (λ e. simp e (without_other i j t.occupied h)) (λ e. simp e)
 
 -- The arrays keep their lengths.
 pub free_sized : (t : Table) (i : ℕ) → Sized t → Sized (free_slot t i)
@@ -207,7 +207,7 @@ module _ (store : List ℕ) (i : ℕ) (area : List ℕ) (full : length store ≡
   -- Another slot's area stays.
   pub area_of_other : (j : ℕ) → (j ≡ i → ⊥) → area_at (put_area store i area) j ≡ area_at store j
   unfolding put_area
-  area_of_other j other = byTest (ltb j i) before behind
+  area_of_other j other = by_test (ltb j i) before behind
     where
       before : ltb j i ≡ true → area_at (put_area store i area) j ≡ area_at store j
       before t =
@@ -245,7 +245,7 @@ pub record HoldsFrom (n : ℕ) (ids : List ℕ) (occupied id i k : ℕ) : Type 0
 holds_true : (ids : List ℕ) (occupied id i : ℕ) → holds_id ids occupied id i ≡ true → (taken i occupied ≡ true) × (get_or ids i 0 ≡ id)
 unfolding holds_id
 holds_true ids occupied id i e =
-    byTest (taken i occupied)
+    by_test (taken i occupied)
     (λ t. (t, eqb-true (get_or ids i 0) id (simp t at e)))
     (λ t. let z : ◌≡◌ {A = ℕ} 0 1 = cc (simp t at e) in absurd (omega arith))
 
@@ -258,7 +258,7 @@ pub found_from : (n : ℕ) (ids : List ℕ) (occupied id i k : ℕ) → find_fro
 unfolding find_from
 found_from zero ids occupied id i k e = let z : ◌≡◌ {A = ℕ} 0 1 = cc in absurd (omega arith)
 found_from (suc n) ids occupied id i k e =
-    byTest (holds_id ids occupied id i)
+    by_test (holds_id ids occupied id i)
     (λ t. here t (cc (simp t at e)))
     (λ t. later (found_from n ids occupied id (i + 1) k (simp t at e)))
   where
@@ -275,9 +275,9 @@ pub none_from : (n : ℕ) (ids : List ℕ) (occupied id i k : ℕ) → find_from
 unfolding find_from
 none_from zero ids occupied id i k e h = omega arith
 none_from (suc n) ids occupied id i k e h =
-    byTest (holds_id ids occupied id i)
+    by_test (holds_id ids occupied id i)
     (λ t. let z : ◌≡◌ {A = ℕ} 0 1 = cc (simp t at e) in omega arith)
-    (λ t. byTest (eqb i k) (here t) (λ q. none_from n ids occupied id (i + 1) k (simp t at e) (later (eqb-false i k q))))
+    (λ t. by_test (eqb i k) (here t) (λ q. none_from n ids occupied id (i + 1) k (simp t at e) (later (eqb-false i k q))))
   where
     here : holds_id ids occupied id i ≡ false → eqb i k ≡ true → ⊥
     here t q =

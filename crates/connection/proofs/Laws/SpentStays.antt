@@ -2,7 +2,7 @@
 use Rattle.std.specs.Prelude.{◌≡◌, refl, List, Bool, true, ℕ, ◌+◌, ◌≤◌, length, eqb, leb}
 use Rattle.std.proofs.Common.{ap, sym, ◌∙◌, subst, arith, eqb-true}
 use Rattle.std.proofs.lemmas.Bool.{eqb-false}
-use Rattle.wire.specs.Test.{byTest}
+use Rattle.wire.specs.Test.{by_test}
 use Rattle.slot_word.proofs.WordLaws.{least_free}
 use Rattle.connection.specs.declared.request.Request.{Request}
 use Rattle.connection.specs.declared.request.Role.{Role}
@@ -36,7 +36,7 @@ pub put_same_life : (t : Table) (R i j : ℕ) (r : Request) → Sized t → find
 put_same_life t R i j r sized found id life =
     record {
       found = find_put t j r R id ∙ found;
-      life = byTest (eqb i j)
+      life = by_test (eqb i j)
           (λ e.
           let q : i ≡ j = eqb-true i j e in
           subst (λ k. (request_at (put_request t k r) i).state.life ≡ (request_at t i).state.life) q
@@ -54,7 +54,7 @@ content_like : (due : Due) (bytes : List ℕ) (h : Held) → Like h.request (on_
 unfolding grown
 content_like Due.Skip bytes h = record { id = refl; life = refl }
 content_like Due.Params bytes h =
-    byTest (leb (h.request.length + length bytes) AREA) (λ e. simp e (record { id = refl; life = refl })) (λ e. simp e (record { id = refl; life = refl }))
+    by_test (leb (h.request.length + length bytes) AREA) (λ e. simp e (record { id = refl; life = refl })) (λ e. simp e (record { id = refl; life = refl }))
 content_like Due.Stdin bytes h = record { id = refl; life = refl }
 content_like Due.Data bytes h = record { id = refl; life = refl }
 
@@ -83,7 +83,7 @@ find_take t R i k r sized distinct found idle other = go (find (take_slot t k r)
     go Slot.Nowhere e = absurd (find_nowhere (take_slot t k r) R e i stays_held)
     go (Slot.At j) e =
         let h = find_at (take_slot t k r) R j e in
-        byTest (eqb j k)
+        by_test (eqb j k)
         (λ q.
         let at : j ≡ k = eqb-true j k q in
         let id : r.id ≡ R = ap (λ (x : Request). x.id) (sym (request_of_take t k r sized (rw at at h.low))) ∙ subst (λ n. (request_at (take_slot t k r) n).id ≡ R) at h.has_id in

@@ -1,8 +1,8 @@
 -- What start, step and calls keep of a state: its arrays as the types in code have them, and its shape.
-use Rattle.std.specs.Prelude.{◌≡◌, refl, ℕ, ◌≤◌, ◌<◌, Bool, true, false, List, length, eqb}
+use Rattle.std.specs.Prelude.{◌≡◌, refl, ℕ, ◌≤◌, ◌<◌, Bool, true, false, List, length, eqb, if◌then◌else◌}
 use Rattle.std.proofs.Common.{arith}
 use Rattle.std.proofs.lemmas.Bool.{eqb-false}
-use Rattle.wire.specs.Test.{if◌then◌else◌, byTest}
+use Rattle.wire.specs.Test.{by_test}
 use Rattle.pair_list.specs.List.{well_formed, broken_at}
 use Rattle.connection.specs.declared.request.Request.{Request}
 use Rattle.connection.specs.declared.state.Table.{Table}
@@ -70,7 +70,7 @@ good_closed = good closed_conn (fresh_arrays false) (shaped closed_conn closed_i
 -- With no content left a target is forgotten, so it need fit only where some is left.
 pub aimed_if : (left gathered : ℕ) (target : Target) (t : Table) → (0 < left → Aimed target t gathered left) → Aimed (target_if left target) t gathered left
 aimed_if left gathered target t f =
-    byTest (eqb left 0) (λ e. simp e tt) (λ e. simp e (f (let q = eqb-false left 0 e in omega arith)))
+    by_test (eqb left 0) (λ e. simp e tt) (λ e. simp e (f (let q = eqb-false left 0 e in omega arith)))
 
 -- ---- what the answers are made of
 -- By the two outcomes of a test.

@@ -6,7 +6,7 @@ use Prim.Native.Nat.{ℕ, ◌-◌, ◌≤◌, min}
 use native.Mathlib.Omega.{arith}
 use Rattle.std.proofs.Math.ListN.{length}
 use Rattle.std.proofs.Math.Seq.{length-take-le}
-use Rattle.wire.specs.Test.{byTest}
+use Rattle.wire.specs.Test.{by_test}
 use Rattle.wire.proofs.BufferLaws.{put_length}
 use Rattle.record.specs.Header.{header_of}
 use Rattle.record.specs.declared.header.Header.{Header}
@@ -70,19 +70,19 @@ module _ (st : State) (store : List ℕ) (before : Good st.conn) where
 -- A start leaves a state in shape, refused or not.
 pub start_in_shape : (gathered store : List ℕ) → in_shape (started gathered store).state.conn ≡ true
 unfolding started
-start_in_shape gathered store = byTest (eqb (length store) STORE) (λ e. simp e fresh_in_shape) (λ e. simp e closed_in_shape)
+start_in_shape gathered store = by_test (eqb (length store) STORE) (λ e. simp e fresh_in_shape) (λ e. simp e closed_in_shape)
 
 -- Its arrays are as the types say.
 pub start_arrays : (gathered store : List ℕ) → Arrays (started gathered store).state.conn
 unfolding started
-start_arrays gathered store = byTest (eqb (length store) STORE) (λ e. simp e (fresh_arrays true)) (λ e. simp e (fresh_arrays false))
+start_arrays gathered store = by_test (eqb (length store) STORE) (λ e. simp e (fresh_arrays true)) (λ e. simp e (fresh_arrays false))
 
 step_good : (st : State) (store piece : List ℕ) → Arrays st.conn → AllBytes piece → in_shape st.conn ≡ true → Good (stepped st store piece).state.conn
 unfolding stepped
 step_good st store piece arrays all shape =
     let before = good st.conn arrays (shaped st.conn shape) in
-    byTest (eqb (step_refusal st.conn store) 0)
-    (λ e. byTest (eqb (length piece) 0) (λ z. simp (e, z) before) (λ z. simp (e, z) (good_advances st store before piece (reads_fit _ piece before.frame.position.held before.frame.bytes all))))
+    by_test (eqb (step_refusal st.conn store) 0)
+    (λ e. by_test (eqb (length piece) 0) (λ z. simp (e, z) before) (λ z. simp (e, z) (good_advances st store before piece (reads_fit _ piece before.frame.position.held before.frame.bytes all))))
     (λ e. simp e before)
 
 -- A step leaves a state in shape, whatever the piece, also where it is refused.
@@ -94,6 +94,6 @@ step_in_shape st store piece arrays all shape = good_shape _ (step_good st store
 pub step_keeps_arrays : (st : State) (store piece : List ℕ) → Arrays st.conn → AllBytes piece → Arrays (stepped st store piece).state.conn
 unfolding stepped step_refusal
 step_keeps_arrays st store piece arrays all =
-    byTest (in_shape st.conn)
+    by_test (in_shape st.conn)
     (λ e. good_arrays _ (step_good st store piece arrays all e))
-    (λ e. byTest (eqb (length store) STORE) (λ s. simp (s, e) arrays) (λ s. simp (s, e) arrays))
+    (λ e. by_test (eqb (length store) STORE) (λ s. simp (s, e) arrays) (λ s. simp (s, e) arrays))

@@ -5,7 +5,7 @@ use Rattle.std.proofs.Common.{◌∙◌, arith, leb-true, eqb-true, eq-eqb}
 use mathlib.Core.List.{List, [], ◌∷◌}
 use Rattle.std.proofs.Math.ListN.{length-replicate}
 use Rattle.std.proofs.lemmas.Bool.{eqb-false}
-use Rattle.wire.specs.Test.{byTest}
+use Rattle.wire.specs.Test.{by_test}
 use Rattle.wire.specs.Buffer.{copied, has_room}
 use Rattle.wire.proofs.BufferLaws.{put_length}
 use Rattle.record.specs.Names.{VERSION, BEGIN_REQUEST, GET_VALUES, RESPONDER, AUTHORIZER, FILTER}
@@ -24,7 +24,7 @@ use Rattle.connection.specs.declared.state.Frame.{Frame}
 use Rattle.connection.specs.Sizes.{SLOTS, AREA, STORE, QUERY}
 use Rattle.connection.specs.Event.{Event}
 use Rattle.connection.specs.Request.{Held, Ruled, faulted, aborted, turned, on_header, grown, on_content}
-use Rattle.connection.specs.Slots.{held_at, find, onSlot, free_slot_of}
+use Rattle.connection.specs.Slots.{held_at, find, on_slot, free_slot_of}
 use Rattle.connection.proofs.Laws.SlotsLaws.{Sized, put_sized, take_sized, area_length, put_area_length, find_at}
 use Rattle.connection.specs.Fits.{Aimed}
 use Rattle.connection.proofs.Laws.ShapeLaws.{shaped}
@@ -49,7 +49,7 @@ Keeps l = Sizes (record { conn = l.conn; gathered = l.gathered }) l.store
 pub copied_length : (l : List ℕ) (at : ℕ) (x : List ℕ) → length (copied l at x) ≡ length l
 unfolding copied
 copied_length l at x =
-    byTest (has_room l at (length x)) (λ t. simp t (put_length l at x (leb-true (at + length x) (length l) t))) (λ t. simp t)
+    by_test (has_room l at (length x)) (λ t. simp t (put_length l at x (leb-true (at + length x) (length l) t))) (λ t. simp t)
 
 -- ---- an area keeps its length under the rules of its request
 pub header_area : (kind n : ℕ) (h : Held) → length (on_header kind n h).held.area ≡ length h.area
@@ -62,7 +62,7 @@ pub content_area : (due : Due) (x : List ℕ) (h : Held) → length (on_content 
 unfolding grown
 content_area Due.Skip x h = refl
 content_area Due.Params x h =
-    byTest (leb (h.request.length + length x) AREA) (λ t. simp t (copied_length h.area h.request.length x)) (λ t. simp t)
+    by_test (leb (h.request.length + length x) AREA) (λ t. simp t (copied_length h.area h.request.length x)) (λ t. simp t)
 content_area Due.Stdin x h = refl
 content_area Due.Data x h = refl
 
@@ -95,23 +95,23 @@ module _ (st : State) (store : List ℕ) (s : Sizes st store) where
 
   queried_keeps : (list : List ℕ) (f : Frame) → length f.position.header ≡ 8 → length f.body ≡ 8 → Keeps (queried st store list f)
   unfolding queried
-  queried_keeps list f h b = byTest (well_formed list) (λ t. simp t (reads_keeps f h b)) (λ t. simp t (closes_keeps (At 14 (broken_at list))))
+  queried_keeps list f h b = by_test (well_formed list) (λ t. simp t (reads_keeps f h b)) (λ t. simp t (closes_keeps (At 14 (broken_at list))))
 
   -- a header
   management_keeps : (h : Header) → Keeps (on_management st store h)
   unfolding on_management
   management_keeps h =
-      byTest (eqb h.kind GET_VALUES)
+      by_test (eqb h.kind GET_VALUES)
       (λ t.
-      byTest (ltb QUERY h.content) (λ q. simp (t, q) (closes_keeps (Plain 13)))
-      (λ q. byTest (eqb h.content 0) (λ z. simp (t, q, z) (queried_keeps [] _ refl refl)) (λ z. simp (t, q, z) (reads_keeps _ refl refl))))
+      by_test (ltb QUERY h.content) (λ q. simp (t, q) (closes_keeps (Plain 13)))
+      (λ q. by_test (eqb h.content 0) (λ z. simp (t, q, z) (queried_keeps [] _ refl refl)) (λ z. simp (t, q, z) (reads_keeps _ refl refl))))
       (λ t. simp t (reads_keeps _ refl refl))
 
   inactive_keeps : (h : Header) → Keeps (on_inactive st store h)
   unfolding on_inactive
   inactive_keeps h =
-      byTest (eqb h.kind BEGIN_REQUEST)
-      (λ t. byTest (eqb h.content 8) (λ q. simp (t, q) (reads_keeps _ refl refl)) (λ q. simp (t, q) (closes_keeps (Plain 12))))
+      by_test (eqb h.kind BEGIN_REQUEST)
+      (λ t. by_test (eqb h.content 8) (λ q. simp (t, q) (reads_keeps _ refl refl)) (λ q. simp (t, q) (closes_keeps (Plain 12))))
       (λ t. simp t (reads_keeps _ refl refl))
 
   active_keeps : (h : Header) (i : ℕ) → i < SLOTS → Keeps (on_active st store h i)
@@ -122,11 +122,11 @@ module _ (st : State) (store : List ℕ) (s : Sizes st store) where
   judged_keeps : (h : Header) → Keeps (judged st store h)
   unfolding judged
   judged_keeps h =
-      byTest (eqb h.version VERSION)
-      (λ t. byTest (eqb h.id 0) (λ z. simp (t, z) (management_keeps h)) (λ z. simp (t, z) (go (find st.conn.table h.id) refl)))
+      by_test (eqb h.version VERSION)
+      (λ t. by_test (eqb h.id 0) (λ z. simp (t, z) (management_keeps h)) (λ z. simp (t, z) (go (find st.conn.table h.id) refl)))
       (λ t. simp t (closes_keeps (Plain 11)))
     where
-      go : (k : Slot) → find st.conn.table h.id ≡ k → Keeps (onSlot k (on_active st store h) (on_inactive st store h))
+      go : (k : Slot) → find st.conn.table h.id ≡ k → Keeps (on_slot k (on_active st store h) (on_inactive st store h))
       go (Slot.At i) e = active_keeps h i (find_at st.conn.table h.id i e).low
       go Slot.Nowhere e = inactive_keeps h
 
@@ -134,22 +134,22 @@ module _ (st : State) (store : List ℕ) (s : Sizes st store) where
   opens_keeps : (id : ℕ) (b : BeginBody) (role : Role) (f : Frame) → length f.position.header ≡ 8 → length f.body ≡ 8 → Keeps (opens st store id b role f)
   unfolding opens
   opens_keeps id b role f h l =
-      byTest (ltb (free_slot_of st.conn.table) SLOTS)
+      by_test (ltb (free_slot_of st.conn.table) SLOTS)
       (λ t. simp t (record { table = take_sized st.conn.table _ _ s.table; header = h; body = l; gathered = s.gathered; full = s.full }))
       (λ t. simp t (reads_keeps f h l))
 
   begun_keeps : (id : ℕ) (b : BeginBody) (f : Frame) → length f.position.header ≡ 8 → length f.body ≡ 8 → Keeps (begun st store id b f)
   unfolding begun
   begun_keeps id b f h l =
-      byTest (eqb b.role RESPONDER) (λ t. simp t (opens_keeps id b Role.Responder f h l))
+      by_test (eqb b.role RESPONDER) (λ t. simp t (opens_keeps id b Role.Responder f h l))
       (λ t.
-      byTest (eqb b.role AUTHORIZER) (λ q. simp (t, q) (opens_keeps id b Role.Authorizer f h l))
-      (λ q. byTest (eqb b.role FILTER) (λ r. simp (t, q, r) (opens_keeps id b Role.Filter f h l)) (λ r. simp (t, q, r) (reads_keeps f h l))))
+      by_test (eqb b.role AUTHORIZER) (λ q. simp (t, q) (opens_keeps id b Role.Authorizer f h l))
+      (λ q. by_test (eqb b.role FILTER) (λ r. simp (t, q, r) (opens_keeps id b Role.Filter f h l)) (λ r. simp (t, q, r) (reads_keeps f h l))))
 
   begin_keeps : (id : ℕ) (x : List ℕ) (p : Position) → length p.header ≡ 8 → Keeps (of_begin st store id x p)
   unfolding of_begin
   begin_keeps id x p h =
-      byTest (eqb p.content 0) (λ t. simp t (begun_keeps id _ _ h refl)) (λ t. simp t (reads_keeps _ h (copied_length st.conn.frame.body _ x ∙ s.body)))
+      by_test (eqb p.content 0) (λ t. simp t (begun_keeps id _ _ h refl)) (λ t. simp t (reads_keeps _ h (copied_length st.conn.frame.body _ x ∙ s.body)))
 
   request_keeps : (due : Due) (i : ℕ) (x : List ℕ) (p : Position) → i < SLOTS → length p.header ≡ 8 → Keeps (of_request st store due i x p)
   unfolding of_request
@@ -162,7 +162,7 @@ query_keeps st store x p s h =
     let st' : State = record { conn = st.conn; gathered = copied st.gathered st.conn.frame.gathered x } in
     let s' : Sizes st' store =
     record { table = s.table; header = s.header; body = s.body; gathered = copied_length st.gathered st.conn.frame.gathered x ∙ s.gathered; full = s.full } in
-    byTest (eqb p.content 0) (λ t. simp t (queried_keeps st' store s' _ _ h s.body)) (λ t. simp t (reads_keeps st' store s' _ h s.body))
+    by_test (eqb p.content 0) (λ t. simp t (queried_keeps st' store s' _ _ h s.body)) (λ t. simp t (reads_keeps st' store s' _ h s.body))
 
 target_keeps : (t : Target) (st : State) (store x : List ℕ) (p : Position) → Sizes st store
     → Aimed t st.conn.table st.conn.frame.gathered st.conn.frame.position.content → length p.header ≡ 8 → Keeps (on_target t st store x p)
@@ -187,7 +187,7 @@ pub sizes_stay : (st : State) (store x : List ℕ) → Sizes st store → Sizes 
 unfolding advances
 sizes_stay st store [] s = rw (step_nothing st store) s
 sizes_stay st store (b ∷ x) s =
-    byTest (eqb (step_refusal st.conn store) 0) admitted
+    by_test (eqb (step_refusal st.conn store) 0) admitted
     (λ t. rw (step_refused st store (b ∷ x) (eqb-false (step_refusal st.conn store) 0 t)) s)
   where
     admitted : eqb (step_refusal st.conn store) 0 ≡ true → Sizes (stepped st store (b ∷ x)).state (stepped st store (b ∷ x)).store

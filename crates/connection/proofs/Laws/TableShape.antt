@@ -2,7 +2,7 @@
 use Rattle.std.specs.Prelude.{◌≡◌, refl, ℕ, ◌≤◌, ◌<◌, true, get_or, eqb}
 use Rattle.std.proofs.Common.{sym, ap, ◌∙◌, arith, eqb-true}
 use Rattle.std.proofs.lemmas.Bool.{eqb-false}
-use Rattle.wire.specs.Test.{byTest}
+use Rattle.wire.specs.Test.{by_test}
 use Rattle.slot_word.specs.Word.{taken}
 use Rattle.connection.specs.declared.request.Request.{Request}
 use Rattle.connection.specs.declared.state.Table.{Table}
@@ -27,7 +27,7 @@ length_of t i = refl
 short : (t u : Table) (i : ℕ) → Tidy t → (i < SLOTS → (request_at u i).length ≤ AREA) → ((j : ℕ) → (j ≡ i → ⊥) → request_at u j ≡ request_at t j)
     → (j : ℕ) → j < SLOTS → get_or u.lengths j 0 ≤ AREA
 short t u i good here others j h =
-    byTest (eqb j i)
+    by_test (eqb j i)
     (λ e. let s : j ≡ i = eqb-true j i e in rw (s, ← length_of u i) (here (rw s at h)))
     (λ e. rw (← length_of u j, others j (eqb-false j i e), length_of t j) (good.lengths j h))
 
@@ -76,11 +76,11 @@ module _ (t : Table) (i : ℕ) (r : Request) (sized : Sized t) where
   tidy_take good fits some inactive =
       record {
         lengths = short t (take_slot t i r) i good (λ h. rw (request_of_take t i r sized h) fits) (λ j ne. other_of_take t i j r ne);
-        ids = λ j h. byTest (eqb j i) (λ e. some (id_taken 0 j (eqb-true j i e) h)) (λ e. good.ids j (holds_other 0 j (eqb-false j i e) h));
+        ids = λ j h. by_test (eqb j i) (λ e. some (id_taken 0 j (eqb-true j i e) h)) (λ e. good.ids j (holds_other 0 j (eqb-false j i e) h));
         distinct = λ id j k h g.
-            byTest (eqb j i)
-            (λ e. byTest (eqb k i) (λ e'. eqb-true j i e ∙ sym (eqb-true k i e')) (λ e'. absurd (clash id j k (eqb-true j i e) (eqb-false k i e') h g)))
-            (λ e. byTest (eqb k i)
+            by_test (eqb j i)
+            (λ e. by_test (eqb k i) (λ e'. eqb-true j i e ∙ sym (eqb-true k i e')) (λ e'. absurd (clash id j k (eqb-true j i e) (eqb-false k i e') h g)))
+            (λ e. by_test (eqb k i)
             (λ e'. absurd (clash id k j (eqb-true k i e') (eqb-false j i e) g h))
             (λ e'. good.distinct id j k (holds_other id j (eqb-false j i e) h) (holds_other id k (eqb-false k i e') g)));
       }
@@ -91,7 +91,7 @@ module _ (t : Table) (i : ℕ) (r : Request) (sized : Sized t) where
 -- ---- a slot freed
 -- what a table with a slot freed holds, it held
 holds_free : (t : Table) (i id j : ℕ) → Holds (free_slot t i) id j → Holds t id j
-holds_free t i id j h = byTest (eqb j i) (λ e. absurd (freed (eqb-true j i e))) (λ e. other (eqb-false j i e))
+holds_free t i id j h = by_test (eqb j i) (λ e. absurd (freed (eqb-true j i e))) (λ e. other (eqb-false j i e))
   where
     freed : j ≡ i → ⊥
     freed e =

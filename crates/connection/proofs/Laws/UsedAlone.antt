@@ -2,7 +2,7 @@
 use Rattle.std.specs.Prelude.{ℕ, ◌-◌, ◌≤◌, ◌≡◌, refl, true, List, [], ◌∷◌, length, take, eqb}
 use Rattle.std.proofs.Common.{sym, ap, ◌∙◌, arith, take_all, eqb-true}
 use Rattle.std.proofs.lemmas.Bool.{eqb-false}
-use Rattle.wire.specs.Test.{byTest}
+use Rattle.wire.specs.Test.{by_test}
 use Rattle.wire.specs.Buffer.{put_at}
 use Rattle.record.specs.Header.{header_of}
 use Rattle.record_reader.specs.Position.{after_header, in_header, advanced}
@@ -44,7 +44,7 @@ unfolding advances
 used_alone st store [] [] e q = refl
 used_alone st store [] (c ∷ y) e q = absurd (omega arith)
 used_alone st store (b ∷ x) y e q =
-    byTest (eqb (step_refusal st.conn store) 0) admitted
+    by_test (eqb (step_refusal st.conn store) 0) admitted
     (λ t.
     let r = eqb-false (step_refusal st.conn store) 0 t in
     step_refused st store (b ∷ x) r ∙ sym (step_refused st store y r))

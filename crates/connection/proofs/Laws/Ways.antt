@@ -1,9 +1,9 @@
 -- How a step can end, case by case: one list of ways for all that is proved of every step.
-use Rattle.std.specs.Prelude.{◌≡◌, ℕ, ◌+◌, ◌-◌, ◌<◌, min, Bool, true, false, length, take, ltb, leb, eqb}
+use Rattle.std.specs.Prelude.{◌≡◌, ℕ, ◌+◌, ◌-◌, ◌<◌, min, Bool, true, false, length, take, ltb, leb, eqb, if◌then◌else◌}
 use Rattle.std.proofs.Math.Path.{refl}
 use mathlib.Core.List.{List, []}
 use Rattle.std.proofs.Common.{arith, ltb-true, eqb-true}
-use Rattle.wire.specs.Test.{if◌then◌else◌, byTest, ◌=?◌}
+use Rattle.wire.specs.Test.{by_test, ◌=?◌}
 use Rattle.record.specs.Names.{VERSION, BEGIN_REQUEST, GET_VALUES, RESPONDER, AUTHORIZER, FILTER}
 use Rattle.record.specs.declared.header.Header.{Header}
 use Rattle.record.specs.declared.body.BeginBody.{BeginBody}
@@ -23,7 +23,7 @@ use Rattle.connection.specs.Sizes.{SLOTS, QUERY}
 use Rattle.connection.specs.Event.{Event}
 use Rattle.connection.specs.Codes.{role_number}
 use Rattle.connection.specs.Request.{opened}
-use Rattle.connection.specs.Slots.{take_slot, free_slot_of, find, onSlot}
+use Rattle.connection.specs.Slots.{take_slot, free_slot_of, find, on_slot}
 use Rattle.connection.specs.Fits.{Aimed}
 use Rattle.connection.proofs.Laws.ShapeLaws.{shaped}
 use Rattle.connection.specs.Step.{State, Left, due_to, open_with, reads, closes, query_of, queried, on_management, on_inactive, on_active, judged, opens, begun, of_begin, of_query, of_request, on_target, on_phase, Stepped, stays, leaves, advances, step_refusal, stepped}
@@ -134,7 +134,7 @@ module _ (st : State) (store : List ℕ) where
       (λ t. fork (eqb h.id 0) (λ z. way_management _ h) (λ z. go (find st.conn.table h.id) refl))
       (λ t. Way.Closes st.gathered (Plain 11) refl)
     where
-      go : (k : Slot) → find st.conn.table h.id ≡ k → Way st store k (onSlot k (on_active st store h) (on_inactive st store h))
+      go : (k : Slot) → find st.conn.table h.id ≡ k → Way st store k (on_slot k (on_active st store h) (on_inactive st store h))
       go (Slot.At i) e = Way.Rules h i refl e
       go Slot.Nowhere e = way_inactive Slot.Nowhere h
 
@@ -187,13 +187,13 @@ concerned st piece = slot_in (advanced st.conn.frame.position piece).phase st.co
 content_left : (p : Position) (piece : List ℕ) → (advanced p piece).phase ≡ Phase.Content → 0 < p.content
 unfolding advanced in_header
 content_left p piece =
-    byTest (ltb 0 p.content) (λ t e. ltb-true 0 p.content t)
+    by_test (ltb 0 p.content) (λ t e. ltb-true 0 p.content t)
     (λ t.
-    byTest (ltb 0 p.padding) (λ q. simp (t, q) (λ e. let z : ◌≡◌ {A = ℕ} 0 1 = cc in absurd (omega arith)))
+    by_test (ltb 0 p.padding) (λ q. simp (t, q) (λ e. let z : ◌≡◌ {A = ℕ} 0 1 = cc in absurd (omega arith)))
     (λ q.
-    byTest (leb 8 p.held) (λ w. simp (t, q, w) (λ e. let z : ◌≡◌ {A = ℕ} 0 1 = cc in absurd (omega arith)))
+    by_test (leb 8 p.held) (λ w. simp (t, q, w) (λ e. let z : ◌≡◌ {A = ℕ} 0 1 = cc in absurd (omega arith)))
     (λ w.
-    byTest (ltb (p.held + min (8 - p.held) (length piece)) 8) (λ v. simp (t, q, w, v) (λ e. let z : ◌≡◌ {A = ℕ} 0 1 = cc in absurd (omega arith)))
+    by_test (ltb (p.held + min (8 - p.held) (length piece)) 8) (λ v. simp (t, q, w, v) (λ e. let z : ◌≡◌ {A = ℕ} 0 1 = cc in absurd (omega arith)))
     (λ v. simp (t, q, w, v) (λ e. let z : ◌≡◌ {A = ℕ} 0 1 = cc in absurd (omega arith))))))
 
 way_target : (target : Target) (st : State) (store bytes : List ℕ) (p : Position) (n left : ℕ) → st.conn.frame.target ≡ target → 0 < st.conn.frame.position.content
@@ -217,8 +217,8 @@ pub by_way : (P : Stepped → Type 0) (st : State) (store piece : List ℕ) → 
     → (Fits st.conn store → (used : ℕ) (l : Left) → Way st store (concerned st piece) l → P (leaves used l)) → P (stepped st store piece)
 unfolding stepped advances
 by_way P st store piece stay go =
-    byTest (eqb (step_refusal st.conn store) 0)
-    (λ t. byTest (eqb (length piece) 0) (λ z. simp (t, z) (stay 0))
+    by_test (eqb (step_refusal st.conn store) 0)
+    (λ t. by_test (eqb (length piece) 0) (λ z. simp (t, z) (stay 0))
     (λ z.
     let fits = admitted_fits st.conn store (eqb-true (step_refusal st.conn store) 0 t) in
     let a = advanced st.conn.frame.position piece in

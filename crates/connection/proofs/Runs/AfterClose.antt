@@ -1,8 +1,8 @@
 -- After a close every call is refused by 1.
-use Rattle.std.specs.Prelude.{◌≡◌, refl, List, [], ◌∷◌, ◌++◌, true, false, ℕ, length, eqb}
+use Rattle.std.specs.Prelude.{◌≡◌, refl, List, [], ◌∷◌, ◌++◌, true, false, ℕ, length, eqb, if◌then◌else◌}
 use Rattle.std.proofs.Common.{ap, ap₂, sym, ◌∙◌, subst, arith, eq-eqb}
 use Rattle.std.proofs.Math.Option.{none}
-use Rattle.wire.specs.Test.{if◌then◌else◌, byTest, ◌=?◌}
+use Rattle.wire.specs.Test.{by_test, ◌=?◌}
 use Rattle.connection.specs.declared.state.Conn.{Conn}
 use Rattle.connection.specs.Sizes.{STORE}
 use Rattle.connection.specs.Shape.{in_shape}
@@ -37,10 +37,10 @@ pub closed_refusals : (c : Conn) (store : List ℕ) → c.«open» ≡ false →
 unfolding step_refusal C.lent_refusal C.call_refusal C.count_refusal
 closed_refusals c store e =
     record {
-      step = byTest (eqb (length store) STORE) (λ s. byTest (in_shape c) (λ i. simp (s, i, e)) (λ i. simp (s, i, e))) (λ s. simp (s, e));
-      lent = λ id. byTest (eqb (length store) STORE) (λ s. byTest (in_shape c) (λ i. simp (s, i, e)) (λ i. simp (s, i, e))) (λ s. simp (s, e));
-      call = λ id. byTest (in_shape c) (λ i. simp (i, e)) (λ i. simp (i, e));
-      count = byTest (in_shape c) (λ i. simp (i, e)) (λ i. simp (i, e));
+      step = by_test (eqb (length store) STORE) (λ s. by_test (in_shape c) (λ i. simp (s, i, e)) (λ i. simp (s, i, e))) (λ s. simp (s, e));
+      lent = λ id. by_test (eqb (length store) STORE) (λ s. by_test (in_shape c) (λ i. simp (s, i, e)) (λ i. simp (s, i, e))) (λ s. simp (s, e));
+      call = λ id. by_test (in_shape c) (λ i. simp (i, e)) (λ i. simp (i, e));
+      count = by_test (in_shape c) (λ i. simp (i, e)) (λ i. simp (i, e));
     }
 
 -- ---- a closed connection in shape, with a store of the right size

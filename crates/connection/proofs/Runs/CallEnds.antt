@@ -2,7 +2,7 @@
 -- without KEEP_CONN closes it.
 use Rattle.std.specs.Prelude.{◌≡◌, Bool, true, false, List, ℕ, eqb}
 use Rattle.std.proofs.Common.{arith}
-use Rattle.wire.specs.Test.{byTest}
+use Rattle.wire.specs.Test.{by_test}
 use Rattle.connection.specs.declared.state.Conn.{Conn}
 use Rattle.connection.specs.Shape.{in_shape}
 use Rattle.connection.specs.Slots.{request_at}
@@ -31,13 +31,13 @@ released_in_shape c i sized e =
 pub finish_in_shape : (c : Conn) (store : List ℕ) (id status : ℕ) (buffer : List ℕ) → Sized c.table → in_shape c ≡ true → in_shape (C.finish c store id status buffer).conn ≡ true
 unfolding C.finish C.finishes
 finish_in_shape c store id status buffer sized e =
-    byTest (eqb (C.lent_refusal c store id) 0) (λ t. simp t (go (C.slot_of c id) (request_at c.table (C.slot_of c id)).state.keep (Of.finish_in (request_at c.table (C.slot_of c id)) status buffer)))
+    by_test (eqb (C.lent_refusal c store id) 0) (λ t. simp t (go (C.slot_of c id) (request_at c.table (C.slot_of c id)).state.keep (Of.finish_in (request_at c.table (C.slot_of c id)) status buffer)))
     (λ t. simp t e)
   where
     go : (i : ℕ) (keep : Bool) (w : Of.Writing) → in_shape (C.finishes c store i keep w).conn ≡ true
     go i keep w =
-        byTest (eqb w.refusal 0)
-        (λ a. byTest keep (λ k. rw (a, k) (released_in_shape c i sized e)) (λ k. rw (a, k) closed_in_shape))
+        by_test (eqb w.refusal 0)
+        (λ a. by_test keep (λ k. rw (a, k) (released_in_shape c i sized e)) (λ k. rw (a, k) closed_in_shape))
         (λ a. rw a e)
 
 -- ---- closing
@@ -50,18 +50,18 @@ pub call_closes : (m : Memory) (id : ℕ) (a : Argument) → m.state.conn.«open
 unfolding called C.say C.end_stream C.finish C.finishes C.released
 call_closes m id (ForRead q) o e = let z : ◌≡◌ {A = ℕ} 0 1 = cc in absurd (omega arith)
 call_closes m id (ForSay output bytes buffer) o e =
-    byTest (eqb (C.call_refusal m.state.conn id) 0) (λ t. let z : ◌≡◌ {A = ℕ} 0 1 = cc (simp t at e) in absurd (omega arith)) (λ t. let z : ◌≡◌ {A = ℕ} 0 1 = cc (simp t at e) in absurd (omega arith))
+    by_test (eqb (C.call_refusal m.state.conn id) 0) (λ t. let z : ◌≡◌ {A = ℕ} 0 1 = cc (simp t at e) in absurd (omega arith)) (λ t. let z : ◌≡◌ {A = ℕ} 0 1 = cc (simp t at e) in absurd (omega arith))
 call_closes m id (ForEnd output buffer) o e =
-    byTest (eqb (C.call_refusal m.state.conn id) 0) (λ t. let z : ◌≡◌ {A = ℕ} 0 1 = cc (simp t at e) in absurd (omega arith)) (λ t. let z : ◌≡◌ {A = ℕ} 0 1 = cc (simp t at e) in absurd (omega arith))
+    by_test (eqb (C.call_refusal m.state.conn id) 0) (λ t. let z : ◌≡◌ {A = ℕ} 0 1 = cc (simp t at e) in absurd (omega arith)) (λ t. let z : ◌≡◌ {A = ℕ} 0 1 = cc (simp t at e) in absurd (omega arith))
 call_closes m id (ForFinish status buffer) o e =
     let i = C.slot_of m.state.conn id in
     let r = request_at m.state.conn.table i in
     let w = Of.finish_in r status buffer in
-    byTest r.state.keep
+    by_test r.state.keep
     (λ k.
-    byTest (eqb (C.lent_refusal m.state.conn m.store id) 0)
+    by_test (eqb (C.lent_refusal m.state.conn m.store id) 0)
     (λ t.
-    byTest (eqb w.refusal 0)
+    by_test (eqb w.refusal 0)
     (λ a. let z : ◌≡◌ {A = ℕ} 0 1 = cc (simp (t, k, a) at e) in absurd (omega arith))
     (λ a. let z : ◌≡◌ {A = ℕ} 0 1 = cc (simp (t, k, a) at e) in absurd (omega arith)))
     (λ t. let z : ◌≡◌ {A = ℕ} 0 1 = cc (simp t at e) in absurd (omega arith)))

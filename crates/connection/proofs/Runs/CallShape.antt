@@ -4,7 +4,7 @@ use Rattle.std.proofs.Common.{ap, sym, ◌∙◌, arith, eqb-true}
 use Rattle.std.proofs.lemmas.List.{length-replicate}
 use Rattle.std.proofs.Math.Seq.{set-get_or}
 use Rattle.std.proofs.lemmas.Bool.{eqb-false}
-use Rattle.wire.specs.Test.{byTest}
+use Rattle.wire.specs.Test.{by_test}
 use Rattle.wire.specs.Buffer.{zeros}
 use Rattle.slot_word.specs.Word.{taken}
 use Rattle.connection.specs.declared.request.Request.{Request}
@@ -72,7 +72,7 @@ pub record HeldElsewhere (t : Table) (i id j : ℕ) : Type 0 where
 -- What it holds.
 pub free_holds : (t : Table) (i id j : ℕ) → Holds (free_slot t i) id j → HeldElsewhere t i id j
 unfolding request_at
-free_holds t i id j h = byTest (eqb j i) (λ e. absurd (freed (eqb-true j i e))) (λ e. elsewhere (eqb-false j i e))
+free_holds t i id j h = by_test (eqb j i) (λ e. absurd (freed (eqb-true j i e))) (λ e. elsewhere (eqb-false j i e))
   where
     freed : j ≡ i → ⊥
     freed e =
@@ -110,9 +110,9 @@ aimed_free t i (Aim.Begin id) gathered left a =
     }
 aimed_free t i Aim.Query gathered left a = a
 aimed_free t i (Aim.Params j) gathered left a =
-    byTest (eqb j i) (λ e. simp e tt) (λ e. simp e (grows_free t i j left (eqb-false j i e) a))
-aimed_free t i (Aim.Stdin j) gathered left a = byTest (eqb j i) (λ e. simp e tt) (λ e. simp e (use_free t i j (eqb-false j i e) a))
-aimed_free t i (Aim.Data j) gathered left a = byTest (eqb j i) (λ e. simp e tt) (λ e. simp e (use_free t i j (eqb-false j i e) a))
+    by_test (eqb j i) (λ e. simp e tt) (λ e. simp e (grows_free t i j left (eqb-false j i e) a))
+aimed_free t i (Aim.Stdin j) gathered left a = by_test (eqb j i) (λ e. simp e tt) (λ e. simp e (use_free t i j (eqb-false j i e) a))
+aimed_free t i (Aim.Data j) gathered left a = by_test (eqb j i) (λ e. simp e tt) (λ e. simp e (use_free t i j (eqb-false j i e) a))
 
 -- a memory whose slot i is given back
 abbrev pub without_request : Memory → ℕ → Memory

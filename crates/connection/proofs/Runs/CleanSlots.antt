@@ -3,7 +3,7 @@ use Rattle.std.specs.Prelude.{◌≡◌, refl, List, ◌∷◌, ◌++◌, Bool, 
 use Rattle.std.proofs.Common.{ap, ap₂, sym, ◌∙◌, subst, inl, inr, arith, length-append, length-take, drop_at, drop-drop, eqb-true, leb-true}
 use Rattle.std.proofs.lemmas.List.{length-replicate}
 use Rattle.std.proofs.lemmas.Bool.{eqb-false}
-use Rattle.wire.specs.Test.{byTest}
+use Rattle.wire.specs.Test.{by_test}
 use Rattle.wire.specs.Buffer.{zeros}
 use Rattle.wire.proofs.BufferLaws.{copied_room}
 use Rattle.slot_word.specs.Word.{taken}
@@ -68,12 +68,12 @@ module _ (t : Table) (store : List ℕ) (i : ℕ) (sized : Sized t) (full : leng
       record {
         free = λ j l f.
             let f' : taken j t.occupied ≡ false = ap (taken j) (sym (put_occupied t i h.request)) ∙ f in
-            byTest (eqb j i)
+            by_test (eqb j i)
             (λ e. let q : j ≡ i = eqb-true j i e in rw q (area_of_put store i h.area full low fits ∙ free (rw q at f')))
             (λ e. area_of_other store i h.area full low fits j (eqb-false j i e) ∙ c.free j l f');
         beyond = λ j l f.
             let f' : taken j t.occupied ≡ true = ap (taken j) (sym (put_occupied t i h.request)) ∙ f in
-            byTest (eqb j i)
+            by_test (eqb j i)
             (λ e. let q : j ≡ i = eqb-true j i e in rw (q, request_of_put t i h.request sized low, area_of_put store i h.area full low fits) (beyond (rw q at f')))
             (λ e.
             let ne = eqb-false j i e in
@@ -90,7 +90,7 @@ unfolding grown
 grown_none h x t = simp t
 
 grown_zero : (h : Held) (x : List ℕ) → length h.area ≡ AREA → ZeroBeyond h → ZeroBeyond (grown h x)
-grown_zero h x size z = byTest (leb (h.request.length + length x) AREA) room none
+grown_zero h x size z = by_test (leb (h.request.length + length x) AREA) room none
   where
     room : leb (h.request.length + length x) AREA ≡ true → ZeroBeyond (grown h x)
     room t =
@@ -118,11 +118,11 @@ clean_take : (t : Table) (store : List ℕ) → Sized t → CleanSlots t store �
 clean_take t store sized c low r empty =
     record {
       free = λ j l f.
-          byTest (eqb j k)
+          by_test (eqb j k)
           (λ e. let q : j ≡ k = eqb-true j k e in rw q (c.free k low (least_free SLOTS t.occupied low)))
           (λ e. c.free j l (sym (taken_of_take_other t k j r (eqb-false j k e)) ∙ f));
       beyond = λ j l f.
-          byTest (eqb j k)
+          by_test (eqb j k)
           (λ e. let q : j ≡ k = eqb-true j k e in rw (q, request_of_take t k r sized low, empty) (c.free k low (least_free SLOTS t.occupied low)))
           (λ e.
           let ne = eqb-false j k e in
@@ -137,11 +137,11 @@ pub clean_free : (t : Table) (store : List ℕ) (i : ℕ) → length store ≡ S
 clean_free t store i full low c =
     record {
       free = λ j l f.
-          byTest (eqb j i)
+          by_test (eqb j i)
           (λ e. let q : j ≡ i = eqb-true j i e in rw q (area_of_put store i area full low size ∙ ap (λ k. zeros k) (area_length store i full low)))
           (λ e. let ne = eqb-false j i e in area_of_other store i area full low size j ne ∙ c.free j l (sym (taken_of_free_other t i j ne) ∙ f));
       beyond = λ j l f.
-          byTest (eqb j i)
+          by_test (eqb j i)
           (λ e. let q : j ≡ i = eqb-true j i e in true_false (sym (rw q at f) ∙ taken_of_free t i low))
           (λ e.
           let ne = eqb-false j i e in

@@ -3,7 +3,7 @@ use Rattle.std.specs.Prelude.{◌≡◌, refl, ◌⊎◌, List, [], ◌∷◌, �
 use Rattle.std.proofs.Common.{ap, ap₂, sym, ◌∙◌, inl, inr, arith, eqb-true, eq-eqb}
 use Rattle.std.proofs.Math.Path.{subst}
 use Rattle.std.proofs.lemmas.Bool.{eqb-false}
-use Rattle.wire.specs.Test.{byTest}
+use Rattle.wire.specs.Test.{by_test}
 use Rattle.record.specs.Names.{STDIN, DATA}
 use Rattle.connection.specs.declared.request.Request.{Request}
 use Rattle.connection.specs.declared.request.Shown.{Shown}
@@ -38,7 +38,7 @@ record Alike (r q : Request) : Type 0 where
 -- a request that writes keeps its id and its counts
 writes_alike : (n : ℕ) (bytes : List ℕ) (after r : Request) (buffer : List ℕ) → Alike r after → Alike r (Of.writes n bytes after r buffer).request
 unfolding Of.writes
-writes_alike n bytes after r buffer l = byTest (eqb n 0) (λ e. simp e l) (λ e. simp e (record { id = refl; shown = refl }))
+writes_alike n bytes after r buffer l = by_test (eqb n 0) (λ e. simp e l) (λ e. simp e (record { id = refl; shown = refl }))
 
 say_alike : (r : Request) (output : Output) (bytes buffer : List ℕ) → Alike r (Of.say_in r output bytes buffer).request
 unfolding Of.say_in Of.said_on
@@ -64,7 +64,7 @@ module _ (R : ℕ) (c : Shown) where
   finish_counts : (conn : Conn) (store : List ℕ) (id status : ℕ) (buffer : List ℕ) → CountsOf R c conn → CountsOf R c (C.finish conn store id status buffer).conn
   unfolding C.released
   finish_counts conn store id status buffer counts =
-      byTest (eqb w.refusal 0)
+      by_test (eqb w.refusal 0)
       (λ t. let d = finish_done conn store id status buffer (eqb-true w.refusal 0 t) in done d d.way)
       (λ t. subst (CountsOf R c) (sym (finish_refused conn store id status buffer (eqb-false w.refusal 0 t)).0) counts)
     where
@@ -85,14 +85,14 @@ module _ (R : ℕ) (c : Shown) where
       let conn = m.state.conn in
       let j = C.slot_of conn id in
       let r = request_at conn.table j in
-      byTest (eqb (C.call_refusal conn id) 0)
+      by_test (eqb (C.call_refusal conn id) 0)
       (λ t. simp t (written_counts conn j (Of.say_in r output bytes buffer) sized (say_alike r output bytes buffer) counts))
       (λ t. simp t counts)
   call_counts m id (ForEnd output buffer) sized counts =
       let conn = m.state.conn in
       let j = C.slot_of conn id in
       let r = request_at conn.table j in
-      byTest (eqb (C.call_refusal conn id) 0)
+      by_test (eqb (C.call_refusal conn id) 0)
       (λ t. simp t (written_counts conn j (Of.end_in r output buffer) sized (end_alike r output buffer) counts))
       (λ t. simp t counts)
   call_counts m id (ForFinish status buffer) sized counts = finish_counts m.state.conn m.store id status buffer counts

@@ -3,7 +3,7 @@ use Rattle.std.specs.Prelude.{◌≡◌, refl, ◌⊎◌, List, Bool, true, fals
 use Rattle.std.proofs.Common.{ap, sym, ◌∙◌, inl, inr, arith, eq-eqb, eqb-true}
 use Rattle.std.proofs.Math.Option.{none}
 use Rattle.std.proofs.lemmas.Bool.{eqb-false}
-use Rattle.wire.specs.Test.{byTest}
+use Rattle.wire.specs.Test.{by_test}
 use Rattle.wire.specs.Buffer.{zeros}
 use Rattle.slot_word.specs.Word.{taken}
 use Rattle.connection.specs.declared.state.Slot.{Slot}
@@ -34,13 +34,13 @@ pub record Admitted (c : Conn) (store : List ℕ) (id : ℕ) : Type 0 where
 pub lent_admitted : (c : Conn) (store : List ℕ) (id : ℕ) → C.lent_refusal c store id ≡ 0 → Admitted c store id
 unfolding C.lent_refusal
 lent_admitted c store id e =
-    byTest (eqb (length store) STORE)
+    by_test (eqb (length store) STORE)
     (λ s.
-    byTest (in_shape c)
+    by_test (in_shape c)
     (λ i.
-    byTest c.«open»
+    by_test c.«open»
     (λ o.
-    byTest (is_found (find c.table id))
+    by_test (is_found (find c.table id))
     (λ f. let w = found_true (find c.table id) f in record { fits = record { size = eqb-true (length store) STORE s; shape = i; is_open = o }; slot = w.0; found = w.1 })
     (λ f. let z : ◌≡◌ {A = ℕ} 3 0 = simp (s, i, o, f) at e in absurd (omega arith)))
     (λ o. let z : ◌≡◌ {A = ℕ} 1 0 = simp (s, i, o) at e in absurd (omega arith)))
@@ -75,7 +75,7 @@ pub finish_done : (c : Conn) (store : List ℕ) (id status : ℕ) (buffer : List
     → Done c store id (C.finish c store id status buffer)
 unfolding C.finish
 finish_done c store id status buffer e =
-    byTest (eqb (C.lent_refusal c store id) 0)
+    by_test (eqb (C.lent_refusal c store id) 0)
     (λ t.
     let a = lent_admitted c store id (eqb-true (C.lent_refusal c store id) 0 t) in
     let i = a.slot in
@@ -101,11 +101,11 @@ pub finish_refused : (c : Conn) (store : List ℕ) (id status : ℕ) (buffer : L
     → ((C.finish c store id status buffer).conn ≡ c) × ((C.finish c store id status buffer).store ≡ store)
 unfolding C.finish C.finishes
 finish_refused c store id status buffer e =
-    byTest (eqb (C.lent_refusal c store id) 0)
+    by_test (eqb (C.lent_refusal c store id) 0)
     (λ t.
     let r = request_at c.table (C.slot_of c id) in
     let w = Of.finish_in r status buffer in
-    byTest (eqb w.refusal 0)
+    by_test (eqb w.refusal 0)
     (λ n. absurd (e (simp t (finishes_number c store (C.slot_of c id) r.state.keep w ∙ eqb-true w.refusal 0 n))))
     (λ n. simp (t, n) (refl, refl)))
     (λ t. simp t (refl, refl))
@@ -138,4 +138,4 @@ unfolding memory_after called request_of
 finished_nowhere m R status buffer e =
     let w = C.finish m.state.conn m.store R status buffer in
     let nowhere = finish_frees m.state.conn m.store R w (finish_done m.state.conn m.store R status buffer e) in
-    (nowhere, byTest w.conn.«open» (λ o. rw (o, nowhere)) (λ o. rw o))
+    (nowhere, by_test w.conn.«open» (λ o. rw (o, nowhere)) (λ o. rw o))

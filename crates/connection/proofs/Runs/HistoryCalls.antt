@@ -1,12 +1,12 @@
 -- Whether R takes PARAMS, and where a byte stands, as the history says it: for calls, and for every item.
-use Rattle.std.specs.Prelude.{◌≡◌, List, [], ◌∷◌, Bool, set, ◌⊎◌}
+use Rattle.std.specs.Prelude.{◌≡◌, List, [], ◌∷◌, Bool, set, ◌⊎◌, if◌then◌else◌}
 use Rattle.std.proofs.Math.Path.{refl, ap, sym, subst}
 use Rattle.std.proofs.Common.{◌∙◌, arith, inl, inr}
 use Rattle.std.proofs.Math.Option.{none, some}
 use Rattle.std.proofs.Math.Bool.{true, false}
 use Prim.Native.Nat.{ℕ, zero, suc}
 use Rattle.std.proofs.Math.Dec.{eqb}
-use Rattle.wire.specs.Test.{if◌then◌else◌, byTest}
+use Rattle.wire.specs.Test.{by_test}
 use Rattle.machine.specs.Slots.{SlotState, Vacant, HeldBy, slot_at, Lookup, Absent, FoundAt, lookup_further, lookup, LookupRight, lookup_right, lookup_set, slot_written}
 use Rattle.machine.specs.Timeline.{Call, RequestCall, CountCall, Item, ByteItem, CallItem, Scan, ScanHeader, ScanRest}
 use Rattle.machine.specs.Machine.{CallOutcome, Stays, Retires, Leaves, Closes, Target, Skip, ToBegin, ToQuery, ToSlot, Reading, AtHeader, PastHeader, Slots, Connection, Open, Closed, CallAnswer, on_item, fresh, record_byte, reading_without, call_decided, request_called, request_found, target_without}
@@ -97,7 +97,7 @@ module _ (R : ℕ) where
   due_without T i id h (ToQuery g) d n = refl
   due_without T i id h (ToSlot j due) d n =
       let idle : is_params_of R (slot_at clean_area T i) due ≡ false = ap (λ o. is_params_of R o due) d ∙ slot_absent (HeldBy id h) due (λ q e. n (cc)) in
-      byTest (eqb i j)
+      by_test (eqb i j)
       (λ e. let k : i ≡ j = eqb-true i j e in rw e (subst (λ k. is_params_of R (slot_at clean_area T k) due ≡ false) k idle))
       (λ e. rw e (due_written T i (Vacant clean_area) (ToSlot j due) (λ u. sym (ap (λ o. is_params_of R o u) d ∙ slot_absent (HeldBy id h) u (λ q e. n (cc))))))
 
@@ -119,9 +119,9 @@ module _ (R : ℕ) where
       other e = let n = eqb-false id R e in takes_same R T (set T i (HeldBy id q)) (lookup_set clean_area R T i (HeldBy id q) (other_slot R T i id h d n) n)
 
       same : takes_among R (set T i (HeldBy id q)) ≡ takes_among R T
-      same = byTest (eqb id R) own other
+      same = by_test (eqb id R) own other
   tracks_answer (Retires q n) i id h a T F m t d k l p w = absurd k
-  tracks_answer (Leaves n) i id h a T F m t d k l p w = byTest (eqb id R) own other
+  tracks_answer (Leaves n) i id h a T F m t d k l p w = by_test (eqb id R) own other
     where
       own : eqb id R ≡ true → Tracks R T m (Open (set T i (Vacant clean_area)) (reading_without receiver i F), some (CallAnswer id a n (some h) none))
       own e =

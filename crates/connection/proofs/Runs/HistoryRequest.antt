@@ -1,8 +1,8 @@
 -- What the rules for one request do to its list, and to whether it takes PARAMS: both are told.
-use Rattle.std.specs.Prelude.{◌≡◌, refl, List, [], ◌∷◌, ◌++◌, Bool, true, false, ℕ, ◌+◌, ◌≤◌, ◌<◌, length, take, drop, eqb, leb}
+use Rattle.std.specs.Prelude.{◌≡◌, refl, List, [], ◌∷◌, ◌++◌, Bool, true, false, ℕ, ◌+◌, ◌≤◌, ◌<◌, length, take, drop, eqb, leb, if◌then◌else◌}
 use Rattle.std.proofs.Common.{ap, arith, length-append, length-take, take_at, eq-eqb}
 use Rattle.std.proofs.Math.Option.{Option, none, some}
-use Rattle.wire.specs.Test.{if◌then◌else◌, byTest}
+use Rattle.wire.specs.Test.{by_test}
 use Rattle.wire.proofs.BufferLaws.{copied_room}
 use Rattle.record.specs.Names.{RESPONDER, AUTHORIZER, FILTER, PARAMS}
 use Rattle.record.specs.Body.{begin_body_of}
@@ -51,9 +51,9 @@ begins_as id body role = (refl, λ x. refl)
 pub begins : (id : ℕ) (body : List ℕ) → BeginsAnew (receive_begin id body)
 unfolding receive_begin
 begins id body =
-    byTest (eqb (begin_body_of body).role RESPONDER) (λ a. simp a (begins_as id body Role.Responder))
-    (λ a. byTest (eqb (begin_body_of body).role AUTHORIZER) (λ b. simp (a, b) (begins_as id body Role.Authorizer))
-    (λ b. byTest (eqb (begin_body_of body).role FILTER) (λ c. simp (a, b, c) (begins_as id body Role.Filter)) (λ c. simp (a, b, c) refl)))
+    by_test (eqb (begin_body_of body).role RESPONDER) (λ a. simp a (begins_as id body Role.Responder))
+    (λ a. by_test (eqb (begin_body_of body).role AUTHORIZER) (λ b. simp (a, b) (begins_as id body Role.Authorizer))
+    (λ b. by_test (eqb (begin_body_of body).role FILTER) (λ c. simp (a, b, c) (begins_as id body Role.Filter)) (λ c. simp (a, b, c) refl)))
 
 -- a call keeps the list, or the request is finished
 abbrev pub CallKeeps : Held → CallOutcome Held Answer → Type 0
@@ -143,7 +143,7 @@ takes_header kind n h = of (on_header kind n h) (header_rule kind n h)
 -- PARAMS content
 pub takes_grown : (h : Held) (x : List ℕ) → takes (grown h x) ≡ takes h
 unfolding grown
-takes_grown h x = byTest (leb (h.request.length + length x) AREA) (λ e. simp e) (λ e. simp e)
+takes_grown h x = by_test (leb (h.request.length + length x) AREA) (λ e. simp e) (λ e. simp e)
 
 -- a BEGIN body
 abbrev pub TakesNew : BeginOutcome (List ℕ) Held Note → Type 0
@@ -157,9 +157,9 @@ takes_as id body role = ((λ k. refl), λ x. refl)
 pub takes_new : (id : ℕ) (body : List ℕ) → TakesNew (receive_begin id body)
 unfolding receive_begin
 takes_new id body =
-    byTest (eqb (begin_body_of body).role RESPONDER) (λ a. simp a (takes_as id body Role.Responder))
-    (λ a. byTest (eqb (begin_body_of body).role AUTHORIZER) (λ b. simp (a, b) (takes_as id body Role.Authorizer))
-    (λ b. byTest (eqb (begin_body_of body).role FILTER) (λ c. simp (a, b, c) (takes_as id body Role.Filter)) (λ c. simp (a, b, c) (λ k. refl))))
+    by_test (eqb (begin_body_of body).role RESPONDER) (λ a. simp a (takes_as id body Role.Responder))
+    (λ a. by_test (eqb (begin_body_of body).role AUTHORIZER) (λ b. simp (a, b) (takes_as id body Role.Authorizer))
+    (λ b. by_test (eqb (begin_body_of body).role FILTER) (λ c. simp (a, b, c) (takes_as id body Role.Filter)) (λ c. simp (a, b, c) (λ k. refl))))
 
 -- calls
 abbrev pub CallTakes : Held → CallOutcome Held Answer → Type 0
@@ -171,7 +171,7 @@ CallTakes h (Closes n) = Unit {0}
 takes_writes : (n : ℕ) (bytes : List ℕ) (after r : Request) (buffer area : List ℕ) → takes (record { request = after; area = area }) ≡ takes (record { request = r; area = area })
     → takes (record { request = (Of.writes n bytes after r buffer).request; area = area }) ≡ takes (record { request = r; area = area })
 unfolding Of.writes
-takes_writes n bytes after r buffer area s = byTest (eqb n 0) (λ e. simp e s) (λ e. simp e)
+takes_writes n bytes after r buffer area s = by_test (eqb n 0) (λ e. simp e s) (λ e. simp e)
 
 takes_finished : (keep : Bool) (h : Held) (w : Of.Writing) → CallTakes h (finished_as keep h w)
 unfolding finished_as

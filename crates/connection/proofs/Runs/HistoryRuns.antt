@@ -1,11 +1,10 @@
 -- After any operations of a run R's area up to R's length holds exactly R's parameters by history.
-use Rattle.std.specs.Prelude.{◌≡◌, false, ℕ, suc, ◌<◌, length}
+use Rattle.std.specs.Prelude.{◌≡◌, false, ℕ, suc, ◌<◌, length, if◌then◌else◌}
 use Rattle.std.proofs.Math.Path.{refl, ap, ap₂, sym, subst}
 use Rattle.std.proofs.Common.{◌∙◌, arith, length-take-le, ne_eqb}
 use mathlib.Core.List.{List, [], ◌∷◌, ◌++◌, append-nil}
 use Rattle.std.proofs.Math.Option.{some}
 use Rattle.std.proofs.Math.ListN.{take}
-use Rattle.wire.specs.Test.{if◌then◌else◌}
 use Rattle.record_reader.specs.Position.{advanced}
 use Rattle.record_reader.specs.declared.Position.{Position}
 use Rattle.record_reader.specs.declared.Advanced.{Advanced}

@@ -1,5 +1,5 @@
 -- Whether R takes PARAMS, and where a byte stands, as the history says it: for headers and content.
-use Rattle.std.specs.Prelude.{◌≡◌, List, [], ◌∷◌, ◌++◌, Bool, length, ltb}
+use Rattle.std.specs.Prelude.{◌≡◌, List, [], ◌∷◌, ◌++◌, Bool, length, ltb, if◌then◌else◌}
 use Rattle.std.proofs.Math.Path.{refl, ap, sym, subst}
 use Rattle.std.proofs.Common.{◌∙◌, arith}
 use Rattle.std.proofs.Math.Option.{Option, none, some}
@@ -7,7 +7,7 @@ use Rattle.std.proofs.Math.Bool.{true, false}
 use Prim.Native.Nat.{ℕ, zero, suc, ◌<◌}
 use Rattle.std.proofs.Math.ListN.{set}
 use Rattle.std.proofs.Math.Dec.{eqb}
-use Rattle.wire.specs.Test.{if◌then◌else◌, byTest}
+use Rattle.wire.specs.Test.{by_test}
 use Rattle.record.specs.Names.{PARAMS, STDIN, DATA}
 use Rattle.machine.specs.Slots.{SlotState, Vacant, HeldBy, slot_at, Lookup, Absent, FoundAt, Vacancy, NoVacancy, VacancyAt, lookup, first_vacancy, OfOthers, LookupRight, lookup_right, lookup_set, slot_written, vacancy_further}
 use Rattle.machine.specs.Timeline.{header_version, header_type, header_id, header_content, header_padding, Scan, ScanHeader, ScanRest, scan_left}
@@ -97,7 +97,7 @@ module _ (R : ℕ) where
 
   not_own : (T : Slots receiver) (h : List ℕ) → (header_id h ≡ R → takes_among T ≡ false) → (if is_params_header R h then takes_among T else false) ≡ false
   not_own T h f =
-      byTest (eqb (header_id h) R) (λ e. rw (e, f (eqb-true (header_id h) R e)) (sym (off (eqb (header_type h) PARAMS)))) (λ e. rw e)
+      by_test (eqb (header_id h) R) (λ e. rw (e, f (eqb-true (header_id h) R e)) (sym (off (eqb (header_type h) PARAMS)))) (λ e. rw e)
 
   tracks_query : (o : QueryOutcome Notice) (T : Slots receiver) (F : Reading receiver) (m : Scan) → Placed T F m → Tracks T m (query_whole receiver o T F)
   unfolding query_whole
@@ -146,7 +146,7 @@ module _ (R : ℕ) where
   takes_put : (T : Slots receiver) (i id : ℕ) (h q : Held) (e : Event) (b : ℕ) → SlotsOk receiver receiver_laws T → SlotsOk receiver receiver_laws (set T i (HeldBy id q))
       → slot_at clean_area T i ≡ HeldBy id h → takes q ≡ takes_after e (takes h)
       → takes_then R (event_from receiver id (note_of e b)) (takes_among T) ≡ takes_among (set T i (HeldBy id q))
-  takes_put T i id h q e b t u d l = byTest (eqb id R) own other
+  takes_put T i id h q e b t u d l = by_test (eqb id R) own other
     where
       own : eqb id R ≡ true → takes_then R (event_from receiver id (note_of e b)) (takes_among T) ≡ takes_among (set T i (HeldBy id q))
       own w =
@@ -165,7 +165,7 @@ module _ (R : ℕ) where
   due_target : (T : Slots receiver) (i id : ℕ) (q : Held) (due : Due) → slot_at clean_area T i ≡ HeldBy id q → due_for T (target_at receiver i (due_stream due)) ≡ (if eqb id R then is_params_due due else false)
   unfolding target_at
   due_target T i id q Due.Skip e = off (eqb id R)
-  due_target T i id q Due.Params e = ap (λ s. is_params_of R s Due.Params) e ∙ byTest (eqb id R) (λ w. rw w) (λ w. rw w)
+  due_target T i id q Due.Params e = ap (λ s. is_params_of R s Due.Params) e ∙ by_test (eqb id R) (λ w. rw w) (λ w. rw w)
   due_target T i id q Due.Stdin e = ap (λ s. is_params_of R s Due.Stdin) e ∙ off (eqb id R)
   due_target T i id q Due.Data e = ap (λ s. is_params_of R s Due.Data) e ∙ off (eqb id R)
 
@@ -186,7 +186,7 @@ module _ (R : ℕ) where
       let other : eqb (header_id h) R ≡ false → (if is_params_header R h then takes_among T' else false) ≡ due_for T' (target_at receiver i (due_stream u.due)) =
       λ e. rw (due_target T' i (header_id h) u.held u.due there, e) in (
         takes_put T i (header_id h) r u.held u.event 0 t w.0 d x.told,
-        placed_left T' (target_at receiver i (due_stream u.due)) (is_params_header R h) (header_content h) (header_padding h) (λ z. byTest (eqb (header_id h) R) (own z) other),
+        placed_left T' (target_at receiver i (due_stream u.due)) (is_params_header R h) (header_content h) (header_padding h) (λ z. by_test (eqb (header_id h) R) (own z) other),
       )
 
   tracks_found : (o : Lookup Held) (T : Slots receiver) (h : List ℕ) → SlotsOk receiver receiver_laws T → lookup (header_id h) T ≡ o → LookupRight clean_area (header_id h) T o
@@ -222,8 +222,8 @@ module _ (R : ℕ) where
       → ((T' : Slots receiver) → Placed T' F m) → EffectOk receiver receiver_laws (request_seated receiver o id r e T F)
       → Tracks T m (request_seated receiver o id r e T F)
   unfolding request_seated
-  tracks_seated NoVacancy id r e T F m t v y f l d w = (byTest (eqb id R) (λ z. rw z) (λ z. rw z), d T)
-  tracks_seated (VacancyAt i x) id r e T F m t v y f l d w = (byTest (eqb id R) own other, d (set T i (HeldBy id (r x))))
+  tracks_seated NoVacancy id r e T F m t v y f l d w = (by_test (eqb id R) (λ z. rw z) (λ z. rw z), d T)
+  tracks_seated (VacancyAt i x) id r e T F m t v y f l d w = (by_test (eqb id R) own other, d (set T i (HeldBy id (r x))))
     where
       own : eqb id R ≡ true → (if eqb id R then takes_told e (takes_among T) else takes_among T) ≡ takes_among (set T i (HeldBy id (r x)))
       own z =
@@ -241,7 +241,7 @@ module _ (R : ℕ) where
       → ((T' : Slots receiver) → Placed T' F m) → EffectOk receiver receiver_laws (begin_whole receiver o id T F)
       → Tracks T m (begin_whole receiver o id T F)
   unfolding begin_whole
-  tracks_begin (Declined e) id T F m t f d w = (byTest (eqb id R) (λ z. rw z (f (takes_among T))) (λ z. rw z), d T)
+  tracks_begin (Declined e) id T F m t f d w = (by_test (eqb id R) (λ z. rw z (f (takes_among T))) (λ z. rw z), d T)
   tracks_begin (Accepted r e) id T F m t f d w = tracks_seated (first_vacancy T) id r e T F m t (vacancy_there receiver T) (vacancy_written T) f.0 f.1 d w
 
   pub same_due : (id : ℕ) (h q : Held) (due : Due) → is_params_of R (HeldBy id h) due ≡ is_params_of R (HeldBy id q) due
@@ -268,7 +268,7 @@ module _ (R : ℕ) where
 
   shown : (id j stream b : ℕ) (k : Bool) → takes_then R (event_from receiver id (some (Note.Shown j stream b))) k ≡ k
   unfolding event_from
-  shown id j stream b k = byTest (eqb id R) (λ z. rw z) (λ z. rw z)
+  shown id j stream b k = by_test (eqb id R) (λ z. rw z) (λ z. rw z)
 
   tracks_stream : (due : Due) (i c p b id : ℕ) (h : Held) (T : Slots receiver) (own : Bool) → SlotsOk receiver receiver_laws T → slot_at clean_area T i ≡ HeldBy id h
       → (if own then takes_among T else false) ≡ due_for T (ToSlot i due) → EffectOk receiver receiver_laws (stream_byte receiver (HeldBy id h) i due c p b T)

@@ -1,10 +1,10 @@
 -- What is told and answered does to R's parameters what the machine's observations of it do.
-use Rattle.std.specs.Prelude.{◌≡◌, Bool, true, false, ℕ, zero, suc, take, eqb}
+use Rattle.std.specs.Prelude.{◌≡◌, Bool, true, false, ℕ, zero, suc, take, eqb, if◌then◌else◌}
 use Rattle.std.proofs.Math.Path.{refl, ap, ap₂, sym}
 use Rattle.std.proofs.Common.{◌∙◌}
 use mathlib.Core.List.{List, [], ◌∷◌, ◌++◌, map, append-nil}
 use Rattle.std.proofs.Math.Option.{Option, none, some}
-use Rattle.wire.specs.Test.{if◌then◌else◌, byTest}
+use Rattle.wire.specs.Test.{by_test}
 use Rattle.machine.specs.Timeline.{Item, ByteItem, CallItem, Scan, ScanHeader, ScanRest}
 use Rattle.machine.specs.Machine.{Observation, RequestEvent, NoticeEvent, CloseEvent, CountAnswer, CallAnswer, as_list}
 use Rattle.connection.specs.Event.{Event}
@@ -109,46 +109,46 @@ module _ (R : ℕ) where
   takes_told_lem : (id : ℕ) (e : Event) (h : History)
       → takes_then R (some (RequestEvent id (Note.Told e))) h.takes ≡ (changed (change_seen (told (RequestEvent id (Note.Told e)))) h).takes
   unfolding change_seen change_then
-  takes_told_lem id Event.None h = byTest (eqb id R) (λ w. rw w) (λ w. rw w)
-  takes_told_lem id (Event.Open j role keep) h = byTest (eqb id R) (λ w. rw w) (λ w. rw w)
-  takes_told_lem id (Event.Ready j n) h = byTest (eqb id R) (λ w. rw w) (λ w. rw w)
-  takes_told_lem id (Event.Data j stream n) h = byTest (eqb id R) (λ w. rw w) (λ w. rw w)
-  takes_told_lem id (Event.End j stream measure) h = byTest (eqb id R) (λ w. rw w) (λ w. rw w)
-  takes_told_lem id (Event.Abort j) h = byTest (eqb id R) (λ w. rw w) (λ w. rw w)
-  takes_told_lem id (Event.Refuse j n) h = byTest (eqb id R) (λ w. rw w) (λ w. rw w)
-  takes_told_lem id (Event.Fault j n) h = byTest (eqb id R) (λ w. rw w) (λ w. rw w)
-  takes_told_lem id (Event.Query conns reqs mpxs) h = byTest (eqb id R) (λ w. rw w) (λ w. rw w)
-  takes_told_lem id (Event.Unknown kind) h = byTest (eqb id R) (λ w. rw w) (λ w. rw w)
-  takes_told_lem id (Event.Closed n) h = byTest (eqb id R) (λ w. rw w) (λ w. rw w)
+  takes_told_lem id Event.None h = by_test (eqb id R) (λ w. rw w) (λ w. rw w)
+  takes_told_lem id (Event.Open j role keep) h = by_test (eqb id R) (λ w. rw w) (λ w. rw w)
+  takes_told_lem id (Event.Ready j n) h = by_test (eqb id R) (λ w. rw w) (λ w. rw w)
+  takes_told_lem id (Event.Data j stream n) h = by_test (eqb id R) (λ w. rw w) (λ w. rw w)
+  takes_told_lem id (Event.End j stream measure) h = by_test (eqb id R) (λ w. rw w) (λ w. rw w)
+  takes_told_lem id (Event.Abort j) h = by_test (eqb id R) (λ w. rw w) (λ w. rw w)
+  takes_told_lem id (Event.Refuse j n) h = by_test (eqb id R) (λ w. rw w) (λ w. rw w)
+  takes_told_lem id (Event.Fault j n) h = by_test (eqb id R) (λ w. rw w) (λ w. rw w)
+  takes_told_lem id (Event.Query conns reqs mpxs) h = by_test (eqb id R) (λ w. rw w) (λ w. rw w)
+  takes_told_lem id (Event.Unknown kind) h = by_test (eqb id R) (λ w. rw w) (λ w. rw w)
+  takes_told_lem id (Event.Closed n) h = by_test (eqb id R) (λ w. rw w) (λ w. rw w)
 
   list_told : (id : ℕ) (e : Event) (h : History)
       → (if empties_any R (some (RequestEvent id (Note.Told e))) then [] else h.parameters) ≡ (changed (change_seen (told (RequestEvent id (Note.Told e)))) h).parameters
   unfolding change_seen change_then
-  list_told id Event.None h = byTest (eqb id R) (λ w. rw w) (λ w. rw w)
-  list_told id (Event.Open j role keep) h = byTest (eqb id R) (λ w. rw w) (λ w. rw w)
-  list_told id (Event.Ready j n) h = byTest (eqb id R) (λ w. rw w) (λ w. rw w)
-  list_told id (Event.Data j stream n) h = byTest (eqb id R) (λ w. rw w) (λ w. rw w)
-  list_told id (Event.End j stream measure) h = byTest (eqb id R) (λ w. rw w) (λ w. rw w)
-  list_told id (Event.Abort j) h = byTest (eqb id R) (λ w. rw w) (λ w. rw w)
-  list_told id (Event.Refuse j n) h = byTest (eqb id R) (λ w. rw w) (λ w. rw w)
-  list_told id (Event.Fault j n) h = byTest (eqb id R) (λ w. rw w) (λ w. rw w)
-  list_told id (Event.Query conns reqs mpxs) h = byTest (eqb id R) (λ w. rw w) (λ w. rw w)
-  list_told id (Event.Unknown kind) h = byTest (eqb id R) (λ w. rw w) (λ w. rw w)
-  list_told id (Event.Closed n) h = byTest (eqb id R) (λ w. rw w) (λ w. rw w)
+  list_told id Event.None h = by_test (eqb id R) (λ w. rw w) (λ w. rw w)
+  list_told id (Event.Open j role keep) h = by_test (eqb id R) (λ w. rw w) (λ w. rw w)
+  list_told id (Event.Ready j n) h = by_test (eqb id R) (λ w. rw w) (λ w. rw w)
+  list_told id (Event.Data j stream n) h = by_test (eqb id R) (λ w. rw w) (λ w. rw w)
+  list_told id (Event.End j stream measure) h = by_test (eqb id R) (λ w. rw w) (λ w. rw w)
+  list_told id (Event.Abort j) h = by_test (eqb id R) (λ w. rw w) (λ w. rw w)
+  list_told id (Event.Refuse j n) h = by_test (eqb id R) (λ w. rw w) (λ w. rw w)
+  list_told id (Event.Fault j n) h = by_test (eqb id R) (λ w. rw w) (λ w. rw w)
+  list_told id (Event.Query conns reqs mpxs) h = by_test (eqb id R) (λ w. rw w) (λ w. rw w)
+  list_told id (Event.Unknown kind) h = by_test (eqb id R) (λ w. rw w) (λ w. rw w)
+  list_told id (Event.Closed n) h = by_test (eqb id R) (λ w. rw w) (λ w. rw w)
 
   -- a finish, or any other answer
   takes_finish : (id : ℕ) (done closed : Bool) (h : History)
       → (if done then (if closed then false else if eqb id R then false else h.takes) else h.takes)
       ≡ (changed (if done then (if closed then Drops else if eqb id R then Drops else Keeps) else Keeps) h).takes
   takes_finish id true true h = refl
-  takes_finish id true false h = byTest (eqb id R) (λ w. rw w) (λ w. rw w)
+  takes_finish id true false h = by_test (eqb id R) (λ w. rw w) (λ w. rw w)
   takes_finish id false closed h = refl
 
   list_finish : (id : ℕ) (done closed : Bool) (h : History)
       → (if (if done then (if closed then true else eqb id R) else false) then [] else h.parameters)
       ≡ (changed (if done then (if closed then Drops else if eqb id R then Drops else Keeps) else Keeps) h).parameters
   list_finish id true true h = refl
-  list_finish id true false h = byTest (eqb id R) (λ w. rw w) (λ w. rw w)
+  list_finish id true false h = by_test (eqb id R) (λ w. rw w) (λ w. rw w)
   list_finish id false closed h = refl
 
   takes_answer : (id : ℕ) (n : Answer) (h : History)
@@ -166,7 +166,7 @@ module _ (R : ℕ) where
   does_one : (o : Observation receiver) → DoesAs (some o) (change_seen (told o))
   unfolding change_seen change_then
   does_one (RequestEvent id (Note.Told e)) = record { takes = takes_told_lem id e; list = list_told id e }
-  does_one (RequestEvent id (Note.Shown j stream b)) = record { takes = λ h. byTest (eqb id R) (λ w. rw w) (λ w. rw w); list = λ h. byTest (eqb id R) (λ w. rw w) (λ w. rw w) }
+  does_one (RequestEvent id (Note.Shown j stream b)) = record { takes = λ h. by_test (eqb id R) (λ w. rw w) (λ w. rw w); list = λ h. by_test (eqb id R) (λ w. rw w) (λ w. rw w) }
   does_one (NoticeEvent (QueryWith list)) = record { takes = λ h. ap (λ c. (changed c h).takes) (sym (query_keeps list)); list = λ h. ap (λ c. (changed c h).parameters) (sym (query_keeps list)) }
   does_one (NoticeEvent (UnknownType kind)) = record { takes = λ h. refl; list = λ h. refl }
   does_one (CloseEvent n) = record { takes = λ h. refl; list = λ h. refl }

@@ -4,11 +4,11 @@ use Rattle.std.proofs.Math.Path.{◌≡◌, refl, ap, sym, subst}
 use Rattle.std.proofs.Common.{◌∙◌, arith, inl, inr}
 use mathlib.Core.List.{List, [], ◌∷◌, ◌++◌, append-nil}
 use Rattle.std.proofs.Math.Option.{Option, none, some}
-use Rattle.std.specs.Prelude.{Bool, length, set, ltb, ◌⊎◌}
+use Rattle.std.specs.Prelude.{Bool, length, set, ltb, ◌⊎◌, if◌then◌else◌}
 use Rattle.std.proofs.Math.Bool.{true, false}
 use Prim.Native.Nat.{ℕ, zero, suc}
 use Rattle.std.proofs.Math.Dec.{eqb}
-use Rattle.wire.specs.Test.{if◌then◌else◌, ◌=?◌, byTest}
+use Rattle.wire.specs.Test.{◌=?◌, by_test}
 use Rattle.machine.specs.Slots.{SlotState, Vacant, HeldBy, slot_at, Lookup, Absent, FoundAt, Vacancy, NoVacancy, VacancyAt, lookup, first_vacancy, OfOthers, LookupRight, lookup_right, lookup_set, slot_written}
 use Rattle.machine.specs.Timeline.{RequestCall, CountCall, Item, ByteItem, CallItem, header_version, header_type, header_id, header_content, header_padding}
 use Rattle.machine.specs.Machine.{QueryOutcome, Asks, Breaks, BeginOutcome, Declined, Accepted, CallOutcome, Stays, Retires, Leaves, Closes, Target, Skip, ToBegin, ToQuery, ToSlot, Reading, AtHeader, PastHeader, Slots, Connection, Open, Closed, Observation, RequestEvent, NoticeEvent, CloseEvent, CountAnswer, CallAnswer, on_item, InactiveOutcome, WrongBegin, NewBegin, PassedOver, ManagementOutcome, QueryTooLong, Notices, Gathers, Effect, event_from, with_left, query_whole, query_header, management_header, inactive_header, header_decided, header_found, header_routed, header_versioned, header_byte, request_seated, begin_whole, stream_byte, content_byte, record_byte, reading_without, call_decided, request_called, request_found, request_in}
@@ -155,7 +155,7 @@ module _ (R : ℕ) where
       → SlotsOk receiver receiver_laws T → SlotsOk receiver receiver_laws (set T i (HeldBy id q)) → slot_at clean_area T i ≡ HeldBy id h
       → (id ≡ R → list_of q ≡ (if opens_or_faults e then [] else list_of h ++ content)) → (eqb id R ≡ false → content ≡ [])
       → Follows T content (Open (set T i (HeldBy id q)) F, event_from receiver id (note_of e b))
-  follows_decided T F i id h q e b content t u d l c = byTest (eqb id R) own other
+  follows_decided T F i id h q e b content t u d l c = by_test (eqb id R) own other
     where
       own : eqb id R ≡ true → Follows T content (Open (set T i (HeldBy id q)) F, event_from receiver id (note_of e b))
       own w =
@@ -226,8 +226,8 @@ module _ (R : ℕ) where
       → IsAbsent receiver receiver_laws id T → VacancyThere receiver T o → tells_anew e ≡ true → ((x : List ℕ) → list_of (r x) ≡ [])
       → Follows T [] (request_seated receiver o id r e T F)
   unfolding request_seated request_in
-  follows_seated NoVacancy id r e T F t a v f l = follows_same T T F (some (RequestEvent id (Note.Told (Event.Refuse 0 1)))) refl (byTest (eqb id R) (λ w. rw w) (λ w. rw w))
-  follows_seated (VacancyAt i x) id r e T F t a v f l = byTest (eqb id R) own other
+  follows_seated NoVacancy id r e T F t a v f l = follows_same T T F (some (RequestEvent id (Note.Told (Event.Refuse 0 1)))) refl (by_test (eqb id R) (λ w. rw w) (λ w. rw w))
+  follows_seated (VacancyAt i x) id r e T F t a v f l = by_test (eqb id R) own other
     where
       own : eqb id R ≡ true → Follows T [] (Open (set T i (HeldBy id (r x))) F, some (RequestEvent id e))
       own w =
@@ -245,7 +245,7 @@ module _ (R : ℕ) where
       → BeginsAnew o
       → Follows T [] (begin_whole receiver o id T F)
   unfolding begin_whole
-  follows_begin (Declined e) id T F t a f = follows_same T T F (some (RequestEvent id e)) refl (byTest (eqb id R) (λ w. rw (w, f)) (λ w. rw w))
+  follows_begin (Declined e) id T F t a f = follows_same T T F (some (RequestEvent id e)) refl (by_test (eqb id R) (λ w. rw (w, f)) (λ w. rw w))
   follows_begin (Accepted r e) id T F t a f = follows_seated (first_vacancy T) id r e T F t a (vacancy_there receiver T) f.0 f.1
 
   -- a byte for a stream of a request
@@ -309,7 +309,7 @@ module _ (R : ℕ) where
       → slot_at clean_area T i ≡ HeldBy id h → CallKeeps h o → EffectOk receiver receiver_laws (call_decided receiver o i h id a T F)
       → Follows T [] (call_decided receiver o i h id a T F)
   unfolding call_decided request_in
-  follows_answer (Stays q n) i id h a T F t d k w = byTest (eqb id R) own other
+  follows_answer (Stays q n) i id h a T F t d k w = by_test (eqb id R) own other
     where
       own : eqb id R ≡ true → Follows T [] (Open (set T i (HeldBy id q)) F, some (CallAnswer id a n (some h) (some q)))
       own e =
@@ -323,7 +323,7 @@ module _ (R : ℕ) where
           let m = eqb-false id R e in
           follows_same T (set T i (HeldBy id q)) F (some (CallAnswer id a n (some h) (some q))) (lookup_set clean_area R T i (HeldBy id q) (other_slot T i id h d m) m) (rw k.0)
   follows_answer (Retires q n) i id h a T F t d k w = absurd k
-  follows_answer (Leaves n) i id h a T F t d k w = byTest (eqb id R) own other
+  follows_answer (Leaves n) i id h a T F t d k w = by_test (eqb id R) own other
     where
       own : eqb id R ≡ true → Follows T [] (Open (set T i (Vacant clean_area)) (reading_without receiver i F), some (CallAnswer id a n (some h) none))
       own e =

@@ -2,7 +2,7 @@
 -- keeps nothing, and nothing is refused by 2 or 9.
 use Rattle.std.specs.Prelude.{◌≡◌, refl, List, [], ◌∷◌, ◌++◌, Bool, true, false, ◌⊎◌, ℕ, ◌-◌, ◌<◌, length, drop, eqb}
 use Rattle.std.proofs.Common.{ap, sym, ◌∙◌, subst, inl, inr, arith, eq-eqb}
-use Rattle.wire.specs.Test.{byTest}
+use Rattle.wire.specs.Test.{by_test}
 use Rattle.wire.specs.Buffer.{zeros}
 use Rattle.slot_word.specs.Word.{taken}
 use Rattle.machine.specs.Timeline.{Item}
@@ -74,7 +74,7 @@ still_open : (m : Memory) → m.state.conn.«open» ≡ true → ClosedClean m
 still_open m e = record { connection = λ c. true_false (sym e ∙ c); store = λ c. true_false (sym e ∙ c) }
 
 closed_step : (m : Memory) (piece : List ℕ) → Steady m → ClosedClean m → ClosedClean (memory_of (step_of m piece))
-closed_step m piece z c = byTest m.state.conn.«open» when_open when_closed_lem
+closed_step m piece z c = by_test m.state.conn.«open» when_open when_closed_lem
   where
     when_open : m.state.conn.«open» ≡ true → ClosedClean (memory_of (step_of m piece))
     when_open o =
@@ -94,8 +94,8 @@ closed_finish : (m : Memory) (i : ℕ) (keep : Bool) (w : Of.Writing) → m.stat
     → ClosedClean (finished_by m (C.finishes m.state.conn m.store i keep w)).memory
 unfolding C.finishes C.released
 closed_finish m i keep w o z =
-    byTest (eqb w.refusal 0)
-    (λ a. byTest keep
+    by_test (eqb w.refusal 0)
+    (λ a. by_test keep
     (λ k. rw (a, k) (record { connection = λ c. true_false (sym o ∙ c); store = λ c. true_false (sym o ∙ c) }))
     (λ k. rw (a, k) (record { connection = λ c. refl; store = λ c. ap zeros z.sizes.full })))
     (λ a. rw a (still_open m o))
@@ -108,7 +108,7 @@ closed_result m i (ForEnd output buffer) o z = record { connection = λ c. true_
 closed_result m i (ForFinish status buffer) o z = closed_finish m i _ _ o z
 
 closed_call : (m : Memory) (id : ℕ) (a : Argument) → Steady m → ClosedClean m → ClosedClean (called m id a).memory
-closed_call m id a z c = byTest m.state.conn.«open» (λ o. when_open o (find m.state.conn.table id) refl) when_closed_lem
+closed_call m id a z c = by_test m.state.conn.«open» (λ o. when_open o (find m.state.conn.table id) refl) when_closed_lem
   where
     when_open : m.state.conn.«open» ≡ true → (s : Slot) → find m.state.conn.table id ≡ s → ClosedClean (called m id a).memory
     when_open o (Slot.At i) e =
@@ -142,11 +142,11 @@ refusals : (m : Memory) → Steady m → Refusals m
 unfolding step_refusal C.count_refusal
 refusals m z =
     record {
-      step = byTest m.state.conn.«open» (λ o. inl (simp (eq-eqb (length m.store) STORE z.sizes.full, z.shape, o)))
+      step = by_test m.state.conn.«open» (λ o. inl (simp (eq-eqb (length m.store) STORE z.sizes.full, z.shape, o)))
           (λ o. inr (simp (eq-eqb (length m.store) STORE z.sizes.full, z.shape, o)));
-      lent = λ id. byTest m.state.conn.«open» (λ o. lent_open id o (find m.state.conn.table id) refl) (λ o. inr (inl (lent_closed m z id o)));
-      call = λ id. byTest m.state.conn.«open» (λ o. call_open id o (find m.state.conn.table id) refl) (λ o. inr (inl (call_closed m z id o)));
-      count = byTest m.state.conn.«open» (λ o. inl (simp (z.shape, o))) (λ o. inr (simp (z.shape, o)));
+      lent = λ id. by_test m.state.conn.«open» (λ o. lent_open id o (find m.state.conn.table id) refl) (λ o. inr (inl (lent_closed m z id o)));
+      call = λ id. by_test m.state.conn.«open» (λ o. call_open id o (find m.state.conn.table id) refl) (λ o. inr (inl (call_closed m z id o)));
+      count = by_test m.state.conn.«open» (λ o. inl (simp (z.shape, o))) (λ o. inr (simp (z.shape, o)));
     }
   where
     lent_open : (id : ℕ) → m.state.conn.«open» ≡ true → (s : Slot) → find m.state.conn.table id ≡ s

@@ -3,7 +3,7 @@ use Rattle.std.specs.Prelude.{◌≡◌, refl, ◌⊎◌, List, [], ◌∷◌, t
 use Rattle.std.proofs.Common.{ap, ap₂, sym, ◌∙◌, subst, inl, inr, arith, eq-eqb, eqb-true}
 use Rattle.std.proofs.lemmas.List.{length-replicate}
 use Rattle.std.proofs.lemmas.Bool.{eqb-false}
-use Rattle.wire.specs.Test.{byTest}
+use Rattle.wire.specs.Test.{by_test}
 use Rattle.wire.specs.Buffer.{zeros}
 use Rattle.slot_word.specs.Word.{taken}
 use Rattle.connection.specs.declared.request.Request.{Request}
@@ -84,11 +84,11 @@ orderly_put m i r low same o =
 call_slot : (c : Conn) (id : ℕ) → C.call_refusal c id ≡ 0 → C.slot_of c id < SLOTS
 unfolding C.call_refusal
 call_slot c id e =
-    byTest (is_found (find c.table id))
+    by_test (is_found (find c.table id))
     (λ f. let w = found_true (find c.table id) f in subst (λ n. n < SLOTS) (sym (slot_found c id w.0 w.1)) (find_at c.table id w.0 w.1).low)
     (λ f.
-    byTest (in_shape c)
-    (λ i. byTest c.«open» (λ o. let z : ◌≡◌ {A = ℕ} 3 0 = simp (i, o, f) at e in absurd (omega arith)) (λ o. let z : ◌≡◌ {A = ℕ} 1 0 = simp (i, o) at e in absurd (omega arith)))
+    by_test (in_shape c)
+    (λ i. by_test c.«open» (λ o. let z : ◌≡◌ {A = ℕ} 3 0 = simp (i, o, f) at e in absurd (omega arith)) (λ o. let z : ◌≡◌ {A = ℕ} 1 0 = simp (i, o) at e in absurd (omega arith)))
     (λ i. let z : ◌≡◌ {A = ℕ} 9 0 = simp i at e in absurd (omega arith)))
 
 -- ---- finish
@@ -123,7 +123,7 @@ orderly_closed m shape o =
 orderly_finish : (m : Memory) (id status : ℕ) (buffer : List ℕ) → Orderly m → Orderly (called m id (ForFinish status buffer)).memory
 unfolding called
 orderly_finish m id status buffer o =
-    byTest (eqb w.refusal 0)
+    by_test (eqb w.refusal 0)
     (λ t. let d = finish_done c m.store id status buffer (eqb-true w.refusal 0 t) in done d d.way)
     (λ t. let k = finish_refused c m.store id status buffer (eqb-false w.refusal 0 t) in subst Orderly (sym (ap₂ left k.0 k.1)) o)
   where
@@ -151,13 +151,13 @@ orderly_call m id (ForRead q) o = o
 orderly_call m id (ForSay output bytes buffer) o =
     let i = C.slot_of m.state.conn id in
     let r = request_at m.state.conn.table i in
-    byTest (eqb (C.call_refusal m.state.conn id) 0)
+    by_test (eqb (C.call_refusal m.state.conn id) 0)
     (λ t. simp t (orderly_put m i (Of.say_in r output bytes buffer).request (call_slot m.state.conn id (eqb-true (C.call_refusal m.state.conn id) 0 t)) (say_same r output bytes buffer) o))
     (λ t. simp t o)
 orderly_call m id (ForEnd output buffer) o =
     let i = C.slot_of m.state.conn id in
     let r = request_at m.state.conn.table i in
-    byTest (eqb (C.call_refusal m.state.conn id) 0)
+    by_test (eqb (C.call_refusal m.state.conn id) 0)
     (λ t. simp t (orderly_put m i (Of.end_in r output buffer).request (call_slot m.state.conn id (eqb-true (C.call_refusal m.state.conn id) 0 t)) (end_same r output buffer) o))
     (λ t. simp t o)
 orderly_call m id (ForFinish status buffer) o = orderly_finish m id status buffer o

@@ -1,5 +1,5 @@
 -- What a step leaves is what the machine comes to: frames, closes, and a whole header.
-use Rattle.std.specs.Prelude.{◌≡◌, Bool, take, eqb, ltb}
+use Rattle.std.specs.Prelude.{◌≡◌, Bool, take, eqb, ltb, if◌then◌else◌}
 use Rattle.std.proofs.Math.Path.{refl, ap, ap₂, subst}
 use Rattle.std.proofs.Common.{sym, ◌∙◌, arith, ne_eqb}
 use mathlib.Core.List.{List, [], ◌∷◌, map}
@@ -7,7 +7,7 @@ use Rattle.std.proofs.Math.Option.{Option, none, some}
 use Rattle.std.proofs.Math.Bool.{true, false}
 use Prim.Native.Nat.{ℕ, zero, suc, ◌+◌, ◌≤◌, ◌<◌}
 use Rattle.std.proofs.Math.ListN.{length, set}
-use Rattle.wire.specs.Test.{if◌then◌else◌, ◌=?◌}
+use Rattle.wire.specs.Test.{◌=?◌}
 use Rattle.wire.specs.Buffer.{byte_at}
 use Rattle.wire.specs.Number.{number2}
 use Rattle.record.specs.Names.{VERSION, BEGIN_REQUEST, GET_VALUES}
@@ -27,7 +27,7 @@ use Rattle.connection.specs.declared.state.Frame.{Frame}
 use Rattle.connection.specs.Sizes.{AREA, STORE, QUERY}
 use Rattle.connection.specs.Event.{Event}
 use Rattle.connection.specs.Request.{on_header}
-use Rattle.connection.specs.Slots.{request_at, held_at, find, onSlot}
+use Rattle.connection.specs.Slots.{request_at, held_at, find, on_slot}
 use Rattle.connection.specs.Step.{State, Left, no_body, open_with, target_if, frame_after, reads, closes, query_of, queried, on_management, on_inactive, due_to, on_active, judged}
 use Rattle.connection.specs.Bytewise.{notes}
 use Rattle.connection.proofs.Laws.SlotsLaws.{Sized, Holds, area_length, find_at}
@@ -206,7 +206,7 @@ module _ (t : Table) (f : Frame) (gathered store : List ℕ) (b : ℕ) where
           }
 
       links_found : (s : Slot) → find t id ≡ s
-          → Links (onSlot s (on_active open_at store (header_of h)) (on_inactive open_at store (header_of h))) b (header_found receiver (found_as t store s) (loaded_slots t store) h)
+          → Links (on_slot s (on_active open_at store (header_of h)) (on_inactive open_at store (header_of h))) b (header_found receiver (found_as t store s) (loaded_slots t store) h)
       unfolding header_found
       links_found (Slot.At i) e = links_active i (find_at t id i e)
       links_found Slot.Nowhere e = links_inactive
@@ -217,13 +217,13 @@ module _ (t : Table) (f : Frame) (gathered store : List ℕ) (b : ℕ) where
       links_judged = go (eqb v VERSION)
         where
           routed : (a : Bool)
-              → Links (if a then on_management open_at store (header_of h) else onSlot (find t id) (on_active open_at store (header_of h)) (on_inactive open_at store (header_of h))) b
+              → Links (if a then on_management open_at store (header_of h) else on_slot (find t id) (on_active open_at store (header_of h)) (on_inactive open_at store (header_of h))) b
               (header_routed receiver a (loaded_slots t store) h)
           routed true = links_management
           routed false =
               subst
               (λ w.
-              Links (onSlot (find t id) (on_active open_at store (header_of h)) (on_inactive open_at store (header_of h))) b
+              Links (on_slot (find t id) (on_active open_at store (header_of h)) (on_inactive open_at store (header_of h))) b
               (header_found receiver w (loaded_slots t store) h))
               (sym (lookup_loaded t store id)) (links_found (find t id) refl)
 
@@ -231,7 +231,7 @@ module _ (t : Table) (f : Frame) (gathered store : List ℕ) (b : ℕ) where
               → Links
               (if a then
               (if id =? 0 then on_management open_at store (header_of h)
-              else onSlot (find t id) (on_active open_at store (header_of h)) (on_inactive open_at store (header_of h)))
+              else on_slot (find t id) (on_active open_at store (header_of h)) (on_inactive open_at store (header_of h)))
               else closes open_at store (Plain 11)) b
               (header_versioned receiver a (loaded_slots t store) h)
           go true = routed (eqb id 0)

@@ -1,12 +1,12 @@
 -- A call is the machine's item of that call.
-use Rattle.std.specs.Prelude.{◌≡◌, List, [], ◌∷◌, Bool, ℕ, zero, suc, length, take, eqb}
+use Rattle.std.specs.Prelude.{◌≡◌, List, [], ◌∷◌, Bool, ℕ, zero, suc, length, take, eqb, if◌then◌else◌}
 use Rattle.std.proofs.Math.Path.{refl, ap, ap₂}
 use Rattle.std.proofs.Common.{sym, ◌∙◌, subst, append-nil, arith, eq-eqb, ne_eqb, eqb-true}
 use Rattle.std.proofs.Math.Option.{none, some}
 use Rattle.std.proofs.Math.Bool.{true, false}
 use Rattle.std.proofs.Math.ListN.{set}
 use Rattle.std.proofs.lemmas.Bool.{eqb-false}
-use Rattle.wire.specs.Test.{if◌then◌else◌, ◌=?◌, byTest}
+use Rattle.wire.specs.Test.{◌=?◌, by_test}
 use Rattle.wire.specs.Buffer.{zeros}
 use Rattle.machine.specs.Slots.{HeldBy}
 use Rattle.machine.specs.Timeline.{RequestCall, CountCall, CallItem}
@@ -71,10 +71,10 @@ module _ (m : Memory) (z : Steady m) (id : ℕ) where
 pub replied_or_refused : (c : Conn) (store : List ℕ) (id : ℕ) (q : Question)
     → replied_to c store id q ≡ (if C.lent_refusal c store id =? 0 then reply_in (held_at c.table store (C.slot_of c id)) q else refused_reply (C.lent_refusal c store id) q)
 unfolding C.value C.source C.pair_at_number C.walk
-replied_or_refused c store id (ValueOf name fallback) = byTest (C.lent_refusal c store id =? 0) (λ e. rw e) (λ e. rw e)
-replied_or_refused c store id (SourceOf name) = byTest (C.lent_refusal c store id =? 0) (λ e. rw e) (λ e. rw e)
-replied_or_refused c store id (PairOf k) = byTest (C.lent_refusal c store id =? 0) (λ e. rw e) (λ e. rw e)
-replied_or_refused c store id WalkOf = byTest (C.lent_refusal c store id =? 0) (λ e. rw e) (λ e. rw e)
+replied_or_refused c store id (ValueOf name fallback) = by_test (C.lent_refusal c store id =? 0) (λ e. rw e) (λ e. rw e)
+replied_or_refused c store id (SourceOf name) = by_test (C.lent_refusal c store id =? 0) (λ e. rw e) (λ e. rw e)
+replied_or_refused c store id (PairOf k) = by_test (C.lent_refusal c store id =? 0) (λ e. rw e) (λ e. rw e)
+replied_or_refused c store id WalkOf = by_test (C.lent_refusal c store id =? 0) (λ e. rw e) (λ e. rw e)
 
 -- a call that is refused by 1 or 3 changes nothing
 pub refused_call : (m : Memory) (id n : ℕ) (a : Argument) → C.lent_refusal m.state.conn m.store id ≡ suc n → C.call_refusal m.state.conn id ≡ suc n
@@ -92,7 +92,7 @@ none_closed m id e = rw e
 
 none_absent : (m : Memory) (id : ℕ) → find m.state.conn.table id ≡ Slot.Nowhere → request_of id m ≡ none
 unfolding request_of
-none_absent m id f = byTest m.state.conn.«open» (λ e. rw (e, f)) (λ e. rw e)
+none_absent m id f = by_test m.state.conn.«open» (λ e. rw (e, f)) (λ e. rw e)
 
 some_found : (m : Memory) (id i : ℕ) → m.state.conn.«open» ≡ true → find m.state.conn.table id ≡ Slot.At i
     → request_of id m ≡ some (held_at m.state.conn.table m.store i)
@@ -106,9 +106,9 @@ unfolding target_without
 redirected_target i Aim.Skip n body gathered = refl
 redirected_target i (Aim.Begin id) n body gathered = refl
 redirected_target i Aim.Query n body gathered = refl
-redirected_target i (Aim.Params j) n body gathered = byTest (eqb j i) (λ e. rw (e, eq-eqb i j (sym (eqb-true j i e)))) (λ e. rw (e, ne_eqb i j (λ q. eqb-false j i e (sym q))))
-redirected_target i (Aim.Stdin j) n body gathered = byTest (eqb j i) (λ e. rw (e, eq-eqb i j (sym (eqb-true j i e)))) (λ e. rw (e, ne_eqb i j (λ q. eqb-false j i e (sym q))))
-redirected_target i (Aim.Data j) n body gathered = byTest (eqb j i) (λ e. rw (e, eq-eqb i j (sym (eqb-true j i e)))) (λ e. rw (e, ne_eqb i j (λ q. eqb-false j i e (sym q))))
+redirected_target i (Aim.Params j) n body gathered = by_test (eqb j i) (λ e. rw (e, eq-eqb i j (sym (eqb-true j i e)))) (λ e. rw (e, ne_eqb i j (λ q. eqb-false j i e (sym q))))
+redirected_target i (Aim.Stdin j) n body gathered = by_test (eqb j i) (λ e. rw (e, eq-eqb i j (sym (eqb-true j i e)))) (λ e. rw (e, ne_eqb i j (λ q. eqb-false j i e (sym q))))
+redirected_target i (Aim.Data j) n body gathered = by_test (eqb j i) (λ e. rw (e, eq-eqb i j (sym (eqb-true j i e)))) (λ e. rw (e, ne_eqb i j (λ q. eqb-false j i e (sym q))))
 
 pub redirected_reading : (i c p : ℕ) (header : List ℕ) (s : Target receiver) → reading_at c p header (target_without receiver i s) ≡ reading_without receiver i (reading_at c p header s)
 unfolding reading_without target_without

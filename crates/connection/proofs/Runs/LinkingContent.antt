@@ -1,5 +1,5 @@
 -- What a step over one content byte leaves is what the machine comes to.
-use Rattle.std.specs.Prelude.{◌≡◌, List, [], ◌∷◌, ◌++◌, Bool, take, drop, eqb, leb}
+use Rattle.std.specs.Prelude.{◌≡◌, List, [], ◌∷◌, ◌++◌, Bool, take, drop, eqb, leb, if◌then◌else◌}
 use Rattle.std.proofs.Math.Path.{refl, ap, ap₂, subst}
 use Rattle.std.proofs.Common.{sym, ◌∙◌, arith, length-append, take_all, take_at, length-take-le, ne_eqb, ltb-true}
 use Rattle.std.proofs.Math.Option.{none, some}
@@ -7,7 +7,7 @@ use Rattle.std.proofs.Math.Bool.{true, false}
 use Prim.Native.Nat.{ℕ, zero, suc, ◌+◌, ◌≤◌}
 use Rattle.std.proofs.Math.ListN.{length, set}
 use Rattle.std.proofs.Math.Dec.{ltb}
-use Rattle.wire.specs.Test.{if◌then◌else◌, byTest}
+use Rattle.wire.specs.Test.{by_test}
 use Rattle.wire.specs.Buffer.{copied}
 use Rattle.wire.proofs.BufferLaws.{copied_room}
 use Rattle.record.specs.Names.{RESPONDER, AUTHORIZER, FILTER, OVERLOADED, UNKNOWN_ROLE}
@@ -54,7 +54,7 @@ content_id : (due : Due) (x : List ℕ) (h : Held) → (on_content due x h).held
 unfolding grown
 content_id Due.Skip x h = refl
 content_id Due.Params x h =
-    byTest (leb (h.request.length + length x) AREA) (λ e. simp e) (λ e. simp e)
+    by_test (leb (h.request.length + length x) AREA) (λ e. simp e) (λ e. simp e)
 content_id Due.Stdin x h = refl
 content_id Due.Data x h = refl
 

@@ -2,7 +2,7 @@
 use Rattle.std.specs.Prelude.{◌≡◌, refl, List, [], ◌∷◌, ◌++◌, Bool, true, false, ℕ, zero, suc, length, take, eqb}
 use Rattle.std.proofs.Common.{ap, ap₂, sym, ◌∙◌, arith, eq-eqb}
 use Rattle.std.proofs.Math.Option.{none, some}
-use Rattle.wire.specs.Test.{byTest}
+use Rattle.wire.specs.Test.{by_test}
 use Rattle.wire.specs.Buffer.{zeros}
 use Rattle.slot_word.specs.Word.{taken}
 use Rattle.machine.specs.Machine.{AtHeader, Open, Closed, fresh, Target, state_after, observations, request_found, request_in}
@@ -11,7 +11,7 @@ use Rattle.machine.proofs.Isolation as Generic
 use Rattle.connection.specs.declared.state.Table.{Table}
 use Rattle.connection.specs.declared.state.Slot.{Slot}
 use Rattle.connection.specs.Sizes.{SLOTS, STORE, QUERY}
-use Rattle.connection.specs.Slots.{request_at, area_at, held_at, find, onSlot, no_requests}
+use Rattle.connection.specs.Slots.{request_at, area_at, held_at, find, on_slot, no_requests}
 use Rattle.connection.specs.Step.{no_frame, started}
 use Rattle.connection.proofs.Laws.StepShape.{start_in_shape, start_arrays}
 use Rattle.connection.proofs.Laws.StepSizes.{start_sizes}
@@ -71,7 +71,7 @@ start_loaded gathered store full =
 
 start_header : (g s : List ℕ) → (started g s).state.conn.frame.position.held ≡ 0
 unfolding started
-start_header g s = byTest (eqb (length s) STORE) (λ e. simp e) (λ e. simp e)
+start_header g s = by_test (eqb (length s) STORE) (λ e. simp e) (λ e. simp e)
 
 -- Its memory is steady.
 pub start_steady : (gathered store : List ℕ) → length gathered ≡ QUERY → length store ≡ STORE → Steady (start_of gathered store)
@@ -85,7 +85,7 @@ start_steady gathered store size full =
     }
 
 -- ---- the request of an id
-found_some : (t : Table) (store : List ℕ) (s : Slot) → request_found receiver (found_as t store s) ≡ onSlot s (λ i. some (held_at t store i)) none
+found_some : (t : Table) (store : List ℕ) (s : Slot) → request_found receiver (found_as t store s) ≡ on_slot s (λ i. some (held_at t store i)) none
 unfolding request_found
 found_some t store (Slot.At i) = refl
 found_some t store Slot.Nowhere = refl
@@ -136,7 +136,7 @@ reading_empty (suc c) p held header s l e = let z : ◌≡◌ {A = ℕ} 0 1 = cc
 
 -- And back.
 pub loaded_between : (m : Memory) → Steady m → Generic.BetweenRecords receiver (loaded_of m) → BetweenRecords m
-loaded_between m z b = byTest m.state.conn.«open» when_open when_closed_lem
+loaded_between m z b = by_test m.state.conn.«open» when_open when_closed_lem
   where
     when_open : m.state.conn.«open» ≡ true → BetweenRecords m
     when_open e =

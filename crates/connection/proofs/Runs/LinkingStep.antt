@@ -1,7 +1,7 @@
 -- A step over a piece is the machine's items of the bytes that it used.
 use Rattle.std.specs.Prelude.{◌≡◌, refl, List, [], ◌∷◌, ◌++◌, map, true, false, ℕ, suc}
 use Rattle.std.proofs.Common.{ap, ap₂, sym, ◌∙◌, subst, arith}
-use Rattle.wire.specs.Test.{byTest}
+use Rattle.wire.specs.Test.{by_test}
 use Rattle.machine.specs.Timeline.{ByteItem, byte_items}
 use Rattle.machine.specs.Machine.{Connection, Open, Closed, on_item, state_after, observations, as_list}
 use Rattle.connection.specs.Shape.{in_shape}
@@ -72,7 +72,7 @@ byte_open m b e z =
     }
 
 byte_step : (m : Memory) (b : ℕ) → Steady m → ByteStep m b
-byte_step m b z = byTest m.state.conn.«open» (λ e. byte_open m b e z) (λ e. byte_closed m b e z)
+byte_step m b z = by_test m.state.conn.«open» (λ e. byte_open m b e z) (λ e. byte_closed m b e z)
 
 steady_byte : (m : Memory) (b : ℕ) → Steady m → AllBytes (b ∷ []) → Steady (memory_of (step_of m (b ∷ [])))
 steady_byte m b z all =

@@ -1,11 +1,11 @@
 -- What holds of the slots as they are loaded: the slot of an id, the lowest free slot, a request and its area put back.
-use Rattle.std.specs.Prelude.{◌≡◌, refl, List, ◌∷◌, Bool, true, false, ℕ, zero, suc, ◌+◌, ◌-◌, ◌%◌, ◌/◌, ◌≤◌, ◌<◌, eqb, ltb}
+use Rattle.std.specs.Prelude.{◌≡◌, refl, List, ◌∷◌, Bool, true, false, ℕ, zero, suc, ◌+◌, ◌-◌, ◌%◌, ◌/◌, ◌≤◌, ◌<◌, eqb, ltb, if◌then◌else◌}
 use Rattle.std.proofs.Common.{ap, sym, ◌∙◌, arith, eqb-true, lt-ltb, le-ltb}
 use Rattle.std.proofs.Math.Nat.{sub-zero, sub_self}
 use lib.ListN.{length, get_or, set}
 use Rattle.std.proofs.lemmas.List.{set-get_or}
 use Rattle.std.proofs.lemmas.Bool.{eqb-false}
-use Rattle.wire.specs.Test.{if◌then◌else◌, ◌<?◌, byTest}
+use Rattle.wire.specs.Test.{◌<?◌, by_test}
 use Rattle.wire.specs.Buffer.{zeros}
 use Rattle.slot_word.specs.Word.{taken, lowest_free}
 use Rattle.slot_word.proofs.WordLaws.{least_free, least_below}
@@ -164,7 +164,7 @@ lookup_loaded t store id = lookup_from SLOTS t store id 0 ∙ from_first t store
 least_le : (k o : ℕ) → lowest_free k o ≤ k
 unfolding lowest_free
 least_le zero o = omega arith
-least_le (suc k) o = byTest (eqb (o % 2) 1) (λ e. simp e (omega (arith, least_le k (o / 2)))) (λ e. simp e (omega arith))
+least_le (suc k) o = by_test (eqb (o % 2) 1) (λ e. simp e (omega (arith, least_le k (o / 2)))) (λ e. simp e (omega arith))
 
 later_if : (b : Bool) (m k : ℕ) (area : List ℕ) → suc m ≡ k
     → vacancy_further (if b then VacancyAt m area else NoVacancy) ≡ (if b then VacancyAt k area else NoVacancy)
@@ -179,7 +179,7 @@ vacancy_from : (n : ℕ) (t : Table) (store : List ℕ) (i m : ℕ) → i ≤ m 
 unfolding elements first_vacancy slot_of loaded_slot
 vacancy_from zero t store i m a b u v = let e : i + 0 ≡ m = omega arith in rw (e, le-ltb m m (omega arith))
 vacancy_from (suc n) t store i m a b u v =
-    byTest (eqb i m) here
+    by_test (eqb i m) here
     (λ e. let q = eqb-false i m e in behind e (vacancy_from n t store (suc i) m (omega arith) (omega arith) u (λ w. v (omega arith))))
   where
     here : eqb i m ≡ true → first_vacancy (slot_of t store i ∷ elements (slot_of t store) (suc i) n) ≡ (if m <? i + suc n then VacancyAt (m - i) (area_at store m) else NoVacancy)

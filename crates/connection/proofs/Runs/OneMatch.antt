@@ -2,7 +2,7 @@
 use Rattle.std.specs.Prelude.{◌≡◌, false, ℕ, eqb}
 use mathlib.Core.List.{List, Memᴰ}
 use Rattle.std.proofs.Common.{arith, eqb-true}
-use Rattle.wire.specs.Test.{byTest}
+use Rattle.wire.specs.Test.{by_test}
 use Rattle.pairs.specs.Pair.{name_of, value_of}
 use Rattle.pairs.specs.declared.pair.Pair.{Pair}
 use Rattle.pair_list.specs.List.{pairs_from, first_named}
@@ -22,7 +22,7 @@ use Rattle.connection.proofs.Runs.WellFormedLists.{ListOk, lists_well_formed}
 one_match : (h : Held) (name : List ℕ) (q : Pair) → no_list h.request ≡ false → ListOk h
     → Memᴰ q (pairs_from (list_of h) 0).pairs → name_of (list_of h) q ≡ name → first_named (list_of h) name ≡ Found.At q
 one_match h name q n ok =
-    byTest (in_params h.request.state.turn)
+    by_test (in_params h.request.state.turn)
     (λ t. let z : ◌≡◌ {A = ℕ} 0 1 = cc (simp t at n) in absurd (omega arith))
     (λ t. named_once (list_of h) name q (ok t (simp t at n)).once)
 
@@ -51,9 +51,9 @@ unfolding C.source Of.source_in C.value Of.value_in
 value_one_match r id name q given there named =
     let c = (ending r).state.conn in
     let store = (ending r).store in
-    byTest (eqb (C.lent_refusal c store id) 0)
+    by_test (eqb (C.lent_refusal c store id) 0)
     (λ t.
-    byTest (no_list (asked r id).request)
+    by_test (no_list (asked r id).request)
     (λ n. absurd (given 4 (simp (t, n))))
     (λ n.
     let one = one_match (asked r id) name q n (at_slot r id (eqb-true (C.lent_refusal c store id) 0 t)) there named in

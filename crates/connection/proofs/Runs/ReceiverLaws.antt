@@ -1,10 +1,10 @@
 -- What the machine of one request has to show: what a request decides keeps it in shape. In shape is a request whose
 -- area is zero beyond its list.
-use Rattle.std.specs.Prelude.{◌≡◌, refl, List, [], ◌∷◌, ◌++◌, Bool, true, false, ◌⊎◌, ℕ, suc, ◌+◌, ◌-◌, ◌≤◌, ◌<◌, length, take, drop, eqb, ltb}
+use Rattle.std.specs.Prelude.{◌≡◌, refl, List, [], ◌∷◌, ◌++◌, Bool, true, false, ◌⊎◌, ℕ, suc, ◌+◌, ◌-◌, ◌≤◌, ◌<◌, length, take, drop, eqb, ltb, if◌then◌else◌}
 use Rattle.std.proofs.Common.{ap, ap₂, sym, ◌∙◌, inl, inr, arith, length-append, length-take, drop_at, drop-drop, eqb-true, ltb-false}
 use Rattle.std.proofs.Math.Option.{Option}
 use Rattle.std.proofs.lemmas.List.{length-replicate}
-use Rattle.wire.specs.Test.{if◌then◌else◌, byTest}
+use Rattle.wire.specs.Test.{by_test}
 use Rattle.wire.specs.Buffer.{zeros}
 use Rattle.wire.proofs.BufferLaws.{copied_room, put_length}
 use Rattle.record.specs.Names.{BEGIN_REQUEST, GET_VALUES, RESPONDER, AUTHORIZER, FILTER}
@@ -120,9 +120,9 @@ begin_as_ok id body role = λ x e. ok_zero _ refl e
 pub begin_ok : (id : ℕ) (body : List ℕ) → BeginOutcomeOk RequestOk (λ x. x ≡ clean_area) (receive_begin id body)
 unfolding receive_begin
 begin_ok id body =
-    byTest (eqb (begin_body_of body).role RESPONDER) (λ a. simp a (begin_as_ok id body Role.Responder))
-    (λ a. byTest (eqb (begin_body_of body).role AUTHORIZER) (λ b. simp (a, b) (begin_as_ok id body Role.Authorizer))
-    (λ b. byTest (eqb (begin_body_of body).role FILTER) (λ c. simp (a, b, c) (begin_as_ok id body Role.Filter)) (λ c. simp (a, b, c) tt)))
+    by_test (eqb (begin_body_of body).role RESPONDER) (λ a. simp a (begin_as_ok id body Role.Responder))
+    (λ a. by_test (eqb (begin_body_of body).role AUTHORIZER) (λ b. simp (a, b) (begin_as_ok id body Role.Authorizer))
+    (λ b. by_test (eqb (begin_body_of body).role FILTER) (λ c. simp (a, b, c) (begin_as_ok id body Role.Filter)) (λ c. simp (a, b, c) tt)))
 
 -- ---- calls
 -- what writes keeps the id and the length
@@ -132,7 +132,7 @@ pub record SameList (r q : Request) : Type 0 where
 
 writes_same : (n : ℕ) (bytes : List ℕ) (after r : Request) (buffer : List ℕ) → SameList r after → SameList r (Of.writes n bytes after r buffer).request
 unfolding Of.writes
-writes_same n bytes after r buffer s = byTest (eqb n 0) (λ e. simp e s) (λ e. simp e (record { id = refl; length = refl }))
+writes_same n bytes after r buffer s = by_test (eqb n 0) (λ e. simp e s) (λ e. simp e (record { id = refl; length = refl }))
 
 -- Say does.
 pub say_same : (r : Request) (output : Output) (bytes buffer : List ℕ) → SameList r (Of.say_in r output bytes buffer).request
@@ -177,16 +177,16 @@ call_ok (ForFinish status buffer) h f = finished_ok h.request.state.keep h (Of.f
 pub inactive_ok : (kind n : ℕ) → InactiveOutcomeOk n (receive_inactive kind n)
 unfolding receive_inactive
 inactive_ok kind n =
-    byTest (eqb kind BEGIN_REQUEST)
-    (λ a. byTest (eqb n 8) (λ e. simp (a, e) (eqb-true n 8 e)) (λ e. simp (a, e) tt))
+    by_test (eqb kind BEGIN_REQUEST)
+    (λ a. by_test (eqb n 8) (λ e. simp (a, e) (eqb-true n 8 e)) (λ e. simp (a, e) tt))
     (λ a. simp a tt)
 
 -- A query that is gathered is within its limit.
 pub management_ok : (kind n : ℕ) → ManagementOutcomeOk QUERY n (receive_management kind n)
 unfolding receive_management
 management_ok kind n =
-    byTest (eqb kind GET_VALUES)
-    (λ a. byTest (ltb QUERY n) (λ e. simp (a, e) tt) (λ e. simp (a, e) (ltb-false QUERY n e)))
+    by_test (eqb kind GET_VALUES)
+    (λ a. by_test (ltb QUERY n) (λ e. simp (a, e) tt) (λ e. simp (a, e) (ltb-false QUERY n e)))
     (λ a. simp a tt)
 
 -- The laws of shape: a free slot keeps an area that is all zero.

@@ -1,11 +1,11 @@
 -- Where a run stands, by the records that its used bytes make: an open run is between two records just where its used
 -- bytes split into records without a rest.
-use Rattle.std.specs.Prelude.{◌≡◌, Bool, true, false, ℕ, ◌≤◌, length, take, eqb, ltb}
+use Rattle.std.specs.Prelude.{◌≡◌, Bool, true, false, ℕ, ◌≤◌, length, take, eqb, ltb, if◌then◌else◌}
 use Rattle.std.proofs.Math.Path.{refl}
 use Rattle.std.proofs.Common.{ap, sym, ◌∙◌, subst, arith}
 use mathlib.Core.List.{List, [], ◌∷◌}
 use Rattle.std.proofs.Math.Seq.{take-nil}
-use Rattle.wire.specs.Test.{if◌then◌else◌, byTest}
+use Rattle.wire.specs.Test.{by_test}
 use Rattle.record.specs.Names.{VERSION, BEGIN_REQUEST, GET_VALUES, RESPONDER, AUTHORIZER, FILTER}
 use Rattle.record.specs.declared.header.Header.{Header}
 use Rattle.record.specs.declared.body.BeginBody.{BeginBody}
@@ -24,7 +24,7 @@ use Rattle.connection.specs.declared.state.Frame.{Frame}
 use Rattle.connection.specs.declared.state.Conn.{Conn}
 use Rattle.connection.specs.Sizes.{SLOTS, STORE, QUERY}
 use Rattle.connection.specs.RequestCalls as Of
-use Rattle.connection.specs.Slots.{find, onSlot, free_slot_of}
+use Rattle.connection.specs.Slots.{find, on_slot, free_slot_of}
 use Rattle.connection.specs.Step.{State, Left, Stepped, closes, queried, on_management, on_inactive, on_active, judged, opens, begun, of_begin, of_query, of_request, on_target, advances, started}
 use Rattle.connection.specs.Calls as C
 use Rattle.connection.proofs.Laws.PieceLaws.{by_step}
@@ -73,7 +73,7 @@ module _ (st : State) (store : List ℕ) where
       (go (find st.conn.table h.id)))
       (stands_closes p (Plain 11))
     where
-      go : (s : Slot) → StandsAt (after_header h) (onSlot s (on_active st store h) (on_inactive st store h)).conn
+      go : (s : Slot) → StandsAt (after_header h) (on_slot s (on_active st store h) (on_inactive st store h)).conn
       go (Slot.At i) = λ o. refl
       go Slot.Nowhere =
           stands_if (after_header h) (eqb h.kind BEGIN_REQUEST) _ _
@@ -147,7 +147,7 @@ call_finish : (m : Memory) (i : ℕ) (keep : Bool) (w : Of.Writing)
     → StandsAt m.state.conn.frame.position (finished_by m (C.finishes m.state.conn m.store i keep w)).memory.state.conn
 unfolding C.finishes C.released
 call_finish m i keep w =
-    byTest (eqb w.refusal 0) (λ a. byTest keep (λ k. rw (a, k) (λ o. refl)) (λ k. rw (a, k) (λ o. false_true o))) (λ a. rw a (λ o. refl))
+    by_test (eqb w.refusal 0) (λ a. by_test keep (λ k. rw (a, k) (λ o. refl)) (λ k. rw (a, k) (λ o. false_true o))) (λ a. rw a (λ o. refl))
 
 call_result : (m : Memory) (i : ℕ) (a : Argument) → StandsAt m.state.conn.frame.position (result_at m i a).memory.state.conn
 unfolding result_at
@@ -176,7 +176,7 @@ bytes_used m os = item_bytes (timeline m os)
 -- a run that ends open was open before
 open_before : (os : List Operation) (m : Memory) → Steady m → (final_memory m os).state.conn.«open» ≡ true → m.state.conn.«open» ≡ true
 open_before os m z e =
-    byTest m.state.conn.«open» (λ o. o)
+    by_test m.state.conn.«open» (λ o. o)
     (λ o. false_true (sym o ∙ sym (ap (λ (w : Memory). w.state.conn.«open») (closed_final os m z o)) ∙ e))
 
 -- A run that ends open ends where its used bytes lead.
@@ -203,7 +203,7 @@ run_position (CountActive ∷ os) m z p e = run_position os m z p e
 
 pub start_position : (gathered store : List ℕ) → (start_of gathered store).state.conn.frame.position ≡ between_records
 unfolding start_of started
-start_position gathered store = byTest (eqb (length store) STORE) (λ e. simp e) (λ e. simp e)
+start_position gathered store = by_test (eqb (length store) STORE) (λ e. simp e) (λ e. simp e)
 
 -- A run that ends open stands where its used bytes lead from between two records.
 ending_position : (r : WholeRun) → (ending r).state.conn.«open» ≡ true → (ending r).state.conn.frame.position ≡ after between_records (item_bytes (timeline_of r))

@@ -7,7 +7,7 @@ use mathlib.Core.List.Memᴰ
 use mathlib.Core.List.{List, [], ◌∷◌, ◌++◌, map, Memᴰ}
 use Prim.Native.Nat.{ℕ, ◌+◌, ◌-◌, ◌≤◌, ◌<◌, min}
 use Rattle.std.proofs.lemmas.Bool.{eqb-false}
-use Rattle.wire.specs.Test.{byTest}
+use Rattle.wire.specs.Test.{by_test}
 use Rattle.record_reader.specs.declared.Position.{Position}
 use Rattle.machine.specs.Timeline.{Item, byte_items, item_bytes}
 use Rattle.machine.proofs.TimelineLaws.{bytes_of_items}
@@ -63,7 +63,7 @@ module _ (n : ℕ) (st : State) (store : List ℕ) where
         event = refl;
         table = refl;
         store_same = refl;
-        skips = inl (byTest (eqb (p.content - min p.content (length piece)) 0) (λ e. simp e) (λ e. simp e), omega arith);
+        skips = inl (by_test (eqb (p.content - min p.content (length piece)) 0) (λ e. simp e) (λ e. simp e), omega arith);
       })
 
 -- A step that uses not more than the n bytes that are skipped.
@@ -71,7 +71,7 @@ pub silent_step : (n : ℕ) (st : State) (store piece : List ℕ) → Skips n (r
 silent_step n st store [] k u =
     rw (step_nothing st store) (silent_stays n st store k _ refl refl refl refl)
 silent_step n st store (b ∷ x) k u =
-    byTest (eqb (step_refusal st.conn store) 0)
+    by_test (eqb (step_refusal st.conn store) 0)
     (λ t. admitted (eqb-true (step_refusal st.conn store) 0 t) k)
     (λ t. rw (step_refused st store (b ∷ x) (eqb-false (step_refusal st.conn store) 0 t)) (silent_stays n st store k _ refl refl refl refl))
   where
@@ -86,7 +86,7 @@ silent_step n st store (b ∷ x) k u =
 skips_finish : (n : ℕ) (m : Memory) (id status : ℕ) (buffer : List ℕ) → Skips n m → Skips n (called m id (ForFinish status buffer)).memory
 unfolding called C.released
 skips_finish n m id status buffer k =
-    byTest (eqb w.refusal 0)
+    by_test (eqb w.refusal 0)
     (λ t. let d = finish_done c m.store id status buffer (eqb-true w.refusal 0 t) in done d.admitted.slot d.way k)
     (λ t. as_before_lem (finish_refused c m.store id status buffer (eqb-false w.refusal 0 t)).0 k)
   where
@@ -110,9 +110,9 @@ pub skips_call : (n : ℕ) (m : Memory) (id : ℕ) (a : Argument) → Skips n m 
 unfolding called C.say C.end_stream
 skips_call n m id (ForRead q) k = k
 skips_call n m id (ForSay output bytes buffer) k =
-    byTest (eqb (C.call_refusal m.state.conn id) 0) (λ t. simp t k) (λ t. simp t k)
+    by_test (eqb (C.call_refusal m.state.conn id) 0) (λ t. simp t k) (λ t. simp t k)
 skips_call n m id (ForEnd output buffer) k =
-    byTest (eqb (C.call_refusal m.state.conn id) 0) (λ t. simp t k) (λ t. simp t k)
+    by_test (eqb (C.call_refusal m.state.conn id) 0) (λ t. simp t k) (λ t. simp t k)
 skips_call n m id (ForFinish status buffer) k = skips_finish n m id status buffer k
 
 -- ---- operations
@@ -205,7 +205,7 @@ module _ (m : Memory) (R status : ℕ) (buffer : List ℕ) (due : Due) (done : (
   unfolding memory_after called
   skips_rest =
       let w = C.finish m.state.conn m.store R status buffer in
-      byTest w.closed
+      by_test w.closed
       (λ t. inr (done_closed m.state.conn m.store R w (finish_done m.state.conn m.store R status buffer done) t))
       (λ t. let r = rest_unaimed t in inl (r.target, omega (arith, ap (λ (p : Position). p.content) r.position)))
 

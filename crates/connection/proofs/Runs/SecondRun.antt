@@ -1,7 +1,7 @@
 -- The second half of Isolation, `any_cutting`: every cutting of R's items into pieces can be run to its end.
 use Rattle.std.specs.Prelude.{◌≡◌, refl, List, [], ◌∷◌, ◌++◌, true, ℕ, zero, suc, ◌≤◌, ◌<◌, length, take, drop}
 use Rattle.std.proofs.Common.{ap, ap₂, sym, ◌∙◌, append_assoc, append-nil, inl, arith, length-drop, take-append-drop}
-use Rattle.wire.specs.Test.{byTest}
+use Rattle.wire.specs.Test.{by_test}
 use Rattle.machine.specs.Timeline.{RequestCall, CountCall, Item, CallItem, byte_items, purge}
 use Rattle.machine.specs.Machine.{Connection, Open, Closed, AtHeader, state_after}
 use Rattle.machine.proofs.TimelineLaws.{byte_items_append}
@@ -80,7 +80,7 @@ stepped_through_lem zero m [] z b l a = refl
 stepped_through_lem zero m (c ∷ x) z b l a = absurd (omega arith)
 stepped_through_lem (suc n) m [] z b l a = refl
 stepped_through_lem (suc n) m (c ∷ x) z b l a =
-    byTest m.state.conn.«open»
+    by_test m.state.conn.«open»
     (more_steps n m c x z b l a (stepped_through_lem n (memory_after m (StepOver (c ∷ x))) (drop (step_of m (c ∷ x)).used (c ∷ x))))
     (λ e. absurd (a (ap (λ w. state_after receiver w (byte_items (c ∷ x))) (closed_loaded m e) ∙ closed_stays receiver (byte_items (c ∷ x)))))
 

@@ -3,7 +3,7 @@
 use Rattle.std.specs.Prelude.{◌≡◌, List, ℕ, ◌<◌}
 use Rattle.std.proofs.Common.{ap, sym, ◌∙◌}
 use Rattle.std.proofs.Math.Option.{none}
-use Rattle.wire.specs.Test.{byTest}
+use Rattle.wire.specs.Test.{by_test}
 use Rattle.machine.specs.Timeline.{purge}
 use Rattle.machine.specs.Interleaving.{Part, AllWhole, all_items, own_of}
 use Rattle.machine.proofs.InterleavingLaws.{own_is_left, neighbours}
@@ -24,7 +24,7 @@ unfolding request_of
 zero_nowhere m z =
     let t = m.state.conn.table in
     let e : find t 0 ≡ Slot.Nowhere = nowhere_find t 0 (shaped m.state.conn z.shape).table.ids in
-    byTest m.state.conn.«open» (λ o. simp (o, e)) (λ o. simp o)
+    by_test m.state.conn.«open» (λ o. simp (o, e)) (λ o. simp o)
 
 zero_never : (A : WholeRun) → request_of 0 (ending A) ≡ none
 zero_never A =

@@ -1,11 +1,10 @@
 -- In a run, nothing is told of a request that is spent (faulted or aborted).
-use Rattle.std.specs.Prelude.{◌≡◌, refl, List, Bool, true, false, ℕ, ◌<◌}
+use Rattle.std.specs.Prelude.{◌≡◌, refl, List, Bool, true, false, ℕ, ◌<◌, if◌then◌else◌}
 use Rattle.std.proofs.Common.{sym, subst, arith}
 use Rattle.std.proofs.Math.Option.{none, some}
-use Rattle.wire.specs.Test.{if◌then◌else◌}
 use Rattle.connection.specs.declared.state.Slot.{Slot}
 use Rattle.connection.specs.Request.{Held, is_spent}
-use Rattle.connection.specs.Slots.{held_at, find, onSlot}
+use Rattle.connection.specs.Slots.{held_at, find, on_slot}
 use Rattle.connection.specs.Run.{Memory, request_of, step_of, event_id, WholeRun, ending}
 use Rattle.connection.proofs.Laws.Spent.{spent_step}
 use Rattle.connection.proofs.Runs.DueLive.{due_live}
@@ -23,7 +22,7 @@ unfolding request_of
 active_at R m h e = go m.state.conn.«open» refl (find m.state.conn.table R) refl e
   where
     go : (o : Bool) → m.state.conn.«open» ≡ o → (s : Slot) → find m.state.conn.table R ≡ s
-        → (if o then onSlot s (λ i. some (held_at m.state.conn.table m.store i)) none else none) ≡ some h → ActiveAt R m h
+        → (if o then on_slot s (λ i. some (held_at m.state.conn.table m.store i)) none else none) ≡ some h → ActiveAt R m h
     go true o (Slot.At i) s d = record { is_open = o; slot = i; found = s; same = cc }
     go true o Slot.Nowhere s d = let z : ◌≡◌ {A = ℕ} 0 1 = cc in absurd (omega arith)
     go false o s f d = let z : ◌≡◌ {A = ℕ} 0 1 = cc in absurd (omega arith)

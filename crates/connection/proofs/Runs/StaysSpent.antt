@@ -4,7 +4,7 @@ use Rattle.std.proofs.Math.Path.{ap, subst}
 use Rattle.std.proofs.Common.{sym, ◌∙◌, inl, inr, arith}
 use Rattle.std.proofs.Math.Option.{some}
 use borrow.Author.Tests.{eqb-true, eqb-false}
-use Rattle.wire.specs.Test.{byTest}
+use Rattle.wire.specs.Test.{by_test}
 use Rattle.connection.specs.declared.request.Request.{Request}
 use Rattle.connection.specs.declared.state.Slot.{Slot}
 use Rattle.connection.specs.declared.state.Conn.{Conn}
@@ -47,7 +47,7 @@ AllLeaveAlone R m (o ∷ os) = LeavesAlone R m o × AllLeaveAlone R (memory_afte
 -- a request that writes keeps its id and its life
 writes_like : (n : ℕ) (bytes : List ℕ) (after r : Request) (buffer : List ℕ) → Like r after → Like r (Of.writes n bytes after r buffer).request
 unfolding Of.writes
-writes_like n bytes after r buffer l = byTest (eqb n 0) (λ e. simp e l) (λ e. simp e (record { id = refl; life = refl }))
+writes_like n bytes after r buffer l = by_test (eqb n 0) (λ e. simp e l) (λ e. simp e (record { id = refl; life = refl }))
 
 say_like : (r : Request) (output : Output) (bytes buffer : List ℕ) → Like r (Of.say_in r output bytes buffer).request
 unfolding Of.say_in Of.said_on
@@ -102,7 +102,7 @@ module _ (R : ℕ) (h : Held) (spent : is_spent h.request.state.life ≡ true) w
     still_finished : (id status : ℕ) (buffer : List ℕ) → LeavesAlone R m (CallFor id (ForFinish status buffer)) → StillSpent R h (called m id (ForFinish status buffer)).memory
     unfolding called memory_after
     still_finished id status buffer a =
-        byTest (eqb w.refusal 0)
+        by_test (eqb w.refusal 0)
         (λ t.
         let q = eqb-true w.refusal 0 t in
         let d = finish_done c m.store id status buffer q in
@@ -129,11 +129,11 @@ module _ (R : ℕ) (h : Held) (spent : is_spent h.request.state.life ≡ true) w
     still_called id (ForSay output bytes buffer) a =
         let j = C.slot_of m.state.conn id in
         let r = request_at m.state.conn.table j in
-        byTest (eqb (C.call_refusal m.state.conn id) 0) (λ t. simp t (still_written j (Of.say_in r output bytes buffer) (say_like r output bytes buffer))) (λ t. simp t (still _ i is_open found life))
+        by_test (eqb (C.call_refusal m.state.conn id) 0) (λ t. simp t (still_written j (Of.say_in r output bytes buffer) (say_like r output bytes buffer))) (λ t. simp t (still _ i is_open found life))
     still_called id (ForEnd output buffer) a =
         let j = C.slot_of m.state.conn id in
         let r = request_at m.state.conn.table j in
-        byTest (eqb (C.call_refusal m.state.conn id) 0) (λ t. simp t (still_written j (Of.end_in r output buffer) (end_like r output buffer))) (λ t. simp t (still _ i is_open found life))
+        by_test (eqb (C.call_refusal m.state.conn id) 0) (λ t. simp t (still_written j (Of.end_in r output buffer) (end_like r output buffer))) (λ t. simp t (still _ i is_open found life))
     still_called id (ForFinish status buffer) a = still_finished id status buffer a
 
 -- ---- operations

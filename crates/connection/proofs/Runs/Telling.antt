@@ -1,7 +1,6 @@
 -- What the machine observes, as what a run of the receiver observes; and which request an event of the rules names.
-use Rattle.std.specs.Prelude.{◌≡◌, refl, List, [], ◌∷◌, ◌++◌, map, Bool, true, false, ℕ, ◌<◌, eqb}
+use Rattle.std.specs.Prelude.{◌≡◌, refl, List, [], ◌∷◌, ◌++◌, map, Bool, true, false, ℕ, ◌<◌, eqb, if◌then◌else◌}
 use Rattle.std.proofs.Common.{ap, ap₂, sym, ◌∙◌, append_assoc, arith, ne_eqb}
-use Rattle.wire.specs.Test.{if◌then◌else◌}
 use Rattle.machine.specs.Machine.{Observation, RequestEvent, NoticeEvent, CloseEvent, CountAnswer, CallAnswer, event_from, as_list, concerns, observed}
 use Rattle.connection.specs.declared.request.Due.{Due}
 use Rattle.connection.specs.declared.event.Measure.{Measure}

@@ -1,8 +1,8 @@
 -- In a run the list of a request whose PARAMS have ended, and that is not faulted, is well formed and repeats no name.
-use Rattle.std.specs.Prelude.{◌≡◌, refl, List, [], ◌∷◌, Bool, true, false, ℕ, suc, ◌+◌, ◌≤◌, ◌<◌, length, take, eqb, leb}
+use Rattle.std.specs.Prelude.{◌≡◌, refl, List, [], ◌∷◌, Bool, true, false, ℕ, suc, ◌+◌, ◌≤◌, ◌<◌, length, take, eqb, leb, if◌then◌else◌}
 use Rattle.std.proofs.Common.{ap, sym, ◌∙◌, subst, arith}
 use Rattle.std.proofs.Math.Option.{Option, none}
-use Rattle.wire.specs.Test.{if◌then◌else◌, byTest}
+use Rattle.wire.specs.Test.{by_test}
 use Rattle.record.specs.Names.{RESPONDER, AUTHORIZER, FILTER}
 use Rattle.record.specs.Body.{begin_body_of}
 use Rattle.pair_list.specs.List.{well_formed}
@@ -68,9 +68,9 @@ not_faulted Life.Aborted e = refl
 good : (list : List ℕ) → params_fault list ≡ none → Good list
 unfolding params_fault
 good list e =
-    byTest (well_formed list)
+    by_test (well_formed list)
     (λ w.
-    byTest (repeats list)
+    by_test (repeats list)
     (λ r. let z : ◌≡◌ {A = ℕ} 0 1 = cc (simp (w, r) at e) in absurd (omega arith))
     (λ r. record { formed = w; once = r }))
     (λ w. let z : ◌≡◌ {A = ℕ} 0 1 = cc (simp w at e) in absurd (omega arith))
@@ -111,7 +111,7 @@ header_list kind n h l ok =
 -- ---- content, a BEGIN body, calls
 pub grown_state : (h : Held) (x : List ℕ) → (grown h x).request.state ≡ h.request.state
 unfolding grown
-grown_state h x = byTest (leb (h.request.length + length x) AREA) (λ e. simp e) (λ e. simp e)
+grown_state h x = by_test (leb (h.request.length + length x) AREA) (λ e. simp e) (λ e. simp e)
 
 -- So does a content byte.
 pub byte_list : (due : Due) (b n : ℕ) (h : Held) → b < 256 → ListOk h → InTurn due (suc n) h
@@ -133,9 +133,9 @@ begin_as_list id body role = λ x u t f. true_false t
 pub begin_list : (id : ℕ) (body : List ℕ) → BeginOutcomeOk {Leftover = List ℕ} ListOk (λ x. Unit {0}) (receive_begin id body)
 unfolding receive_begin
 begin_list id body =
-    byTest (eqb (begin_body_of body).role RESPONDER) (λ a. simp a (begin_as_list id body Role.Responder))
-    (λ a. byTest (eqb (begin_body_of body).role AUTHORIZER) (λ b. simp (a, b) (begin_as_list id body Role.Authorizer))
-    (λ b. byTest (eqb (begin_body_of body).role FILTER) (λ c. simp (a, b, c) (begin_as_list id body Role.Filter)) (λ c. simp (a, b, c) tt)))
+    by_test (eqb (begin_body_of body).role RESPONDER) (λ a. simp a (begin_as_list id body Role.Responder))
+    (λ a. by_test (eqb (begin_body_of body).role AUTHORIZER) (λ b. simp (a, b) (begin_as_list id body Role.Authorizer))
+    (λ b. by_test (eqb (begin_body_of body).role FILTER) (λ c. simp (a, b, c) (begin_as_list id body Role.Filter)) (λ c. simp (a, b, c) tt)))
 
 -- what writes keeps length, turn and life
 record SameTurn (r q : Request) : Type 0 where
@@ -145,7 +145,7 @@ record SameTurn (r q : Request) : Type 0 where
 
 turn_writes : (n : ℕ) (bytes : List ℕ) (after r : Request) (buffer : List ℕ) → SameTurn r after → SameTurn r (Of.writes n bytes after r buffer).request
 unfolding Of.writes
-turn_writes n bytes after r buffer s = byTest (eqb n 0) (λ e. simp e s) (λ e. simp e (record { length = refl; turn = refl; life = refl }))
+turn_writes n bytes after r buffer s = by_test (eqb n 0) (λ e. simp e s) (λ e. simp e (record { length = refl; turn = refl; life = refl }))
 
 turn_say : (r : Request) (output : Output) (bytes buffer : List ℕ) → SameTurn r (Of.say_in r output bytes buffer).request
 unfolding Of.say_in Of.said_on

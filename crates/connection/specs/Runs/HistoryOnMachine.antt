@@ -1,8 +1,8 @@
 -- An inner step of the proof about histories: what one item of a timeline does to R's parameters on the machine, by
 -- what the machine observes of it. Definitions only. The definition of R's parameters is in `History`.
-use Rattle.std.specs.Prelude.{List, [], ◌∷◌, ◌++◌, Bool, true, false, ℕ, zero, suc}
+use Rattle.std.specs.Prelude.{List, [], ◌∷◌, ◌++◌, Bool, true, false, ℕ, zero, suc, if◌then◌else◌}
 use Rattle.std.proofs.Math.Option.{Option, none, some}
-use Rattle.wire.specs.Test.{if◌then◌else◌, ◌=?◌}
+use Rattle.wire.specs.Test.{◌=?◌}
 use Rattle.machine.specs.Timeline.{Item, ByteItem, CallItem, Scan, ScanHeader, ScanRest}
 use Rattle.machine.specs.Machine.{Observation, RequestEvent, NoticeEvent, CloseEvent, CountAnswer, CallAnswer}
 use Rattle.connection.specs.Event.{Event}

@@ -1,7 +1,7 @@
 -- The receiver's rules for one request as a machine of one request. Definitions only.
-use Rattle.std.specs.Prelude.{Bool, true, false, List, [], ◌∷◌, ℕ}
+use Rattle.std.specs.Prelude.{Bool, true, false, List, [], ◌∷◌, ℕ, if◌then◌else◌}
 use Rattle.std.proofs.Math.Option.{Option, none, some}
-use Rattle.wire.specs.Test.{if◌then◌else◌, ◌<?◌, ◌=?◌}
+use Rattle.wire.specs.Test.{◌<?◌, ◌=?◌}
 use Rattle.wire.specs.Buffer.{zeros}
 use Rattle.record.specs.Names.{BEGIN_REQUEST, GET_VALUES, OVERLOADED, UNKNOWN_ROLE}
 use Rattle.record.specs.Body.{begin_body_of}
@@ -15,7 +15,7 @@ use Rattle.connection.specs.Event.{Event}
 use Rattle.connection.specs.Codes.{role_number}
 use Rattle.connection.specs.Request.{Held, Ruled, on_header, on_content, opened}
 use Rattle.connection.specs.RequestCalls as Of
-use Rattle.connection.specs.Step.{query_of, onRole}
+use Rattle.connection.specs.Step.{query_of, on_role}
 use Rattle.connection.specs.Bytewise.{Note}
 use Rattle.connection.specs.Arguments.{Question, ValueOf, SourceOf, PairOf, WalkOf, Reply, ValueIs, SourceIs, PairAnswer, WalkIs, Argument, ForRead, ForSay, ForEnd, ForFinish, Answer, RepliedWith, Wrote, FinishedWith, refused}
 
@@ -76,7 +76,7 @@ begin_as id b role =
 -- a BEGIN body
 unfoldable pub receive_begin : ℕ → List ℕ → BeginOutcome (List ℕ) Held Note
 receive_begin id body =
-    onRole (begin_body_of body).role (begin_as id (begin_body_of body)) (Declined (Note.Told (Event.Refuse id UNKNOWN_ROLE)))
+    on_role (begin_body_of body).role (begin_as id (begin_body_of body)) (Declined (Note.Told (Event.Refuse id UNKNOWN_ROLE)))
 
 -- a query
 unfoldable pub receive_query : List ℕ → QueryOutcome Notice

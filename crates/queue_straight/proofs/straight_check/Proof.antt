@@ -1,9 +1,9 @@
+use Rattle.std.specs.Prelude.{if◌then◌else◌}
 use Rattle.connection.specs.declared.answer.Refusal.{Refusal}
 use Rattle.request_output.specs.declared.Check.{Check}
 use Prim.Native.Nat.{ℕ}
 use mathlib.Core.Path.{sym, ap, ◌∙◌}
 use mathlib.Core.Bool.{Bool}
-use Rattle.wire.specs.Test.{if◌then◌else◌}
 use Rattle.connection.specs.declared.request.Request.{Request}
 use Rattle.connection.specs.RequestCalls.{output_refusal}
 use Rattle.call_admit.specs.Admission.{admitted_by}

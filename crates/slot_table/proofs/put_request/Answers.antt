@@ -3,7 +3,7 @@ use lib.ListN.{length}
 use Rattle.connection.specs.Sizes.{SLOTS}
 use Rattle.connection.specs.Slots.{put_request}
 use Rattle.connection.proofs.Laws.SlotsLaws.{Sized}
-use Rattle.slot_table.proofs.Laws.{put_out, mapped-length}
+use Rattle.slot_table.proofs.Laws.{put_out, mapped_length}
 use borrow.Author.Rules.{rules}
 use Rattle.slot_table.proofs.put_request.Goals as goal
 
@@ -16,7 +16,7 @@ returns-else-i-lt-SLOTS c =
     let a = c.args in
     let ids : length a.t.ids ≡ SLOTS = search rules in
     let lengths : length a.t.lengths ≡ SLOTS = search rules in
-    let standings : length a.t.standings ≡ SLOTS = search mapped-length in
+    let standings : length a.t.standings ≡ SLOTS = search mapped_length in
     let stdin : length a.t.stdin_shown ≡ SLOTS = search rules in
     let «data» : length a.t.data_shown ≡ SLOTS = search rules in
     let sized : Sized a.t = record { ids = ids; lengths = lengths; standings = standings; stdin = stdin; «data» = «data» } in

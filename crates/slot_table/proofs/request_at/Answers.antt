@@ -5,7 +5,7 @@ use mir.Syntax.{w16}
 use Rattle.connection.specs.Sizes.{SLOTS}
 use Rattle.connection.specs.Slots.{request_at}
 use Rattle.connection.proofs.Laws.SlotsLaws.{Sized}
-use Rattle.slot_table.proofs.Laws.{Narrow, request_out, mapped-length}
+use Rattle.slot_table.proofs.Laws.{Narrow, request_out, mapped_length}
 use borrow.Author.Rules.{rules}
 use Rattle.slot_table.proofs.request_at.Goals as goal
 
@@ -18,7 +18,7 @@ returns c =
     let t = c.args.t in
     let ids : length t.ids ≡ SLOTS = search rules in
     let lengths : length t.lengths ≡ SLOTS = search rules in
-    let standings : length t.standings ≡ SLOTS = search mapped-length in
+    let standings : length t.standings ≡ SLOTS = search mapped_length in
     let keep : Fits w16 t.keep = search rules in
     let outEnded : Fits w16 t.out_ended = search rules in
     let errUsed : Fits w16 t.err_used = search rules in

@@ -5,7 +5,7 @@ use mathlib.Core.Logic.{⊎_elim}
 use native.Mathlib.Omega.{arith}
 use lib.Dec.{eqb}
 use borrow.Author.Tests.{ne_eqb, eqb-false}
-use Rattle.wire.specs.Test.{byTest}
+use Rattle.wire.specs.Test.{by_test}
 use Rattle.plain.specs.Plain.{is_stream, on_live}
 use borrow.Author.Rules.{rules}
 use Rattle.plain.proofs.live.on_live.Statement.{statement}
@@ -26,7 +26,7 @@ a-stream c =
     let k = c.before.before.before.args.kind in
     ⊎_elim (λ w. rw w.keys3)
     (λ w.
-    byTest (eqb k 4)
+    by_test (eqb k 4)
     (λ e. simp e)
     (λ e. let five : k ≡ 5 = omega (arith, eqb-false k 4 e) in rw five))
     c.match.branch

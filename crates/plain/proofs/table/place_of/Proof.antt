@@ -6,7 +6,7 @@ use lib.ListN.{length, drop}
 use borrow.Author.Rules.{rules}
 use Rattle.plain.specs.Plain.{place_of}
 use Rattle.plain.specs.Code.{requests_of}
-use Rattle.plain.proofs.TableLaws.{place_here, place_next, place_end, mapped-length}
+use Rattle.plain.proofs.TableLaws.{place_here, place_next, place_end, mapped_length}
 use Rattle.plain.proofs.table.place_of.Statement.{statement}
 use Rattle.plain.proofs.table.place_of.Tie as tie
 
@@ -32,7 +32,7 @@ returns c =
     λ store.
     let w = c.before.before.before.before in
     let a = w.before.args in
-    let n : length a.t1.entries ≡ 16 = search mapped-length in
+    let n : length a.t1.entries ≡ 16 = search mapped_length in
     let few : a.t1.count ≤ length a.t1.entries = omega (arith, w.before.requires) in
     let here = place_here a.t1 store few a.id w.loop.i (omega arith) c.if1.true in
     omega (arith, w.loop.invariant.1 store, here)
@@ -48,7 +48,7 @@ loop-again c =
     let w = c.before.before.before.before in
     let a = w.before.args in
     let i = w.loop.i in
-    let n : length a.t1.entries ≡ 16 = search mapped-length in
+    let n : length a.t1.entries ≡ 16 = search mapped_length in
     let few : a.t1.count ≤ length a.t1.entries = omega (arith, w.before.requires) in
     let y : i + 1 ≡ suc i = omega arith in (
       omega arith,
@@ -62,7 +62,7 @@ returns-2 c =
     λ store.
     let w = c.before in
     let a = w.before.args in
-    let n : length a.t1.entries ≡ 16 = search mapped-length in
+    let n : length a.t1.entries ≡ 16 = search mapped_length in
     let few : a.t1.count ≤ length a.t1.entries = omega (arith, w.before.requires) in
     let past = place_end a.t1 store few a.id w.loop.i (omega arith) in
     omega (arith, w.loop.invariant.1 store, past)
