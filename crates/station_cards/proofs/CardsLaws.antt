@@ -10,10 +10,9 @@ use Rattle.std.proofs.lemmas.Bool.{eqb-false}
 use Rattle.wire.specs.Test.{by_test, ◌<?◌, ◌=?◌}
 use Rattle.decimal.specs.Decimal.{is_digit, digit_value, digits_after, decimal_of}
 use Rattle.decimal.proofs.Laws.{digit_byte, ten_to}
-use Rattle.bytes.specs.Bytes.{slice, index_of}
 use Rattle.decimal.specs.declared.Decimal.{Decimal}
 use Rattle.station_cards.specs.Under.{Under}
-use Rattle.station_cards.specs.Cards.{plus, weight, whole_of, fraction_of, unsigned_of, card_number, thousandths_in}
+use Rattle.station_cards.specs.Cards.{index_of, plus, weight, whole_of, fraction_of, unsigned_of, card_number, thousandths_in}
 
 -- more digits stand for more
 grows : (i k : ℕ) → i ≤ k → ten_to i ≤ ten_to k
@@ -75,24 +74,17 @@ under_more (Decimal.Number k) m n h u = omega arith
 under_more Decimal.NoNumber m n h u = tt
 
 -- ---- where the text is parted
-whole_slice : (text : List ℕ) → slice 0 (length text) text ≡ text
-unfolding slice
-whole_slice text = take-length text
-
-point_is : (text : List ℕ) (p : ℕ) → p ≡ 0 + index_of 46 (slice 0 (length text) text) → index_of 46 text ≡ p
-point_is text p e = ap (index_of 46) (sym (whole_slice text)) ∙ omega (arith, e)
-
 rest : (text : List ℕ) (k : ℕ) → take (length text - k) (drop k text) ≡ drop k text
 rest text k = ap (λ (n : ℕ). take n (drop k text)) (sym (length-drop k text)) ∙ take-length (drop k text)
 
-pub no_point : (text : List ℕ) (p : ℕ) → p ≡ 0 + index_of 46 (slice 0 (length text) text) → p ≡ length text → whole_of text ≡ unsigned_of text
+pub no_point : (text : List ℕ) (p : ℕ) → p ≡ index_of 46 text → p ≡ length text → whole_of text ≡ unsigned_of text
 unfolding unsigned_of
-no_point text p e end = simp (point_is text p e, eq-eqb _ _ end)
+no_point text p e end = simp (sym e, eq-eqb _ _ end)
 
-pub point_at : (text : List ℕ) (p : ℕ) → p ≡ 0 + index_of 46 (slice 0 (length text) text) → (p ≡ length text → ⊥)
+pub point_at : (text : List ℕ) (p : ℕ) → p ≡ index_of 46 text → (p ≡ length text → ⊥)
     → plus (whole_of (take (p - 0) text)) (fraction_of (take (length text - (p + 1)) (drop (p + 1) text))) ≡ unsigned_of text
 unfolding unsigned_of
-point_at text p e other = simp (sub-zero p, rest text (p + 1), point_is text p e, ne_eqb _ _ other)
+point_at text p e other = simp (sub-zero p, rest text (p + 1), sym e, ne_eqb _ _ other)
 
 pub with_minus : (text : List ℕ) → (length text ≡ 0 → ⊥) → get_or text 0 0 ≡ 45
     → card_number true (unsigned_of (take (length text - 1) (drop 1 text))) ≡ thousandths_in text

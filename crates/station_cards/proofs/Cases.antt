@@ -1,8 +1,7 @@
 -- Numbers of cards, worked out from the definitions.
 use Rattle.std.specs.Prelude.{◌≡◌, refl, [], ◌∷◌, pos, negsuc}
-use Rattle.bytes.specs.Bytes.{index_of, index_after}
 use Rattle.decimal.specs.Decimal.{digits_after, decimal_of}
-use Rattle.station_cards.specs.Cards.{whole_of, fraction_of, unsigned_of, NO_NUMBER, thousandths_in}
+use Rattle.station_cards.specs.Cards.{index_of, whole_of, fraction_of, unsigned_of, NO_NUMBER, thousandths_in}
 
 pub record Rows : Type 0 where
   -- numbers of cards: with a point, a sign, without a fraction, the largest
@@ -23,7 +22,7 @@ pub record Rows : Type 0 where
   pub card_points : thousandths_in (49 ∷ 46 ∷ 50 ∷ 46 ∷ 51 ∷ []) ≡ NO_NUMBER
 
 pub rows : Rows
-unfolding index_of index_after digits_after decimal_of whole_of fraction_of unsigned_of thousandths_in
+unfolding index_of digits_after decimal_of whole_of fraction_of unsigned_of thousandths_in
 rows = record {
   card_point = refl;
   card_whole = refl;

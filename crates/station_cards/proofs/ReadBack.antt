@@ -4,14 +4,18 @@ use Rattle.std.specs.Prelude.{ℕ, zero, suc, ◌+◌, ◌-◌, ◌*◌, ◌/◌
 use Rattle.std.proofs.Common.{sym, ap, ◌∙◌, subst, arith, length-append, take_at, lt-ltb, le-ltb, le-leb, ltb-true, ltb-false, eq-eqb, ne_eqb}
 use Rattle.std.proofs.Math.Option.{Option, none, some}
 use Rattle.std.proofs.Math.Seq.{drop-append-add}
+<<<<<<< HEAD
 use Rattle.wire.specs.Test.{by_test, ◌<?◌}
 use Rattle.bytes.specs.Bytes.{index_of, index_after}
+=======
+use Rattle.wire.specs.Test.{byTest, ◌<?◌}
+>>>>>>> d3ff313 (bench's station by the paths of its pipes; station_cards finds the point itself)
 use Rattle.decimal.specs.Decimal.{is_digit, digit_value, digits_after, decimal_of}
 use Rattle.decimal.proofs.Laws.{digit_byte, ten_to}
 use Rattle.event_text.specs.Line.{digit, decimal}
 use Rattle.event_text.proofs.LineLaws.{decimal_one, decimal_more}
 use Rattle.station_number.specs.Fixed.{size_of, signed, thousandths_text}
-use Rattle.station_cards.specs.Cards.{plus, whole_of, fraction_of, unsigned_of, card_number, thousandths_in}
+use Rattle.station_cards.specs.Cards.{index_of, plus, whole_of, fraction_of, unsigned_of, card_number, thousandths_in}
 use Rattle.station_number.proofs.PutsLaws.{digits_few}
 
 -- ---- digits
@@ -57,7 +61,7 @@ decimal_back n h =
 -- ---- a number with a point
 -- The first point stands behind the digits.
 point_behind : (x r : List ℕ) (v n : ℕ) → digits_after v x ≡ some n → index_of 46 (x ++ (46 ∷ r)) ≡ length x
-unfolding digits_after index_of index_after
+unfolding digits_after index_of
 point_behind [] r v n e = refl
 point_behind (byte ∷ x) r v n e =
     by_test (is_digit byte)

@@ -1,15 +1,23 @@
 -- The calibration cards of a station, from the texts of three parameters.
+<<<<<<< HEAD
 use Rattle.std.specs.Prelude.{ℕ, ◌+◌, ◌*◌, Bool, true, false, List, length, take, drop, ℤ, pos, Float, if◌then◌else◌}
+=======
+use Rattle.std.specs.Prelude.{ℕ, suc, ◌+◌, ◌*◌, Bool, true, false, List, [], ◌∷◌, length, take, drop, ℤ, pos, Float}
+>>>>>>> d3ff313 (bench's station by the paths of its pipes; station_cards finds the point itself)
 use Rattle.std.proofs.Math.Option.{Option, none, some}
 use Rattle.std.specs.Float.{binary64}
 use Rattle.std.specs.Float.Ieee.{div, of_int}
 use Rattle.wire.specs.Test.{◌<?◌, ◌=?◌}
 use Rattle.wire.specs.Buffer.{byte_at}
-use Rattle.bytes.specs.Bytes.{index_of}
 use Rattle.decimal.specs.Decimal.{decimal_of}
 use Rattle.ice_correction.specs.declared.Curve.{Curve}
 use Rattle.ice_correction.specs.declared.Calibration.{Calibration}
 use Rattle.station_number.specs.Fixed.{signed}
+
+-- Where a byte stands first in a text; the text's length where it stands nowhere.
+unfoldable pub index_of : ℕ → List ℕ → ℕ
+index_of b [] = 0
+index_of b (x ∷ xs) = if x =? b then 0 else suc (index_of b xs)
 
 -- ---- a number without a sign, in thousandths
 abbrev pub times : ℕ → Option ℕ → Option ℕ

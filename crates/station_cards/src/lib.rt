@@ -3,11 +3,10 @@
 
 ghost use Rattle.std.specs.Prelude.{◌≡◌};
 ghost use Rattle.decimal.specs.Decimal.{read_as};
-ghost use Rattle.station_cards.specs.Cards.{plus, weight, whole_of, fraction_of, unsigned_of};
+ghost use Rattle.station_cards.specs.Cards.{index_of, plus, weight, whole_of, fraction_of, unsigned_of};
 ghost use Rattle.station_cards.specs.Cards.{card_number, thousandths_in, card_float, calibration_of};
 ghost use Rattle.station_cards.specs.Under.{Under};
 
-use bytes::scan::find;
 use decimal::{Decimal, read_decimal};
 use ice_correction::{Calibration, Card, Curve};
 use station_number::signed;
@@ -70,13 +69,27 @@ fn sum(whole: Decimal, fraction: Decimal) -> Decimal
     }
 }
 
+// Where a byte stands first in a text; the text's length where it stands nowhere.
+fn find(text: &[u8], byte: u8) -> usize
+    ensures { result ≡ index_of byte text.now }
+{
+    let mut i: usize = 0;
+    while i < text.len() {
+        if text[i] == byte {
+            return i;
+        }
+        i += 1;
+    }
+    i
+}
+
 // A number without a sign, in thousandths.
 fn read_unsigned(text: &[u8]) -> Decimal
     ensures { (read_as result ≡ unsigned_of text.now) × Under result 10000000 }
 {
     let start: usize = 0;
     let end = text.len();
-    let point = find(text, start, end, 46);
+    let point = find(text, 46);
     if point == end {
         return read_whole(text);
     }

@@ -2,7 +2,6 @@
 use Rattle.std.specs.Prelude.{ℕ, Bool, true, false, ◌≡◌, refl, ltb, leb, eqb}
 
 infix 40 ◌<?◌ ◌≤?◌ ◌=?◌
-
 abbrev pub ◌<?◌ : ℕ → ℕ → Bool
 m <? n = ltb m n
 

@@ -16,13 +16,13 @@ use Rattle.call_reply.proofs.owed_reply.Goals as goal
 pub slice_bounds-one_record-end-in-Query : goal.slice_bounds-one_record-end-in-Query
 slice_bounds-one_record-end-in-Query c =
     let values : Values (values_of c.in-Query.max_conns c.in-Query.max_reqs c.in-Query.mpxs_conns) c.put_values-n.new.list c.put_values-n.result =
-        values_put c.in-Query.max_conns c.in-Query.max_reqs c.in-Query.mpxs_conns c.put_values-n.ensures.0 c.put_values-n.ensures.1 in
+    values_put c.in-Query.max_conns c.in-Query.max_reqs c.in-Query.mpxs_conns c.put_values-n.ensures.0 c.put_values-n.ensures.1 in
     (values).within
 
 pub one_record-requires-in-Query : goal.one_record-requires-in-Query
 one_record-requires-in-Query c =
     let values : Values (values_of c.in-Query.max_conns c.in-Query.max_reqs c.in-Query.mpxs_conns) c.put_values-n.new.list c.put_values-n.result =
-        values_put c.in-Query.max_conns c.in-Query.max_reqs c.in-Query.mpxs_conns c.put_values-n.ensures.0 c.put_values-n.ensures.1 in
+    values_put c.in-Query.max_conns c.in-Query.max_reqs c.in-Query.mpxs_conns c.put_values-n.ensures.0 c.put_values-n.ensures.1 in
     omega (arith, values, length-take (c.put_values-n.result - 0) c.put_values-n.new.list)
 
 pub returns-in-Refuse : goal.returns-in-Refuse
@@ -38,7 +38,7 @@ pub returns-in-Query : goal.returns-in-Query
 unfolding replied owed
 returns-in-Query c =
     let values : Values (values_of c.in-Query.max_conns c.in-Query.max_reqs c.in-Query.mpxs_conns) c.put_values-n.new.list c.put_values-n.result =
-        values_put c.in-Query.max_conns c.in-Query.max_reqs c.in-Query.mpxs_conns c.put_values-n.ensures.0 c.put_values-n.ensures.1 in
+    values_put c.in-Query.max_conns c.in-Query.max_reqs c.in-Query.mpxs_conns c.put_values-n.ensures.0 c.put_values-n.ensures.1 in
     let s = c.args in
     c.one_record-in-Query.ensures
     ∙ ap (λ (x : List ℕ). filled_by (record_bytes GET_VALUES_RESULT 0 x) s.out.now) (values).front

@@ -12,8 +12,7 @@ use Rattle.call_value.proofs.value.Goals as goal
 
 pub returns-in_default : goal.returns-in_default
 unfolding value_place
-returns-in_default c =
- (
+returns-in_default c = (
   sym (value_listed _ _ _ _ _ ∙ simp (← c.list_at-listed.ensures, c.in_default.is, first_in_none)),
   rw (← c.list_at-listed.ensures, c.in_default.is, first_in_none) (record { block = refl; place = sym (zero-add _) }),
 )
@@ -21,22 +20,22 @@ returns-in_default c =
 pub slice_bounds-value_in-count : goal.slice_bounds-value_in-count
 slice_bounds-value_in-count c =
     let inside : Within c.args.store.now (record { refusal = 0; from = c.in-At.a; to = c.in-At.e }) =
-        let a = c.args in
-        subst (Within a.store.now) (sym c.list_at-listed.ensures ∙ ap listed_by c.in-At.is) (listing_within a.c a.store.now a.id) in
+    let a = c.args in
+    subst (Within a.store.now) (sym c.list_at-listed.ensures ∙ ap listed_by c.in-At.is) (listing_within a.c a.store.now a.id) in
     omega (arith, inside)
 
 pub slice_bounds-value_in-start : goal.slice_bounds-value_in-start
 slice_bounds-value_in-start c =
     let inside : Within c.args.store.now (record { refusal = 0; from = c.in-At.a; to = c.in-At.e }) =
-        let a = c.args in
-        subst (Within a.store.now) (sym c.list_at-listed.ensures ∙ ap listed_by c.in-At.is) (listing_within a.c a.store.now a.id) in
+    let a = c.args in
+    subst (Within a.store.now) (sym c.list_at-listed.ensures ∙ ap listed_by c.in-At.is) (listing_within a.c a.store.now a.id) in
     omega (arith, inside)
 
 pub slice_bounds-value_in-end : goal.slice_bounds-value_in-end
 slice_bounds-value_in-end c =
     let inside : Within c.args.store.now (record { refusal = 0; from = c.in-At.a; to = c.in-At.e }) =
-        let a = c.args in
-        subst (Within a.store.now) (sym c.list_at-listed.ensures ∙ ap listed_by c.in-At.is) (listing_within a.c a.store.now a.id) in
+    let a = c.args in
+    subst (Within a.store.now) (sym c.list_at-listed.ensures ∙ ap listed_by c.in-At.is) (listing_within a.c a.store.now a.id) in
     omega (arith, inside)
 
 pub returns : goal.returns

@@ -7,8 +7,7 @@ use borrow.Author.Rules.{rules}
 use Rattle.call_value.proofs.value_in.Goals as goal
 
 pub returns-in_default : goal.returns-in_default
-returns-in_default c =
- (
+returns-in_default c = (
   simp (← c.first_named-found.ensures, c.in_default.is),
   rw (← c.first_named-found.ensures, c.in_default.is) (record { block = refl; place = sym (zero-add _) }),
 )
@@ -16,13 +15,13 @@ returns-in_default c =
 pub overflow_add-e : goal.overflow_add-e
 overflow_add-e c =
     let found_in : LiesIn c.args.list.now c.in-At.p =
-        first_within _ c.args.name.now _ (sym c.first_named-found.ensures ∙ c.in-At.is) in
+    first_within _ c.args.name.now _ (sym c.first_named-found.ensures ∙ c.in-At.is) in
     omega (arith, found_in)
 
 pub slice_bounds-result-end : goal.slice_bounds-result-end
 slice_bounds-result-end c =
     let found_in : LiesIn c.args.list.now c.in-At.p =
-        first_within _ c.args.name.now _ (sym c.first_named-found.ensures ∙ c.in-At.is) in
+    first_within _ c.args.name.now _ (sym c.first_named-found.ensures ∙ c.in-At.is) in
     omega (arith, found_in)
 
 pub returns : goal.returns

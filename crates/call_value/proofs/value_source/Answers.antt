@@ -9,22 +9,22 @@ use Rattle.call_value.proofs.value_source.Goals as goal
 pub slice_bounds-first_named-count : goal.slice_bounds-first_named-count
 slice_bounds-first_named-count c =
     let inside : Within c.args.store.now (record { refusal = 0; from = c.in-At.a; to = c.in-At.e }) =
-        let a = c.args in
-        subst (Within a.store.now) (sym c.list_at-listed.ensures ∙ ap listed_by c.in-At.is) (listing_within a.c a.store.now a.id) in
+    let a = c.args in
+    subst (Within a.store.now) (sym c.list_at-listed.ensures ∙ ap listed_by c.in-At.is) (listing_within a.c a.store.now a.id) in
     omega (arith, inside)
 
 pub slice_bounds-first_named-start : goal.slice_bounds-first_named-start
 slice_bounds-first_named-start c =
     let inside : Within c.args.store.now (record { refusal = 0; from = c.in-At.a; to = c.in-At.e }) =
-        let a = c.args in
-        subst (Within a.store.now) (sym c.list_at-listed.ensures ∙ ap listed_by c.in-At.is) (listing_within a.c a.store.now a.id) in
+    let a = c.args in
+    subst (Within a.store.now) (sym c.list_at-listed.ensures ∙ ap listed_by c.in-At.is) (listing_within a.c a.store.now a.id) in
     omega (arith, inside)
 
 pub slice_bounds-first_named-end : goal.slice_bounds-first_named-end
 slice_bounds-first_named-end c =
     let inside : Within c.args.store.now (record { refusal = 0; from = c.in-At.a; to = c.in-At.e }) =
-        let a = c.args in
-        subst (Within a.store.now) (sym c.list_at-listed.ensures ∙ ap listed_by c.in-At.is) (listing_within a.c a.store.now a.id) in
+    let a = c.args in
+    subst (Within a.store.now) (sym c.list_at-listed.ensures ∙ ap listed_by c.in-At.is) (listing_within a.c a.store.now a.id) in
     omega (arith, inside)
 
 pub returns-in-Refused : goal.returns-in-Refused

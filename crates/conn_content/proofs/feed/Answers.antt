@@ -25,29 +25,29 @@ of_query-requires c =
 pub overflow_mul-a : goal.overflow_mul-a
 overflow_mul-a c =
     let low : c.in-Params.i < SLOTS =
-        let a = c.args in
-        (aimed_at a.f.target (Target.Params c.in-Params.i) a.t a.f.gathered a.f.position.content c.requires.1 c.in-Params.is).slot.low in
+    let a = c.args in
+    (aimed_at a.f.target (Target.Params c.in-Params.i) a.t a.f.gathered a.f.position.content c.requires.1 c.in-Params.is).slot.low in
     omega (arith, low)
 
 pub overflow_add-e : goal.overflow_add-e
 overflow_add-e c =
     let low : c.in-Params.i < SLOTS =
-        let a = c.args in
-        (aimed_at a.f.target (Target.Params c.in-Params.i) a.t a.f.gathered a.f.position.content c.requires.1 c.in-Params.is).slot.low in
+    let a = c.args in
+    (aimed_at a.f.target (Target.Params c.in-Params.i) a.t a.f.gathered a.f.position.content c.requires.1 c.in-Params.is).slot.low in
     omega (arith, low)
 
 pub slice_bounds-of_params-start : goal.slice_bounds-of_params-start
 slice_bounds-of_params-start c =
     let low : c.in-Params.i < SLOTS =
-        let a = c.args in
-        (aimed_at a.f.target (Target.Params c.in-Params.i) a.t a.f.gathered a.f.position.content c.requires.1 c.in-Params.is).slot.low in
+    let a = c.args in
+    (aimed_at a.f.target (Target.Params c.in-Params.i) a.t a.f.gathered a.f.position.content c.requires.1 c.in-Params.is).slot.low in
     omega (arith, low)
 
 pub slice_bounds-of_params-end : goal.slice_bounds-of_params-end
 slice_bounds-of_params-end c =
     let low : c.in-Params.i < SLOTS =
-        let a = c.args in
-        (aimed_at a.f.target (Target.Params c.in-Params.i) a.t a.f.gathered a.f.position.content c.requires.1 c.in-Params.is).slot.low in
+    let a = c.args in
+    (aimed_at a.f.target (Target.Params c.in-Params.i) a.t a.f.gathered a.f.position.content c.requires.1 c.in-Params.is).slot.low in
     omega (arith, low)
 
 pub returns-in-Skip : goal.returns-in-Skip

@@ -29,25 +29,25 @@ returns-in_default c =
 pub overflow_mul-a : goal.overflow_mul-a
 overflow_mul-a c =
     let low : c.in-At.i < SLOTS =
-        (find_at c.args.t c.args.h.id c.in-At.i (sym c.find_from-slot.ensures ∙ c.in-At.is)).low in
+    (find_at c.args.t c.args.h.id c.in-At.i (sym c.find_from-slot.ensures ∙ c.in-At.is)).low in
     omega (arith, low)
 
 pub overflow_add-e : goal.overflow_add-e
 overflow_add-e c =
     let low : c.in-At.i < SLOTS =
-        (find_at c.args.t c.args.h.id c.in-At.i (sym c.find_from-slot.ensures ∙ c.in-At.is)).low in
+    (find_at c.args.t c.args.h.id c.in-At.i (sym c.find_from-slot.ensures ∙ c.in-At.is)).low in
     omega (arith, low)
 
 pub slice_bounds-on_active-end : goal.slice_bounds-on_active-end
 slice_bounds-on_active-end c =
     let low : c.in-At.i < SLOTS =
-        (find_at c.args.t c.args.h.id c.in-At.i (sym c.find_from-slot.ensures ∙ c.in-At.is)).low in
+    (find_at c.args.t c.args.h.id c.in-At.i (sym c.find_from-slot.ensures ∙ c.in-At.is)).low in
     omega (arith, low)
 
 pub on_active-requires : goal.on_active-requires
 on_active-requires c =
     let low : c.in-At.i < SLOTS =
-        (find_at c.args.t c.args.h.id c.in-At.i (sym c.find_from-slot.ensures ∙ c.in-At.is)).low in
+    (find_at c.args.t c.args.h.id c.in-At.i (sym c.find_from-slot.ensures ∙ c.in-At.is)).low in
     low
 
 pub returns : goal.returns
