@@ -4,12 +4,7 @@ use Rattle.std.specs.Prelude.{ℕ, zero, suc, ◌+◌, ◌-◌, ◌*◌, ◌/◌
 use Rattle.std.proofs.Common.{sym, ap, ◌∙◌, subst, arith, length-append, take_at, lt-ltb, le-ltb, le-leb, ltb-true, ltb-false, eq-eqb, ne_eqb}
 use Rattle.std.proofs.Math.Option.{Option, none, some}
 use Rattle.std.proofs.Math.Seq.{drop-append-add}
-<<<<<<< HEAD
 use Rattle.wire.specs.Test.{by_test, ◌<?◌}
-use Rattle.bytes.specs.Bytes.{index_of, index_after}
-=======
-use Rattle.wire.specs.Test.{byTest, ◌<?◌}
->>>>>>> d3ff313 (bench's station by the paths of its pipes; station_cards finds the point itself)
 use Rattle.decimal.specs.Decimal.{is_digit, digit_value, digits_after, decimal_of}
 use Rattle.decimal.proofs.Laws.{digit_byte, ten_to}
 use Rattle.event_text.specs.Line.{digit, decimal}

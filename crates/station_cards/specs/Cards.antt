@@ -1,9 +1,5 @@
 -- The calibration cards of a station, from the texts of three parameters.
-<<<<<<< HEAD
-use Rattle.std.specs.Prelude.{ℕ, ◌+◌, ◌*◌, Bool, true, false, List, length, take, drop, ℤ, pos, Float, if◌then◌else◌}
-=======
-use Rattle.std.specs.Prelude.{ℕ, suc, ◌+◌, ◌*◌, Bool, true, false, List, [], ◌∷◌, length, take, drop, ℤ, pos, Float}
->>>>>>> d3ff313 (bench's station by the paths of its pipes; station_cards finds the point itself)
+use Rattle.std.specs.Prelude.{ℕ, suc, ◌+◌, ◌*◌, Bool, true, false, List, [], ◌∷◌, length, take, drop, ℤ, pos, Float, if◌then◌else◌}
 use Rattle.std.proofs.Math.Option.{Option, none, some}
 use Rattle.std.specs.Float.{binary64}
 use Rattle.std.specs.Float.Ieee.{div, of_int}
