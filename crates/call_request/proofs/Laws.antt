@@ -1,6 +1,6 @@
 -- What `request_of` answers, by whether it is admitted.
-use Rattle.std.specs.Prelude.{ℕ, ◌≡◌, if◌then◌else◌}
-use Rattle.std.proofs.Common.{sym, ◌∙◌}
+use Rattle.std.specs.Prelude.{ℕ, ◌≡◌}
+use Rattle.std.proofs.Common.{◌∙◌}
 use Rattle.std.proofs.Math.Path.{ap}
 use Rattle.connection.specs.declared.answer.Refusal.{Refusal}
 use Rattle.connection.specs.declared.request.Request.{Request}

@@ -8,15 +8,11 @@ use Rattle.record_writer.specs.Written.{record_bytes}
 use Rattle.connection.specs.declared.answer.Output.{Output}
 use Rattle.connection.specs.Codes.{output_type}
 use Rattle.connection.specs.Slots.{request_at}
-use Rattle.connection.specs.RequestCalls as Of
 use Rattle.connection.specs.Calls as C
-use Rattle.connection.specs.Run as Base
 use Rattle.connection.specs.Run.{Memory}
 use Rattle.queue_slot.specs.Atoms.{Atom, ByteOn, EndOf, EndRequest, end_waits, stream_atoms, record_atoms}
 use Rattle.queue_slot.proofs.AtomLaws.{atoms_one, output_atoms}
-use Rattle.queue.specs.Calls as T
 use Rattle.queue.specs.Calls.{QueueMemory, conn_of, or, served_last, released_slot, PumpedRecord, pump_slot, turned}
-use Rattle.queue_link.proofs.LoadedCalls as L
 use Rattle.queue_link.proofs.LinkedWritten.{read_of, if_own, own_one}
 use Rattle.queue_runs.proofs.Changes.{Serving, Goes, Ends, serving, turn_keeps}
 

@@ -47,6 +47,13 @@ nameless_stays R t Event.None q = (refl, refl)
 nameless_stays R t (Event.Refuse id status) q = (refl, refl)
 nameless_stays R t (Event.Query conns reqs mpxs) q = (refl, refl)
 nameless_stays R t (Event.Unknown kind) q = (refl, refl)
+nameless_stays R t (Event.Open _ _ _) q = elim q [ ]
+nameless_stays R t (Event.Ready _ _) q = elim q [ ]
+nameless_stays R t (Event.Data _ _ _) q = elim q [ ]
+nameless_stays R t (Event.End _ _ _) q = elim q [ ]
+nameless_stays R t (Event.Abort _) q = elim q [ ]
+nameless_stays R t (Event.Fault _ _) q = elim q [ ]
+nameless_stays R t (Event.Closed _) q = elim q [ ]
 
 -- a header opens nothing, and keeps the id
 header_stays : (R kind n : ℕ) (h : Held) → (opens_r R (on_header kind n h).event ≡ false) × ((on_header kind n h).held.request.id ≡ h.request.id)

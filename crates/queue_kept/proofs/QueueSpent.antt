@@ -22,15 +22,12 @@ use Rattle.connection.proofs.Runs.SpentSilent.{active_at}
 use Rattle.connection.proofs.Runs.StaysSpent.{StillSpent}
 use Rattle.connection.proofs.Runs.StaysSpent as Without
 use Rattle.queue_slot.specs.Finishing.{spent_life, spent_by}
-use Rattle.queue.specs.Calls as T
 use Rattle.queue.specs.Calls.{QueueMemory}
 use Rattle.queue.specs.Run as D
 use Rattle.queue.specs.Run.{QueueOperation, CallFor, CountActive, TurnWith, queue_after, final_queue, PiecesAreBytes, QueueRun, beginning, ending}
 use Rattle.queue_link.proofs.Loaded.{queue_step_is}
-use Rattle.queue_link.proofs.LoadedCalls as L
 use Rattle.queue_link.proofs.LinkedRuns.{Fine, piece_ok, op_fine, run_is}
 use Rattle.queue_theorem.proofs.Theorem.{start_fine}
-use Rattle.queue_runs.proofs.Changes.{active}
 use Rattle.queue_runs.proofs.Closing.{both_ways}
 use Rattle.queue_kept.specs.Going.{goes_with}
 use Rattle.queue_kept.proofs.CallsKeep.{fact_of, call_fact, turn_fact}

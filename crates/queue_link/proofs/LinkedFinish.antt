@@ -35,7 +35,7 @@ use Rattle.connection.specs.Slots.{request_at, area_at, find}
 use Rattle.connection.specs.Fits.{Aimed}
 use Rattle.connection.proofs.Laws.ShapeLaws.{shaped, in_shape_lem}
 use Rattle.connection.proofs.Runs.ReceiverLaws.{SameList}
-use Rattle.connection.proofs.Runs.Loading.{loaded_slots, loaded_reading, loaded_target, reading_at, slot_of}
+use Rattle.connection.proofs.Runs.Loading.{loaded_slots, loaded_reading, loaded_target, reading_at}
 use Rattle.connection.proofs.Runs.LoadingLaws.{lookup_loaded}
 use Rattle.connection.proofs.Runs.LinkingCalls.{slot_found, redirected_target, redirected_reading}
 use Rattle.queue_slot.specs.Atoms.{end_waits}

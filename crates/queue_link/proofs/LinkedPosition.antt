@@ -7,14 +7,12 @@ use Rattle.std.proofs.Math.Bool.{true, false}
 use Rattle.wire.specs.Test.{by_test}
 use Rattle.record_reader.specs.Position.{after}
 use Rattle.record_reader.proofs.PositionLaws.{after_append}
-use Rattle.record_reader.proofs.PositionSplit.{unfinished}
 use Rattle.record_reader.specs.declared.Position.{Position}
 use Rattle.machine.specs.Timeline.{item_bytes}
 use Rattle.machine.proofs.TimelineLaws.{bytes_of_items}
 use Rattle.machine.specs.Machine.{Closed, state_after}
 use Rattle.machine.proofs.RunLaws.{closed_stays}
 use Rattle.machine_queue.specs.Pump.{next_waiting}
-use Rattle.machine.proofs.Isolation as Generic
 use Rattle.connection.specs.declared.request.Request.{Request}
 use Rattle.connection.specs.declared.answer.Output.{Output}
 use Rattle.connection.specs.declared.state.Conn.{Conn}
@@ -27,7 +25,6 @@ use Rattle.connection.specs.Step.{Stepped, closed_conn}
 use Rattle.connection.specs.Calls as C
 use Rattle.connection.specs.Arguments.{ForRead, ForSay, ForEnd, ForFinish}
 use Rattle.connection.proofs.Runs.LinkingStep.{open_loaded, closed_loaded}
-use Rattle.connection.proofs.Runs.LinkingRuns as Links
 use Rattle.connection.proofs.Runs.Records.{StandsAt, step_position}
 use Rattle.queue_slot.specs.Finishing.{spent_by}
 use Rattle.queue_slot.specs.Wait.{Wait, wait_data, wait_end, wait_finish, Served, ServesNothing, ServesEnd, ServesData, ServesLast, served}

@@ -25,7 +25,6 @@ use Rattle.connection.proofs.Runs.LinkingStep.{open_loaded, closed_loaded}
 use Rattle.queue_slot.specs.Atoms.{end_waits}
 use Rattle.queue_slot.specs.Wait.{atoms_in}
 use Rattle.queue_slot.proofs.WaitRefines.{last_is}
-use Rattle.queue_machine.specs.Queued as Q
 use Rattle.queue_machine.specs.Queued.{Queued, queued, Asked, queueing_receiver, waiting_queue}
 use Rattle.queue_machine.proofs.Lift.{Waiting, lift_slots, lift_lookup, lift_reading, lift_connection, lift_lookup_lem}
 use Rattle.queue_link.proofs.Loaded.{waiting_of, loaded_queue, step_loaded, step_steady}

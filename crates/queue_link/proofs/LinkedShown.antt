@@ -27,7 +27,6 @@ use Rattle.queue_link.proofs.LinkedStraight.{asked, told_of}
 use Rattle.queue_link.proofs.LinkedFinish.{call_is}
 use Rattle.queue_link.proofs.Observing.{call_seen, served_seen}
 use Rattle.queue_link.proofs.LinkedBuffers.{buffer_lent, leaving_buffer}
-use Rattle.queue.specs.Calls as T
 use Rattle.queue.specs.Calls.{QueueMemory, queue_step}
 use Rattle.queue.specs.Run as D
 use Rattle.queue.specs.Run.{Asking, Answering, QueueOperation, CallFor, CountActive, TurnWith, queue_called, used_of, queue_after, leaving_of, buffer_left, Shown, ShownNote, ShownAnswer, ShownLeaving, note_id, notes_of, shown_in, shown_all, PiecesAreBytes}

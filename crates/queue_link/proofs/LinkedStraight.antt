@@ -8,9 +8,7 @@ use Rattle.machine.specs.Timeline.{RequestCall, CallItem}
 use Rattle.machine.specs.Machine.{Slots, Reading, Open, CallOutcome, Stays, Retires, Leaves, Closes, Observation, RequestEvent, NoticeEvent, CloseEvent, CountAnswer, CallAnswer, call_decided, request_called, on_item, state_after, observations, as_list}
 use Rattle.connection.specs.declared.state.Slot.{Slot}
 use Rattle.connection.specs.Request.{Held}
-use Rattle.connection.specs.RequestCalls as Of
 use Rattle.connection.specs.Slots.{find}
-use Rattle.connection.specs.Calls as C
 use Rattle.connection.specs.Arguments.{ValueIs, Argument, Answer, RepliedWith}
 use Rattle.connection.specs.Run.{Memory, Observed, Heard, Answered, CallFor, called, memory_after, seen_in, items_of}
 use Rattle.connection.specs.Runs.Receiver.{receiver, receive_call}
@@ -30,7 +28,6 @@ use Rattle.queue_link.proofs.Loaded.{waiting_of, loaded_queue, QueueSteady, kept
 use Rattle.queue_link.proofs.LoadedCalls as L
 use Rattle.queue_link.proofs.LoadedPump.{lift_without}
 use Rattle.queue_link.proofs.LoadedTurn.{Good, free_changed}
-use Rattle.queue.specs.Calls as T
 use Rattle.queue.specs.Calls.{QueueMemory, beside, conn_of}
 use Rattle.queue.specs.Run as D
 use Rattle.queue.specs.Run.{Asking, Answering, QueueResult, queue_called, with_memory}

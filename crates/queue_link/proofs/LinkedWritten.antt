@@ -9,7 +9,7 @@ use Rattle.wire.specs.Test.{by_test}
 use Rattle.record.specs.Names.{STDOUT, STDERR, END_REQUEST, REQUEST_COMPLETE}
 use Rattle.record.specs.Body.{end_body_bytes}
 use Rattle.record.proofs.BodyLaws.{end_length}
-use Rattle.record.specs.Split.{Record, Split, split_in, split}
+use Rattle.record.specs.Split.{Split, split_in, split}
 use Rattle.record_writer.specs.Written.{record_bytes, stream_bytes}
 use Rattle.record_writer.proofs.ReadBack.{record_read_back}
 use Rattle.record_writer.proofs.StreamLaws.{by_chunks, stream_none, stream_more}

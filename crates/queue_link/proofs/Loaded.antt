@@ -1,7 +1,6 @@
 -- The whole state, read as the connection of the machine with a queue; a step is the items of the bytes that it used.
 use Rattle.std.specs.Prelude.{◌≡◌, refl, List, [], ◌∷◌, Bool, true, false, not, ℕ, zero, suc, ◌+◌, ◌<◌, length, take, if◌then◌else◌}
 use Rattle.std.proofs.Common.{ap, sym, ◌∙◌, subst, arith, eq-eqb, le-leb}
-use Rattle.std.proofs.Math.Option.{none}
 use Rattle.wire.specs.Test.{by_test}
 use Rattle.slot_word.specs.Word.{taken}
 use Rattle.slot_word.proofs.WordLaws.{taken_out}

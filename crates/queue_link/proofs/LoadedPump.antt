@@ -34,7 +34,6 @@ use Rattle.queue.proofs.NumberLaws.{count_of_other, front_of_other, last_of_othe
 use Rattle.queue.proofs.Areas.{Roomy, wait_of_put, wait_of_other}
 use Rattle.queue_link.proofs.Loaded.{waiting_of, loaded_queue, QueueSteady, slot_below}
 use Rattle.queue_link.proofs.LoadedCalls as L
-use Rattle.queue.specs.Calls as T
 use Rattle.queue.specs.Calls.{QueueMemory, conn_of, wait_at, put_wait, served_last, released_slot, write_served, pump_slot}
 
 -- skipping goes through

@@ -24,7 +24,7 @@ use Rattle.connection.proofs.Runs.LinkingCalls.{call_linked}
 use Rattle.connection.proofs.Runs.LinkingRuns.{start_steady}
 use Rattle.queue_slot.specs.Wait.{Wait}
 use Rattle.queue.specs.Calls.{QueueMemory, conn_of, put_wait, with_conn, put_both, skipping, served_last, released_slot, pump_slot, PumpedRecord, queue_in_shape}
-use Rattle.queue.specs.Run.{QueueOperation, CallFor, queue_after, QueueRun, beginning, final_queue, PiecesAreBytes, ending}
+use Rattle.queue.specs.Run.{QueueOperation, queue_after, QueueRun, beginning, final_queue, PiecesAreBytes, ending}
 use Rattle.queue_link.proofs.Loaded.{linked_steady}
 use Rattle.queue_link.proofs.LinkedFinish.{skipped, steady_skip}
 use Rattle.queue_link.proofs.LinkedRuns.{PieceOk, piece_ok}

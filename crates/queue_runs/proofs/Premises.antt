@@ -81,6 +81,7 @@ from_zeros os e =
 heard_in_lem : (n : Note) (ns : List Note) → Memᴰ n ns → Memᴰ (Heard n) (map Heard ns)
 heard_in_lem n (x ∷ ns) (Memᴰ.head e) = Memᴰ.head (ap Heard e)
 heard_in_lem n (x ∷ ns) (Memᴰ.tail h) = Memᴰ.tail (heard_in_lem n ns h)
+heard_in_lem n [] x' = elim x' [ ]
 
 -- Where no note refuses R, R is not refused for want of a slot.
 pub never_overloaded : (R : ℕ) (r : QueueRun) → refused_in R (map Heard (notes_all (beginning r) r.operations)) ≡ false → NeverOverloaded R r

@@ -17,7 +17,6 @@ use Rattle.connection.specs.Sizes.{SLOTS, STORE}
 use Rattle.connection.specs.Refusal.{Row, ◌when◌, holds_in, refusal}
 use Rattle.connection.specs.RequestCalls as Of
 use Rattle.connection.specs.Slots.{request_at, find, on_slot, is_found}
-use Rattle.connection.specs.Calls as C
 use Rattle.connection.specs.Arguments.{ForRead, ForSay, ForEnd, ForFinish}
 use Rattle.connection.specs.Run.{Memory}
 use Rattle.connection.proofs.Laws.SlotsLaws.{find_at, found_true}

@@ -115,6 +115,9 @@ long_answer : (m : QueueMemory) (id : ℕ) (b : Asking) → is_ten (queue_called
 long_answer m id (D.ToSay o content) h l e =
     let f = long_first m id o content l (sym (ap is_ten (say_answer m id o content)) ∙ h) in
     eqb-false (first_refusal m id o) 0 f (queued_same (sym (ap (λ (r : QueueResult). r.answer) (first_called m id o (take ROOM content) f)) ∙ e))
+long_answer m id (D.Straight _) h l e = elim l [ ]
+long_answer m id (D.ToEnd _) h l e = elim l [ ]
+long_answer m id (D.ToFinish _) h l e = elim l [ ]
 
 module _ (R : ℕ) where
   -- a call, shown of R

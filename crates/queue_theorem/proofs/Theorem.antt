@@ -3,7 +3,6 @@ use Rattle.std.specs.Prelude.{◌≡◌, ◌⊎◌, true, false, ℕ, zero, suc,
 use Rattle.std.proofs.Math.Path.{refl, ap}
 use Rattle.std.proofs.Common.{sym, ◌∙◌, subst, inl, inr, arith, length-take, length-drop}
 use mathlib.Core.List.{List, [], ◌∷◌, ◌++◌, map, Memᴰ}
-use Rattle.std.proofs.Math.Option.{none}
 use Rattle.record.specs.Names.{OVERLOADED}
 use Rattle.record_reader.specs.Position.{between_records, after}
 use Rattle.record_reader.proofs.PositionSplit.{position_split, unfinished, finished_split}

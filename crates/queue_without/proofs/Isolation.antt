@@ -120,6 +120,7 @@ unfolding heard_in
 heard_there n (Heard k ∷ os) (Memᴰ.head e) = Memᴰ.head (ap Heard e)
 heard_there n (Heard k ∷ os) (Memᴰ.tail h) = Memᴰ.tail (heard_there n os h)
 heard_there n (Answered id a answer before after ∷ os) h = Memᴰ.tail (heard_there n os h)
+heard_there n [] h = elim h [ ]
 
 -- and what is observed as told is told.
 there_heard : (n : Note) (os : List Observed) → Memᴰ (Heard n) os → Memᴰ n (heard_in os)
@@ -128,6 +129,7 @@ there_heard n (Heard k ∷ os) (Memᴰ.head e) = let d : n ≡ k = cc in Memᴰ.
 there_heard n (Heard k ∷ os) (Memᴰ.tail h) = Memᴰ.tail (there_heard n os h)
 there_heard n (Answered id a answer before after ∷ os) (Memᴰ.head e) = let z : ◌≡◌ {A = ℕ} 0 1 = cc in absurd (omega arith)
 there_heard n (Answered id a answer before after ∷ os) (Memᴰ.tail h) = there_heard n os h
+there_heard n [] x' = elim x' [ ]
 
 -- Of a run w without a queue and of r, which makes the same operations with one:
 module _ (w : WholeRun) (r : QueueRun) (p : PlainRun w r) where

@@ -3,7 +3,6 @@ use mathlib.Core.Path.{sym, ap, subst, ◌∙◌}
 use Rattle.call_list.specs.Listing.{listed_by}
 use Rattle.call_list.proofs.Laws.{Within, listing_within, pair_listed}
 use Rattle.codes.proofs.Laws.{refusal_some}
-use borrow.Author.Rules.{rules}
 use Rattle.call_value.proofs.pair_at.Goals as goal
 
 pub slice_bounds-pair_number-count : goal.slice_bounds-pair_number-count

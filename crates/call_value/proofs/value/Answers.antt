@@ -7,7 +7,6 @@ use Rattle.pair_list.specs.List.{first_named}
 use Rattle.call_list.specs.Listing.{listed_by}
 use Rattle.call_list.proofs.Laws.{Within, listing_within, value_listed, first_in_none}
 use Rattle.call_list.specs.Part.{value_place, part_found}
-use borrow.Author.Rules.{rules}
 use Rattle.call_value.proofs.value.Goals as goal
 
 pub returns-in_default : goal.returns-in_default

@@ -3,7 +3,6 @@ use native.Mathlib.Omega.{arith}
 use native.Mathlib.Nat.{zero-add}
 use mathlib.Core.Path.{◌≡◌, refl, sym, ◌∙◌}
 use Rattle.pair_list.proofs.ListLaws.{LiesIn, first_within}
-use borrow.Author.Rules.{rules}
 use Rattle.call_value.proofs.value_in.Goals as goal
 
 pub returns-in_default : goal.returns-in_default

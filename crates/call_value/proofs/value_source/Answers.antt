@@ -3,7 +3,6 @@ use mathlib.Core.Path.{sym, ap, subst, ◌∙◌}
 use Rattle.call_list.specs.Listing.{listed_by}
 use Rattle.call_list.proofs.Laws.{Within, listing_within, source_listed}
 use Rattle.codes.proofs.Laws.{refusal_some}
-use borrow.Author.Rules.{rules}
 use Rattle.call_value.proofs.value_source.Goals as goal
 
 pub slice_bounds-first_named-count : goal.slice_bounds-first_named-count

@@ -1,4 +1,3 @@
-use borrow.Author.Rules.{rules}
 use Rattle.conn_header.proofs.due_to.Goals as goal
 
 pub returns-in-Params : goal.returns-in-Params

@@ -1,14 +1,12 @@
-use mathlib.Core.Path.{refl, sym, ap, ◌∙◌}
+use mathlib.Core.Path.{sym, ap, ◌∙◌}
 use Prim.Native.Nat.{◌<◌}
 use native.Mathlib.Omega.{arith}
 use borrow.Author.Tests.{eq-eqb, ne_eqb}
 use Rattle.connection.specs.Sizes.{SLOTS}
-use Rattle.connection.specs.Slots.{request_at}
 use Rattle.connection.proofs.Laws.SlotsLaws.{find_at}
 use Rattle.connection.proofs.Laws.PartLaws.{part_lent, part_back}
 use Rattle.connection.specs.Step.{judged}
 use Rattle.connection.specs.Decision.{applied}
-use borrow.Author.Rules.{rules}
 use Rattle.conn_header.proofs.judge.Goals as goal
 
 pub returns-then-h-ne-VERSION : goal.returns-then-h-ne-VERSION

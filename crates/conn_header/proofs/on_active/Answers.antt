@@ -1,5 +1,4 @@
 use Rattle.connection.specs.Step.{on_active}
-use borrow.Author.Rules.{rules}
 use Rattle.conn_header.proofs.on_active.Goals as goal
 
 pub returns : goal.returns

@@ -1,7 +1,6 @@
 use mathlib.Core.Path.{◌∙◌}
 use borrow.Author.Tests.{eq-eqb, ne_eqb}
 use Rattle.connection.specs.Step.{on_inactive}
-use borrow.Author.Rules.{rules}
 use Rattle.conn_header.proofs.on_inactive.Goals as goal
 
 pub returns-then-h-ne-BEGIN_REQUEST : goal.returns-then-h-ne-BEGIN_REQUEST

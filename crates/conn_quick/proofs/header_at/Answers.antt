@@ -1,4 +1,5 @@
 use Rattle.record.specs.Header.{header_of}
+use borrow.Author.Rules.{rules}
 use Rattle.conn_quick.proofs.header_at.Goals as goal
 
 pub returns : goal.returns

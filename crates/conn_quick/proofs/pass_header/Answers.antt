@@ -15,7 +15,7 @@ returns-then-not-is_headed c = λ some. absurd (omega (arith, some, c.none_passe
 pub header_at-h-requires : goal.header_at-h-requires
 header_at-h-requires c =
     let begins : is_headed c.args.f.position (length c.args.piece.now) ≡ true =
-    sym c.is_headed.ensures ∙ c.if-not-is_headed.false in
+        sym c.is_headed.ensures ∙ c.if-not-is_headed.false in
     (headed c.args.f.position (length c.args.piece.now) (begins)).3
 
 pub returns-then-not-is_stream : goal.returns-then-not-is_stream
@@ -24,11 +24,10 @@ returns-then-not-is_stream c = λ some. absurd (omega (arith, some, c.none_passe
 pub returns : goal.returns
 returns c =
     let begins : is_headed c.args.f.position (length c.args.piece.now) ≡ true =
-    sym c.is_headed.ensures ∙ c.if-not-is_headed.false in
+        sym c.is_headed.ensures ∙ c.if-not-is_headed.false in
     λ _.
-    let a = c.args in
     let h = c.header_at-h in
     let w = c.headed_to-target in
     let fits : HeaderFits h.result = record { content = omega arith; padding = omega arith } in
-    header_passed a.t a.f a.piece.now h.result w.result c.frame_after.result (begins) h.ensures w.ensures
+    header_passed c.args.t c.args.f c.args.piece.now h.result w.result c.frame_after.result (begins) h.ensures w.ensures
     (sym c.is_stream.ensures ∙ c.if-not-is_stream.false) fits c.frame_after.ensures

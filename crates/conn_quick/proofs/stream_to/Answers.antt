@@ -1,3 +1,4 @@
+use borrow.Author.Rules.{rules}
 use Rattle.conn_quick.proofs.stream_to.Goals as goal
 
 pub returns-in-Stdin : goal.returns-in-Stdin
