@@ -1,5 +1,4 @@
 use borrow.Author.Tests.{eq-eqb, ne_eqb}
-use borrow.Author.Rules.{rules}
 use Rattle.conn_quick.proofs.goes_to.Goals as goal
 
 pub returns-then-kind-turn_type : goal.returns-then-kind-turn_type

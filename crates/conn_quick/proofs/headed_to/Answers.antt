@@ -6,7 +6,6 @@ use Rattle.connection.specs.Sizes.{SLOTS}
 use Rattle.connection.proofs.Laws.SlotsLaws.{find_at}
 use Rattle.conn_quick.specs.Quick.{headed_to}
 use Rattle.conn_quick.proofs.Laws.{headed_at}
-use borrow.Author.Rules.{rules}
 use Rattle.conn_quick.proofs.headed_to.Goals as goal
 
 pub returns-then-h-ne-VERSION : goal.returns-then-h-ne-VERSION

@@ -1,5 +1,4 @@
 use Rattle.record.specs.Header.{header_of}
-use borrow.Author.Rules.{rules}
 use Rattle.conn_quick.proofs.header_at.Goals as goal
 
 pub returns : goal.returns

@@ -1,5 +1,4 @@
 use borrow.Author.Tests.{lt-ltb, le-ltb}
-use borrow.Author.Rules.{rules}
 use Rattle.conn_quick.proofs.is_shown.Goals as goal
 
 pub returns-then-p-gt0 : goal.returns-then-p-gt0

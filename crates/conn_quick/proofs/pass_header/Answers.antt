@@ -2,11 +2,9 @@ use mathlib.Core.Path.{◌≡◌, sym, ◌∙◌}
 use native.Mathlib.Omega.{arith}
 use mathlib.Core.Bool.{true}
 use lib.ListN.{length}
-use borrow.Author.Tests.{not-false}
 use Rattle.conn_quick.specs.Quick.{is_headed}
 use Rattle.connection.specs.Fits.{HeaderFits}
 use Rattle.conn_quick.proofs.Laws.{headed, header_passed}
-use borrow.Author.Rules.{rules}
 use Rattle.conn_quick.proofs.pass_header.Goals as goal
 
 pub returns-then-not-is_headed : goal.returns-then-not-is_headed

@@ -1,5 +1,4 @@
 use Rattle.conn_quick.proofs.Laws.{content_shown}
-use borrow.Author.Rules.{rules}
 use Rattle.conn_quick.proofs.show_content.Goals as goal
 
 pub returns : goal.returns

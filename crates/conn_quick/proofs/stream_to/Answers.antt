@@ -1,4 +1,3 @@
-use borrow.Author.Rules.{rules}
 use Rattle.conn_quick.proofs.stream_to.Goals as goal
 
 pub returns-in-Stdin : goal.returns-in-Stdin

@@ -23,29 +23,22 @@ no_header : {p q : Phase} → q ≡ p → is_whole q ≡ false → (h : Header) 
 no_header e f h w = let z : ◌≡◌ {A = ℕ} 0 1 = cc (sym f ∙ ap is_whole (e ∙ w)) in absurd (omega arith)
 
 pub returns-in-Content : goal.returns-in-Content
-returns-in-Content c =
-    let is = c.in-Content.is in
-    (c.feed.ensures ∙ ap (λ (w : Phase). on_phase w (open_state c.args.t c.args.f c.args.gathered.now) c.args.store.now c.args.bytes.now c.args.p) (sym is), no_header (sym is) refl)
+returns-in-Content c = (c.feed.ensures ∙ ap (λ (w : Phase). on_phase w (open_state c.args.t c.args.f c.args.gathered.now) c.args.store.now c.args.bytes.now c.args.p) (sym c.in-Content.is), no_header (sym c.in-Content.is) refl)
 
 pub returns-in-Padding : goal.returns-in-Padding
-returns-in-Padding c =
-    let is = c.in-Padding.is in
-    (simp (c.only_frame.ensures, c.frame_at.ensures, is), no_header (sym is) refl)
+returns-in-Padding c = (simp (c.only_frame.ensures, c.frame_at.ensures, c.in-Padding.is), no_header (sym c.in-Padding.is) refl)
 
 pub returns-in-Part : goal.returns-in-Part
-returns-in-Part c =
-    let is = c.in-Part.is in
-    (simp (c.only_frame-in-Part.ensures, c.frame_at-in-Part.ensures, is), no_header (sym is) refl)
+returns-in-Part c = (simp (c.only_frame-in-Part.ensures, c.frame_at-in-Part.ensures, c.in-Part.is), no_header (sym c.in-Part.is) refl)
 
 pub returns-in-Whole : goal.returns-in-Whole
 returns-in-Whole c =
     let is = c.in-Whole.is in (
       c.judge.ensures c.args.f c.args.gathered.now ∙ ap (λ (w : Phase). on_phase w (open_state c.args.t c.args.f c.args.gathered.now) c.args.store.now c.args.bytes.now c.args.p) (sym is),
       λ h e.
-          let k = c.in-Whole.h in
-          let same : Phase.Whole k ≡ Phase.Whole h = sym is ∙ e in
-          let q : k ≡ h = cc in
-          let content : Fits w16 k.content = search rules in
-          let padding : Fits w8 k.padding = search rules in
+          let same : Phase.Whole c.in-Whole.h ≡ Phase.Whole h = sym is ∙ e in
+          let q : c.in-Whole.h ≡ h = cc in
+          let content : Fits w16 c.in-Whole.h.content = search rules in
+          let padding : Fits w8 c.in-Whole.h.padding = search rules in
           rw (← q) (record { content = omega (arith, content.fits); padding = omega (arith, padding.fits) }),
     )

@@ -22,9 +22,6 @@ use Rattle.slot_table.proofs.Laws.{mapped_length}
 use borrow.Author.Rules.{rules}
 use Rattle.conn_step.proofs.go_on.Goals as goal
 
-held : (c : tie.After-advance) → AllBytes c.advance.result.position.header
-held c i = let f : Fits w8 (get_or c.advance.result.position.header i 0) = search rules in f.fits
-
 pub slice_bounds-decide-end : goal.slice_bounds-decide-end
 slice_bounds-decide-end c =
     let fits : (c.advance-a.result.used ≤ length c.args.piece.now) × (c.advance-a.result.used ≤ 65535) =
@@ -54,17 +51,13 @@ returns c =
         let header : length c.args.f.position.header ≡ 8 = search rules in
         let body : length c.args.f.body ≡ 8 = search rules in
         record { table = record { ids = ids; lengths = lengths; standings = standings; stdin = stdin; «data» = «data» }; header = header; bytes = own; body = body } in
-    let r = c.advance-a.result in
-    let d = c.decide-m in
-    let m = d.result in
-    let g = d.new.1.1.1.0 in
-    let s = d.new.1.1.0 in
+    let held : AllBytes c.advance-a.result.position.header =
+        λ i.  let f : Fits w8 (get_or c.advance-a.result.position.header i 0) = search rules in f.fits in
     let st = open_state c.args.t c.args.f c.args.gathered.now in
-    let n : r.used - 0 ≡ r.used = omega arith in
-    let same = ap (leaves r.used) (d.ensures.0 ∙ ap (λ (k : ℕ). on_phase r.phase st c.args.store.now (take k c.args.piece.now) r.position) n)
+    let n : c.advance-a.result.used - 0 ≡ c.advance-a.result.used = omega arith in
+    let same = ap (leaves c.advance-a.result.used) (c.decide-m.ensures.0 ∙ ap (λ (k : ℕ). on_phase c.advance-a.result.phase st c.args.store.now (take k c.args.piece.now) c.advance-a.result.position) n)
     ∙ ap (advances st c.args.store.now c.args.piece.now) c.advance-a.ensures in
-    let read = c.advance-a.ensures in
-    let whole : (h : Header) → (advanced c.args.f.position c.args.piece.now).phase ≡ Phase.Whole h → HeaderFits h = λ h e. d.ensures.1 h (ap (λ (x : Advanced). x.phase) read ∙ e) in
+    let whole : (h : Header) → (advanced c.args.f.position c.args.piece.now).phase ≡ Phase.Whole h → HeaderFits h = λ h e. c.decide-m.ensures.1 h (ap (λ (x : Advanced). x.phase) c.advance-a.ensures ∙ e) in
     let before = good (open_with c.args.t c.args.f) (arrays) (shaped _ c.requires.1) in
-    let fits : ReadFits (advanced c.args.f.position c.args.piece.now) = record { header = whole; bytes = subst (λ (x : Advanced). AllBytes x.position.header) read (held c) } in
+    let fits : ReadFits (advanced c.args.f.position c.args.piece.now) = record { header = whole; bytes = subst (λ (x : Advanced). AllBytes x.position.header) c.advance-a.ensures (held) } in
     (same, ap (λ (x : Stepped). in_shape x.state.conn) same ∙ good_shape _ (good_advances st c.args.store.now before c.args.piece.now fits))
