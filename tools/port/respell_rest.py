@@ -11,9 +11,8 @@ TABLE = {
     'byTest': 'by_test', 'byStanding': 'by_standing', 'mapped-length': 'mapped_length', 'as-alone': 'as_alone',
 }
 TOKEN = re.compile(r"[^\s(){}\[\];,.«»\"|`]+")
-for path in [p for kind in ('rt', 'antt', 'edit') for p in sorted(Path('crates').glob(f'*/*/**/*.{kind}'))] + sorted(Path('.').glob('docs/**/*.md')):
-    if '/out/' in str(path):
-        continue
+FILES = ['crates/*/src/**/*.rt', 'crates/*/specs/**/*.antt', 'crates/*/proofs/**/*.antt', 'crates/*/must-fail/*.edit', 'docs/**/*.md']
+for path in [p for files in FILES for p in sorted(Path('.').glob(files))]:
     text = path.read_text()
     new = TOKEN.sub(lambda m: TABLE.get(m.group(0), m.group(0)), text)
     if new != text:

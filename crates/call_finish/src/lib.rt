@@ -146,7 +146,7 @@ pub fn release(c: Conn, i: usize) -> Conn
 
 // A refused call: nothing is written, nothing changes.
 fn refused(c: Conn, why: Refusal) -> Finished
-    ensures* { λ r. ⌜ r ≡ record { result = FinishResult.Refused why; conn = c } ⌝ }
+    ensures { result ≡ record { result = FinishResult.Refused why; conn = c } }
 {
     Finished {
         result: FinishResult::Refused(why),

@@ -96,7 +96,7 @@ pub fn end_output(c: Conn, waits: &[u16; WAITS], id: u16, output: Output, out: &
 
 // A refused finish: nothing is written, nothing changes.
 fn unfinished(c: Conn, why: Refusal) -> Finished
-    ensures* { λ r. ⌜ r ≡ record { result = FinishResult.Refused why; conn = c } ⌝ }
+    ensures { result ≡ record { result = FinishResult.Refused why; conn = c } }
 {
     Finished {
         result: FinishResult::Refused(why),

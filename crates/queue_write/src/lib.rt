@@ -25,7 +25,7 @@ use wait_slot::{wait_data, wait_end, wait_finish};
 
 // A refused call: nothing comes to wait, nothing changes.
 fn refused(c: Conn, why: Refusal) -> Queueing
-    ensures* { λ r. ⌜ r ≡ record { result = Queued.Refused why; conn = c } ⌝ }
+    ensures { result ≡ record { result = Queued.Refused why; conn = c } }
 {
     Queueing {
         result: Queued::Refused(why),
@@ -35,7 +35,7 @@ fn refused(c: Conn, why: Refusal) -> Queueing
 
 // The connection with the request of slot i as the call left it.
 fn put_back(c: Conn, i: usize, request: Request) -> Queueing
-    ensures* { λ r. ⌜ r ≡ record { result = Queued.Waits; conn = puts_request c i request } ⌝ }
+    ensures { result ≡ record { result = Queued.Waits; conn = puts_request c i request } }
 {
     let table = c.table;
     let frame = c.frame;

@@ -1,8 +1,7 @@
 -- What is kept is found again.
-use Rattle.std.specs.Prelude.{ℕ, zero, suc, ◌+◌, ◌-◌, ◌*◌, ◌%◌, ◌≤◌, ◌<◌, ◌≡◌, refl, List, length}
+use Rattle.std.specs.Prelude.{ℕ, suc, ◌+◌, ◌-◌, ◌*◌, ◌%◌, ◌≤◌, ◌<◌, ◌≡◌, refl, List, length}
 use Rattle.std.proofs.Common.{sym, ap, ◌∙◌, arith, get_or-set_same, get_or-set_other, lt-ltb, eq-eqb, ne_eqb}
 use Rattle.std.proofs.lemmas.Bool.{lt-leb}
-use Rattle.wire.specs.Test.{◌=?◌}
 use Rattle.connection.specs.declared.event.Fault.{Fault}
 use Rattle.connection.specs.declared.event.Measure.{Measure}
 use Rattle.connection.specs.Codes.{fault_number}

@@ -1,5 +1,5 @@
 -- What a station keeps of its requests: ten numbers in each of 16 entries, first all ids, then all roles, and so on.
-use Rattle.std.specs.Prelude.{ℕ, zero, suc, ◌+◌, ◌-◌, ◌*◌, ◌%◌, List, get_or, set, if◌then◌else◌}
+use Rattle.std.specs.Prelude.{ℕ, zero, suc, ◌+◌, ◌*◌, ◌%◌, List, get_or, set, if◌then◌else◌}
 use Rattle.wire.specs.Test.{◌<?◌, ◌≤?◌, ◌=?◌}
 use Rattle.connection.specs.declared.event.Fault.{Fault}
 use Rattle.connection.specs.declared.event.Measure.{Measure}

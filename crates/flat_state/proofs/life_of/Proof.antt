@@ -1,0 +1,19 @@
+use borrow.Author.Tests.{ne_eqb}
+use Rattle.flat_state.specs.Flat.{life_of}
+use Rattle.flat_state.proofs.life_of.Statement.{statement}
+use Rattle.flat_state.proofs.life_of.Tie as tie
+
+returns : tie.Need-returns
+unfolding life_of
+returns c = simp c.match.keys1
+
+returns-2 : tie.Need-returns-2
+unfolding life_of
+returns-2 c = simp c.match.keys2
+
+returns-3 : tie.Need-returns-3
+unfolding life_of
+returns-3 c = simp (ne_eqb _ _ c.match.rest.1, ne_eqb _ _ c.match.rest.0.1)
+
+pub life-of-spec : {M : Type 1} → statement M
+life-of-spec = tie.close (tie.spec returns returns-2 returns-3)
