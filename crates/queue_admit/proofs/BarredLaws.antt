@@ -1,5 +1,5 @@
 -- A call that is lent the store and what waits: barred, it is refused by 9; else it is refused as without a queue.
-use Rattle.std.specs.Prelude.{ℕ, ◌≡◌, refl, Bool, true, false, not, List, length, if◌then◌else◌}
+use Rattle.std.specs.Prelude.{ℕ, ◌≡◌, refl, Bool, true, false, not, List, length, if◌then◌else◌, cond}
 use Rattle.std.proofs.Common.{sym, arith}
 use Rattle.wire.specs.Test.{◌=?◌, by_test}
 use Rattle.connection.specs.Sizes.{SLOTS, STORE}
@@ -80,6 +80,6 @@ unfolding lent_refusal C.lent_refusal
 free_lent m id e = by_size m e (λ t. simp t) (λ t u. simp (t, u))
 
 -- A call that is refused as another one is, and answers as that one where it is not refused, is that one.
-pub as_alone {ℓ} : {A : Type ℓ} (k n : ℕ) (answered alone : A) (refused : ℕ → A) → k ≡ n → alone ≡ (if n =? 0 then answered else refused n)
-    → (if k =? 0 then alone else refused k) ≡ alone
+pub as_alone {ℓ} : {A : Type ℓ} (k n : ℕ) (answered alone : A) (refused : ℕ → A) → k ≡ n → alone ≡ cond (n =? 0) answered (refused n)
+    → cond (k =? 0) alone (refused k) ≡ alone
 as_alone k n answered alone refused e h = by_test (n =? 0) (λ t. simp (e, t)) (λ t. simp (e, t) (sym (simp t at h)))

@@ -5,7 +5,7 @@
 -- are bytes, that names differ and that lists fit an area; nothing is asked about turns, since a part out of turn is
 -- refused. Then a fresh station that is fed what was written, cut into any pieces, tells just what these calls said, in
 -- their order, and has each request as it was written. Definitions only; `ManyTheorem` proves the statement.
-use Rattle.std.specs.Prelude.{ℕ, ◌<◌, ◌≡◌, Bool, false, true, List, [], ◌∷◌, ◌++◌, length, if◌then◌else◌}
+use Rattle.std.specs.Prelude.{ℕ, ◌<◌, ◌≡◌, Bool, false, true, List, [], ◌∷◌, ◌++◌, length, if◌then◌else◌, cond}
 use Rattle.wire.specs.Test.{◌=?◌}
 use Rattle.connection.specs.declared.request.Role.{Role}
 use Rattle.connection.specs.Sizes.{QUERY, STORE}
@@ -67,8 +67,8 @@ all_told c f (x ∷ xs) =
 abbrev pub AllFit : Server → Known → List Call → Type 0
 AllFit c f [] = Unit {0}
 AllFit c f (x ∷ xs) =
-    if (calling c x).refusal =? 0 then CallFits f x × AllFit (calling c x).server (known_after f x) xs
-    else AllFit (calling c x).server f xs
+    cond ((calling c x).refusal =? 0) (CallFits f x × AllFit (calling c x).server (known_after f x) xs)
+    (AllFit (calling c x).server f xs)
 
 unfoldable pub all_known : Server → Known → List Call → Known
 all_known c f [] = f

@@ -7,7 +7,7 @@
 -- tells just that request: it is opened; it is ready with just these pairs; every byte of its streams comes in order;
 -- their ends come with the word for what was written against what its list states; and the abort comes if there was one.
 -- The writing may stop after any part. Definitions only; `RequestTheorem` proves the statement.
-use Rattle.std.specs.Prelude.{ℕ, ◌≤◌, ◌<◌, ◌≡◌, Bool, true, List, [], ◌∷◌, ◌++◌, length, take, if◌then◌else◌}
+use Rattle.std.specs.Prelude.{ℕ, ◌≤◌, ◌<◌, ◌≡◌, Bool, true, List, [], ◌∷◌, ◌++◌, length, take, if◌then◌else◌, cond}
 use Rattle.wire.specs.Test.{◌<?◌}
 use Rattle.pair_list.proofs.ReadBackList.{contents}
 use Rattle.connection.specs.declared.request.Life.{Life}
@@ -60,7 +60,7 @@ abbrev pub InTurns : ℕ → SoFar → List PartCall → Type 0
 InTurns id s [] = Unit {0}
 InTurns id s (x ∷ xs) =
     (s.life ≡ Life.Live) × (in_turn s.turn x.part ≡ true) × Proper x.part
-    × (if lacks id x then InTurns id s xs else InTurns id (so_far s x.part) xs)
+    × cond (lacks id x) (InTurns id s xs) (InTurns id (so_far s x.part) xs)
 
 pub record InItsTurns (q : WrittenRequest) : Type 0 where
   pub some_id : q.id ≡ 0 → ⊥

@@ -27,19 +27,19 @@ returns-in_default c = simp (ne_eqb _ _ c.if-h-eq0-2.false, ne_eqb _ _ c.if-h-eq
 pub offset_bounds-t-i : goal.offset_bounds-t-i
 offset_bounds-t-i c =
     let low : c.in-At.i < SLOTS =
-        (find_at c.args.t c.args.h.id c.in-At.i (sym c.find_from-slot.ensures ∙ c.in-At.is)).low in
+    (find_at c.args.t c.args.h.id c.in-At.i (sym c.find_from-slot.ensures ∙ c.in-At.is)).low in
     omega (arith, low)
 
 pub bounds-t-i : goal.bounds-t-i
 bounds-t-i c =
     let low : c.in-At.i < SLOTS =
-        (find_at c.args.t c.args.h.id c.in-At.i (sym c.find_from-slot.ensures ∙ c.in-At.is)).low in
+    (find_at c.args.t c.args.h.id c.in-At.i (sym c.find_from-slot.ensures ∙ c.in-At.is)).low in
     low
 
 pub goes_to-requires : goal.goes_to-requires
 goes_to-requires c =
     let low : c.in-At.i < SLOTS =
-        (find_at c.args.t c.args.h.id c.in-At.i (sym c.find_from-slot.ensures ∙ c.in-At.is)).low in
+    (find_at c.args.t c.args.h.id c.in-At.i (sym c.find_from-slot.ensures ∙ c.in-At.is)).low in
     low
 
 pub returns : goal.returns

@@ -13,7 +13,7 @@ returns-then-not-is_headed c = λ some. absurd (omega (arith, some, c.none_passe
 pub header_at-h-requires : goal.header_at-h-requires
 header_at-h-requires c =
     let begins : is_headed c.args.f.position (length c.args.piece.now) ≡ true =
-        sym c.is_headed.ensures ∙ c.if-not-is_headed.false in
+    sym c.is_headed.ensures ∙ c.if-not-is_headed.false in
     (headed c.args.f.position (length c.args.piece.now) (begins)).3
 
 pub returns-then-not-is_stream : goal.returns-then-not-is_stream
@@ -22,7 +22,7 @@ returns-then-not-is_stream c = λ some. absurd (omega (arith, some, c.none_passe
 pub returns : goal.returns
 returns c =
     let begins : is_headed c.args.f.position (length c.args.piece.now) ≡ true =
-        sym c.is_headed.ensures ∙ c.if-not-is_headed.false in
+    sym c.is_headed.ensures ∙ c.if-not-is_headed.false in
     λ _.
     let h = c.header_at-h in
     let w = c.headed_to-target in

@@ -25,34 +25,34 @@ use Rattle.conn_step.proofs.go_on.Goals as goal
 pub slice_bounds-decide-end : goal.slice_bounds-decide-end
 slice_bounds-decide-end c =
     let fits : (c.advance-a.result.used ≤ length c.args.piece.now) × (c.advance-a.result.used ≤ 65535) =
-        let u = used_fits c.args.f.position c.args.piece.now (shaped _ c.requires.1).position in
-        let e : c.advance-a.result.used ≡ _ = ap (λ (x : Advanced). x.used) c.advance-a.ensures in
-        (omega (arith, u, e), omega (arith, u, e)) in
+    let u = used_fits c.args.f.position c.args.piece.now (shaped _ c.requires.1).position in
+    let e : c.advance-a.result.used ≡ _ = ap (λ (x : Advanced). x.used) c.advance-a.ensures in
+    (omega (arith, u, e), omega (arith, u, e)) in
     (fits).0
 
 pub decide-m-requires : goal.decide-m-requires
 decide-m-requires c =
     let fits : (c.advance-a.result.used ≤ length c.args.piece.now) × (c.advance-a.result.used ≤ 65535) =
-        let u = used_fits c.args.f.position c.args.piece.now (shaped _ c.requires.1).position in
-        let e : c.advance-a.result.used ≡ _ = ap (λ (x : Advanced). x.used) c.advance-a.ensures in
-        (omega (arith, u, e), omega (arith, u, e)) in
+    let u = used_fits c.args.f.position c.args.piece.now (shaped _ c.requires.1).position in
+    let e : c.advance-a.result.used ≡ _ = ap (λ (x : Advanced). x.used) c.advance-a.ensures in
+    (omega (arith, u, e), omega (arith, u, e)) in
     (c.requires.0, (shaped _ c.requires.1).target, omega (arith, length-take (c.advance-a.result.used - 0) c.args.piece.now, fits))
 
 pub returns : goal.returns
 unfolding advances
 returns c =
     let arrays : Arrays (open_with c.args.t c.args.f) =
-        let own : AllBytes c.args.f.position.header = λ i. let f : Fits w8 (get_or c.args.f.position.header i 0) = search rules in f.fits in
-        let ids : length c.args.t.ids ≡ SLOTS = search rules in
-        let lengths : length c.args.t.lengths ≡ SLOTS = search rules in
-        let standings : length c.args.t.standings ≡ SLOTS = search mapped_length in
-        let stdin : length c.args.t.stdin_shown ≡ SLOTS = search rules in
-        let «data» : length c.args.t.data_shown ≡ SLOTS = search rules in
-        let header : length c.args.f.position.header ≡ 8 = search rules in
-        let body : length c.args.f.body ≡ 8 = search rules in
-        record { table = record { ids = ids; lengths = lengths; standings = standings; stdin = stdin; «data» = «data» }; header = header; bytes = own; body = body } in
+    let own : AllBytes c.args.f.position.header = λ i. let f : Fits w8 (get_or c.args.f.position.header i 0) = search rules in f.fits in
+    let ids : length c.args.t.ids ≡ SLOTS = search rules in
+    let lengths : length c.args.t.lengths ≡ SLOTS = search rules in
+    let standings : length c.args.t.standings ≡ SLOTS = search mapped_length in
+    let stdin : length c.args.t.stdin_shown ≡ SLOTS = search rules in
+    let «data» : length c.args.t.data_shown ≡ SLOTS = search rules in
+    let header : length c.args.f.position.header ≡ 8 = search rules in
+    let body : length c.args.f.body ≡ 8 = search rules in
+    record { table = record { ids = ids; lengths = lengths; standings = standings; stdin = stdin; «data» = «data» }; header = header; bytes = own; body = body } in
     let held : AllBytes c.advance-a.result.position.header =
-        λ i.  let f : Fits w8 (get_or c.advance-a.result.position.header i 0) = search rules in f.fits in
+    λ i. let f : Fits w8 (get_or c.advance-a.result.position.header i 0) = search rules in f.fits in
     let st = open_state c.args.t c.args.f c.args.gathered.now in
     let n : c.advance-a.result.used - 0 ≡ c.advance-a.result.used = omega arith in
     let same = ap (leaves c.advance-a.result.used) (c.decide-m.ensures.0 ∙ ap (λ (k : ℕ). on_phase c.advance-a.result.phase st c.args.store.now (take k c.args.piece.now) c.advance-a.result.position) n)

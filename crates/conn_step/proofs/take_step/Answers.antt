@@ -19,17 +19,17 @@ go_on-o-requires c = (c.requires.0, ap in_shape (opened_is c.args.c c.requires.2
 pub returns-in-Keep : goal.returns-in-Keep
 returns-in-Keep c =
     let said : (s : Stepped) → s ≡ outcome_of c.go_on-o.result c.args.c.table c.go_on-o.new.gathered c.go_on-o.new.store → (s ≡ advances (state_of c.args.c c.args.gathered.now) c.args.store.now c.args.piece.now (advanced c.args.c.frame.position c.args.piece.now)) × (in_shape s.state.conn ≡ true) =
-        λ s e. 
-        let whole = ap (λ (x : Conn). advances (state_of x c.args.gathered.now) c.args.store.now c.args.piece.now (advanced c.args.c.frame.position c.args.piece.now)) (opened_is c.args.c c.requires.2) in
-        (e ∙ c.go_on-o.ensures.0 ∙ whole, ap (λ (x : Stepped). in_shape x.state.conn) e ∙ c.go_on-o.ensures.1) in
+    λ s e.
+    let whole = ap (λ (x : Conn). advances (state_of x c.args.gathered.now) c.args.store.now c.args.piece.now (advanced c.args.c.frame.position c.args.piece.now)) (opened_is c.args.c c.requires.2) in
+    (e ∙ c.go_on-o.ensures.0 ∙ whole, ap (λ (x : Stepped). in_shape x.state.conn) e ∙ c.go_on-o.ensures.1) in
     said _ (ap (λ (k : Change). stepped_with c.go_on-o.result (conn_after k c.args.c.table c.go_on-o.result.frame) c.go_on-o.new.gathered (store_after k c.go_on-o.new.store)) (sym c.in-Keep.is))
 
 pub returns-in-Put : goal.returns-in-Put
 returns-in-Put c =
     let said : (s : Stepped) → s ≡ outcome_of c.go_on-o.result c.args.c.table c.go_on-o.new.gathered c.go_on-o.new.store → (s ≡ advances (state_of c.args.c c.args.gathered.now) c.args.store.now c.args.piece.now (advanced c.args.c.frame.position c.args.piece.now)) × (in_shape s.state.conn ≡ true) =
-        λ s e. 
-        let whole = ap (λ (x : Conn). advances (state_of x c.args.gathered.now) c.args.store.now c.args.piece.now (advanced c.args.c.frame.position c.args.piece.now)) (opened_is c.args.c c.requires.2) in
-        (e ∙ c.go_on-o.ensures.0 ∙ whole, ap (λ (x : Stepped). in_shape x.state.conn) e ∙ c.go_on-o.ensures.1) in
+    λ s e.
+    let whole = ap (λ (x : Conn). advances (state_of x c.args.gathered.now) c.args.store.now c.args.piece.now (advanced c.args.c.frame.position c.args.piece.now)) (opened_is c.args.c c.requires.2) in
+    (e ∙ c.go_on-o.ensures.0 ∙ whole, ap (λ (x : Stepped). in_shape x.state.conn) e ∙ c.go_on-o.ensures.1) in
     said _
     (ap (λ (y : Table). stepped_with c.go_on-o.result (open_with y c.go_on-o.result.frame) c.go_on-o.new.gathered c.go_on-o.new.store) c.put_request-t.ensures
     ∙ ap (λ (k : Change). stepped_with c.go_on-o.result (conn_after k c.args.c.table c.go_on-o.result.frame) c.go_on-o.new.gathered (store_after k c.go_on-o.new.store)) (sym c.in-Put.is))
@@ -37,9 +37,9 @@ returns-in-Put c =
 pub returns-in-Take : goal.returns-in-Take
 returns-in-Take c =
     let said : (s : Stepped) → s ≡ outcome_of c.go_on-o.result c.args.c.table c.go_on-o.new.gathered c.go_on-o.new.store → (s ≡ advances (state_of c.args.c c.args.gathered.now) c.args.store.now c.args.piece.now (advanced c.args.c.frame.position c.args.piece.now)) × (in_shape s.state.conn ≡ true) =
-        λ s e. 
-        let whole = ap (λ (x : Conn). advances (state_of x c.args.gathered.now) c.args.store.now c.args.piece.now (advanced c.args.c.frame.position c.args.piece.now)) (opened_is c.args.c c.requires.2) in
-        (e ∙ c.go_on-o.ensures.0 ∙ whole, ap (λ (x : Stepped). in_shape x.state.conn) e ∙ c.go_on-o.ensures.1) in
+    λ s e.
+    let whole = ap (λ (x : Conn). advances (state_of x c.args.gathered.now) c.args.store.now c.args.piece.now (advanced c.args.c.frame.position c.args.piece.now)) (opened_is c.args.c c.requires.2) in
+    (e ∙ c.go_on-o.ensures.0 ∙ whole, ap (λ (x : Stepped). in_shape x.state.conn) e ∙ c.go_on-o.ensures.1) in
     said _
     (ap (λ (y : Table). stepped_with c.go_on-o.result (open_with y c.go_on-o.result.frame) c.go_on-o.new.gathered c.go_on-o.new.store) c.take_request-t.ensures
     ∙ ap (λ (k : Change). stepped_with c.go_on-o.result (conn_after k c.args.c.table c.go_on-o.result.frame) c.go_on-o.new.gathered (store_after k c.go_on-o.new.store)) (sym c.in-Take.is))
@@ -47,9 +47,9 @@ returns-in-Take c =
 pub returns-in-Close : goal.returns-in-Close
 returns-in-Close c =
     let said : (s : Stepped) → s ≡ outcome_of c.go_on-o.result c.args.c.table c.go_on-o.new.gathered c.go_on-o.new.store → (s ≡ advances (state_of c.args.c c.args.gathered.now) c.args.store.now c.args.piece.now (advanced c.args.c.frame.position c.args.piece.now)) × (in_shape s.state.conn ≡ true) =
-        λ s e. 
-        let whole = ap (λ (x : Conn). advances (state_of x c.args.gathered.now) c.args.store.now c.args.piece.now (advanced c.args.c.frame.position c.args.piece.now)) (opened_is c.args.c c.requires.2) in
-        (e ∙ c.go_on-o.ensures.0 ∙ whole, ap (λ (x : Stepped). in_shape x.state.conn) e ∙ c.go_on-o.ensures.1) in
+    λ s e.
+    let whole = ap (λ (x : Conn). advances (state_of x c.args.gathered.now) c.args.store.now c.args.piece.now (advanced c.args.c.frame.position c.args.piece.now)) (opened_is c.args.c c.requires.2) in
+    (e ∙ c.go_on-o.ensures.0 ∙ whole, ap (λ (x : Stepped). in_shape x.state.conn) e ∙ c.go_on-o.ensures.1) in
     said _
     (ap (λ (y : Conn). stepped_with c.go_on-o.result y c.go_on-o.new.gathered c.clear.new.out) c.closed-none.ensures
     ∙ ap (λ (l : List ℕ). stepped_with c.go_on-o.result closed_conn c.go_on-o.new.gathered l) c.clear.ensures

@@ -1,7 +1,7 @@
 use mathlib.Core.Path.{◌≡◌, refl, sym, ◌∙◌}
 use lib.ListN.{length, length-map, get_or-map}
 use Rattle.connection.specs.Slots.{no_standing}
-use Rattle.slot_table.proofs.Laws.{mapped_length}
+use Rattle.slot_table.proofs.Laws.{mapped-length}
 use borrow.Author.Rules.{rules}
 use Prim.Native.Nat.{◌-◌}
 use Rattle.connection.specs.Sizes.{SLOTS}
@@ -21,7 +21,7 @@ decreases-loop t roles₀ turns₀ lives₀ i₀ roles turns lives i = SLOTS - i
 loop-holds : tie.Need-loop-init invariant-loop decreases-loop
 loop-holds c =
     let s = c.args.t1.standings in
-    let size : length s ≡ SLOTS = search mapped_length in (
+    let size : length s ≡ SLOTS = search mapped-length in (
       made_none refl (length-map s _ ∙ size),
       made_none refl (length-map s _ ∙ size),
       made_none refl (length-map s _ ∙ size),

@@ -1,0 +1,12 @@
+use borrow.Author.Tests.{eq-eqb, ne_eqb}
+use Rattle.server_header.proofs.is_management.Statement.{statement}
+use Rattle.server_header.proofs.is_management.Tie as tie
+
+returns : tie.Need-returns
+returns c = simp (eq-eqb _ _ c.if1.true)
+
+returns-2 : tie.Need-returns-2
+returns-2 c = simp (ne_eqb _ _ c.if1.false)
+
+pub is-management-spec : {M : Type 1} → statement M
+is-management-spec = tie.close (tie.spec returns returns-2)
