@@ -4,8 +4,8 @@
  * It is the application's end of a FastCGI connection: bytes from a web server go in, events come out, and calls turn
  * answers into bytes for the web server. It opens no sockets, allocates nothing, keeps no pointer and has no memory
  * of its own, so two threads may use it at once for two connections. Link with target/staticlib/libexport_calls.a, which
- * `rt staticlib export_calls` writes. docs/BINDINGS.md begins with a station in ten minutes, docs/CALLS.md has every call,
- * and docs/RULES.md has the rules behind the answers.
+ * `tools/static-library export_calls` writes. docs/BINDINGS.md begins with a station in ten minutes, docs/CALLS.md has
+ * every call, and docs/RULES.md has the rules behind the answers.
  *
  * There are two layers, and most programs want the second one alone:
  *

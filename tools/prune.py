@@ -1,5 +1,8 @@
 #!/usr/bin/env python3
-"""usage: tools/prune.py FILE..    drops the names of `use M.{..}` lines that an antt file does not mention"""
+"""usage: tools/prune.py FILE..    drops the names of `use M.{..}` lines that an antt file does not mention
+
+For files of a crate that is not proved yet; in one that is, `rt tidy` does it. An operator is named by its parts, `◌<?◌`.
+"""
 import os
 import re
 
@@ -24,8 +27,7 @@ for path in paths:
         kept = []
         for item in [x.strip() for x in use.group(2).split(',')]:
             name = item.split(' as ')[-1].strip()
-            plain = name.startswith('«') or '_' not in name
-            parts = [name] if plain else [x for x in name.split('_') if x]
+            parts = [x for x in name.split('◌') if x] or [name]
             if name in words or all(part in words for part in parts):
                 kept.append(item)
         if kept:

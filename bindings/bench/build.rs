@@ -28,7 +28,7 @@ fn main() {
     println!("cargo:rustc-link-search=native={}", out.display());
     println!("cargo:rustc-link-lib=static=loops");
     println!("cargo:rustc-link-search=native={}", libraries.display());
-    for name in ["measure_queue", "measure_queue_next"] {
+    for name in ["export_queue", "export_queue_next"] {
         println!("cargo:rerun-if-changed={}/lib{name}.a", libraries.display());
         println!("cargo:rustc-link-lib=static={name}");
     }

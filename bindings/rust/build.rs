@@ -1,5 +1,5 @@
 //! Links the proved library. It is looked for in the folder that YOTNAGHEZ_LIB names, or else in target/staticlib of
-//! the repository, where `rt staticlib export_calls` writes it.
+//! the repository, where `tools/static-library export_calls` writes it.
 
 use std::path::PathBuf;
 
@@ -16,10 +16,13 @@ fn main() {
     if !library.is_file() {
         let repository = repository.canonicalize().unwrap_or(repository);
         eprintln!("There is no {}.", library.display());
-        eprintln!("Run `rt staticlib export_calls` in {},", repository.display());
+        eprintln!(
+            "Run `tools/static-library export_calls` in {},",
+            repository.display()
+        );
         eprintln!("or set YOTNAGHEZ_LIB to the folder that has libexport_calls.a.");
         std::process::exit(1);
     }
     println!("cargo:rustc-link-search=native={}", folder.display());
-    println!("cargo:rustc-link-lib=static=export");
+    println!("cargo:rustc-link-lib=static=export_calls");
 }

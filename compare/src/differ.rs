@@ -27,7 +27,7 @@ struct Options {
 /// The whole program: its options are the words behind its name.
 pub fn differ(side: &'static Side) -> ExitCode {
     let mut options = Options {
-        program: format!("target/bin/{}", side.name).into(),
+        program: format!("crates/{0}/out/{0}", side.name).into(),
         seed: 1,
         lines: 200_000,
         tally: false,

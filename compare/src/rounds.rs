@@ -43,7 +43,7 @@ struct Options {
 /// The whole program: its options are the words behind its name.
 pub fn rounds<R: Round>(name: &str) -> ExitCode {
     let mut options = Options {
-        console: "target/bin/console".into(),
+        console: "crates/console/out/console".into(),
         seed: 1,
         rounds: 100,
     };

@@ -4,7 +4,7 @@ use crate::scripts::Script;
 use crate::{bench_scripts, scripts, tally};
 
 pub struct Side {
-    /// The program is `target/bin/NAME`, and the option that names another one is `--NAME`.
+    /// The program is `crates/NAME/out/NAME`, and the option that names another one is `--NAME`.
     pub name: &'static str,
     /// A random script of a seed, of about so many lines.
     pub generate: fn(u64, usize) -> Script,
