@@ -1,0 +1,15 @@
+use borrow.Author.Tests.{ne_eqb}
+use Rattle.flat_state.specs.Flat.{life_of}
+use Rattle.flat_state.proofs.life_of.Goals as goal
+
+pub returns-in-0 : goal.returns-in-0
+unfolding life_of
+returns-in-0 c = simp c.in-0.is
+
+pub returns-in-1 : goal.returns-in-1
+unfolding life_of
+returns-in-1 c = simp c.in-1.is
+
+pub returns-in_default : goal.returns-in_default
+unfolding life_of
+returns-in_default c = simp (ne_eqb _ _ c.in-0.rest.1, ne_eqb _ _ c.in-0.rest.0.1)

@@ -1,0 +1,15 @@
+use borrow.Author.Tests.{ne_eqb}
+use Rattle.flat_state.specs.Flat.{role_of}
+use Rattle.flat_state.proofs.role_of.Goals as goal
+
+pub returns-in-1 : goal.returns-in-1
+unfolding role_of
+returns-in-1 c = simp c.in-1.is
+
+pub returns-in-2 : goal.returns-in-2
+unfolding role_of
+returns-in-2 c = simp c.in-2.is
+
+pub returns-in_default : goal.returns-in_default
+unfolding role_of
+returns-in_default c = simp (ne_eqb _ _ c.in-1.rest.1, ne_eqb _ _ c.in-1.rest.0.1)

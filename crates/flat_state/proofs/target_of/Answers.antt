@@ -1,0 +1,35 @@
+use borrow.Author.Tests.{ne_eqb}
+use Rattle.flat_state.specs.Flat.{target_of}
+use borrow.Author.Rules.{rules}
+use Rattle.flat_state.proofs.target_of.Goals as goal
+
+pub returns-in-0 : goal.returns-in-0
+unfolding target_of
+returns-in-0 c = simp c.in-0.is
+
+pub returns-in-1 : goal.returns-in-1
+unfolding target_of
+returns-in-1 c = simp c.in-1.is
+
+pub returns-in-2 : goal.returns-in-2
+unfolding target_of
+returns-in-2 c = simp c.in-2.is
+
+pub returns-in-3 : goal.returns-in-3
+unfolding target_of
+returns-in-3 c = simp c.in-3.is
+
+pub returns-in-4 : goal.returns-in-4
+unfolding target_of
+returns-in-4 c = simp c.in-4.is
+
+pub returns-in_default : goal.returns-in_default
+unfolding target_of
+returns-in_default c =
+    simp (
+      ne_eqb _ _ c.in-0.rest.1,
+      ne_eqb _ _ c.in-0.rest.0.1,
+      ne_eqb _ _ c.in-0.rest.0.0.1,
+      ne_eqb _ _ c.in-0.rest.0.0.0.1,
+      ne_eqb _ _ c.in-0.rest.0.0.0.0.1,
+    )

@@ -1,0 +1,19 @@
+use borrow.Author.Tests.{ne_eqb}
+use Rattle.flat_state.specs.Flat.{turn_of}
+use Rattle.flat_state.proofs.turn_of.Goals as goal
+
+pub returns-in-0 : goal.returns-in-0
+unfolding turn_of
+returns-in-0 c = simp c.in-0.is
+
+pub returns-in-1 : goal.returns-in-1
+unfolding turn_of
+returns-in-1 c = simp c.in-1.is
+
+pub returns-in-2 : goal.returns-in-2
+unfolding turn_of
+returns-in-2 c = simp c.in-2.is
+
+pub returns-in_default : goal.returns-in_default
+unfolding turn_of
+returns-in_default c = simp (ne_eqb _ _ c.in-0.rest.1, ne_eqb _ _ c.in-0.rest.0.1, ne_eqb _ _ c.in-0.rest.0.0.1)

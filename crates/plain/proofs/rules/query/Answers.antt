@@ -1,0 +1,7 @@
+use Rattle.plain.specs.Plain.{query}
+use borrow.Author.Rules.{rules}
+use Rattle.plain.proofs.rules.query.Goals as goal
+
+pub returns : goal.returns
+unfolding query
+returns c = simp (c.has_name-mpxs_conns.ensures, c.has_name-max_reqs.ensures, c.has_name-max_conns.ensures)
