@@ -1,5 +1,5 @@
 -- Flat forms computed: of a connection as it starts, of one with a request in slot 1, and what is known and what not.
-use Rattle.std.specs.Prelude.{ℕ, ◌≡◌, refl, Bool, true, false, List, [], ◌∷◌, map, set, replicate}
+use Rattle.std.specs.Prelude.{ℕ, ◌≡◌, refl, true, false, List, [], ◌∷◌, map, set, replicate}
 use Rattle.wire.specs.Buffer.{zeros}
 use Rattle.connection.specs.declared.request.Role.{Role}
 use Rattle.connection.specs.declared.request.Turn.{Turn}

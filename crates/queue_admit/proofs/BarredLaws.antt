@@ -1,5 +1,5 @@
 -- A call that is lent the store and what waits: barred, it is refused by 9; else it is refused as without a queue.
-use Rattle.std.specs.Prelude.{ℕ, ◌≡◌, refl, Bool, true, false, not, List, length, if◌then◌else◌, cond}
+use Rattle.std.specs.Prelude.{ℕ, ◌≡◌, refl, Bool, true, false, length, cond}
 use Rattle.std.proofs.Common.{sym, arith}
 use Rattle.wire.specs.Test.{◌=?◌, by_test}
 use Rattle.connection.specs.Sizes.{SLOTS, STORE}

@@ -20,7 +20,6 @@ use Rattle.connection.specs.declared.event.Stream.{Stream}
 use Rattle.connection.specs.declared.request.Role.{Role}
 use Rattle.connection.specs.declared.request.Turn.{Turn}
 use Rattle.connection.specs.declared.request.Life.{Life}
-use Rattle.connection.specs.declared.request.Shown.{Shown}
 use Rattle.connection.specs.Sizes.{QUERY}
 use Rattle.connection.specs.Event.{Event}
 use Rattle.connection.specs.Request.{CONTENT_LENGTH, DATA_LENGTH, unshown, counted, measured, with_turn, with_life, opened}

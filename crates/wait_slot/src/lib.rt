@@ -6,7 +6,7 @@ ghost use Rattle.wire.specs.Buffer.{put_at, copied, byte_at};
 ghost use Rattle.connection.specs.Sizes.{SLOTS};
 ghost use Rattle.connection.specs.Run.{Memory};
 ghost use Rattle.connection.specs.declared.request.RequestState.{RequestState};
-ghost use Rattle.connection.specs.RequestCalls.{owes_out, owes_err};
+ghost use Rattle.connection.specs.RequestCalls.{owes_out as is_out_owed, owes_err as is_err_owed};
 ghost use Rattle.queue_slot.specs.Atoms.{RUN};
 ghost use Rattle.queue_slot.specs.Wait.{ROOM, nothing_in, has_room_for, wait_data, wait_end, wait_finish, run_length};
 ghost use Rattle.queue_slot.specs.Wait.{mark_stream, with_front, without_first};
@@ -171,7 +171,7 @@ pub fn wait_finish(
     status: u32,
 )
     ensures { (memory : Memory) (queue : List ℕ) (state : RequestState) → i < SLOTS
-        → owes_out state ≡ owes_out → owes_err state ≡ owes_err
+        → is_out_owed state ≡ owes_out → is_err_owed state ≡ owes_err
         → beside memory waits.new marks.new queue
         ≡ put_wait (beside memory waits.old marks.old queue) i
         (wait_finish (wait_at (beside memory waits.old marks.old queue) i) state status) }

@@ -1,6 +1,5 @@
 use native.Mathlib.Omega.{arith}
 use Rattle.event_text.proofs.LineLaws.{text_placed, text_unplaced}
-use borrow.Author.Rules.{rules}
 use Rattle.event_text.proofs.put_text.Goals as goal
 
 pub returns-then-out-at : goal.returns-then-out-at

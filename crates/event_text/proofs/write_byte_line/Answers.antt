@@ -1,6 +1,5 @@
 use mathlib.Core.Path.{ap, ◌∙◌}
 use Rattle.event_text.specs.Line.{line_placed}
-use borrow.Author.Rules.{rules}
 use Rattle.event_text.proofs.write_byte_line.Goals as goal
 
 pub returns : goal.returns

@@ -1,5 +1,4 @@
 use Rattle.flat_state.specs.Flat.{conn_of}
-use borrow.Author.Rules.{rules}
 use Rattle.flat_state.proofs.from_flat.Goals as goal
 
 pub returns : goal.returns

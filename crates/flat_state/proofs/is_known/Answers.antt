@@ -1,5 +1,4 @@
 use Rattle.flat_state.specs.Flat.{known}
-use borrow.Author.Rules.{rules}
 use Rattle.flat_state.proofs.is_known.Goals as goal
 
 pub returns : goal.returns

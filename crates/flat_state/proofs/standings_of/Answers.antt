@@ -4,10 +4,7 @@ use lib.ListN.{length}
 use Rattle.connection.specs.Slots.{no_standing}
 use Rattle.flat_state.proofs.LoopLaws.{made_none, made_next, made_all, standings_length, standing_at_lem}
 use borrow.Author.Rules.{rules}
-use Prim.Native.Nat.{◌-◌}
 use Rattle.connection.specs.Sizes.{SLOTS}
-use Rattle.flat_state.specs.Flat.{standings_of}
-use Rattle.flat_state.proofs.LoopLaws.{Made}
 use Rattle.flat_state.proofs.standings_of.Goals as goal
 
 pub loop-i-init : goal.loop-i-init

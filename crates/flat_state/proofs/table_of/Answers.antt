@@ -1,5 +1,4 @@
 use Rattle.flat_state.specs.Flat.{table_of}
-use borrow.Author.Rules.{rules}
 use Rattle.flat_state.proofs.table_of.Goals as goal
 
 pub returns : goal.returns

@@ -1,6 +1,5 @@
 use borrow.Author.Tests.{ne_eqb}
 use Rattle.flat_state.specs.Flat.{target_of}
-use borrow.Author.Rules.{rules}
 use Rattle.flat_state.proofs.target_of.Goals as goal
 
 pub returns-in-0 : goal.returns-in-0
@@ -27,9 +26,9 @@ pub returns-in_default : goal.returns-in_default
 unfolding target_of
 returns-in_default c =
     simp (
-      ne_eqb _ _ c.in-0.rest.1,
-      ne_eqb _ _ c.in-0.rest.0.1,
-      ne_eqb _ _ c.in-0.rest.0.0.1,
-      ne_eqb _ _ c.in-0.rest.0.0.0.1,
-      ne_eqb _ _ c.in-0.rest.0.0.0.0.1,
+      ne_eqb _ _ c.in_default.in_default-own.rest.1,
+      ne_eqb _ _ c.in_default.in_default-own.rest.0.1,
+      ne_eqb _ _ c.in_default.in_default-own.rest.0.0.1,
+      ne_eqb _ _ c.in_default.in_default-own.rest.0.0.0.1,
+      ne_eqb _ _ c.in_default.in_default-own.rest.0.0.0.0.1,
     )

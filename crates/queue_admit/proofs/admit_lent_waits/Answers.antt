@@ -1,6 +1,5 @@
 use borrow.Author.Tests.{eq-eqb, ne_eqb}
 use Rattle.queue_admit.specs.Admission.{queue_lent_admission}
-use borrow.Author.Rules.{rules}
 use Rattle.queue_admit.proofs.admit_lent_waits.Goals as goal
 
 pub returns-then-store-eq-STORE : goal.returns-then-store-eq-STORE

@@ -1,6 +1,5 @@
 use mathlib.Core.Path.{sym, ◌∙◌}
 use Rattle.queue_admit.specs.Admission.{queue_admission}
-use borrow.Author.Rules.{rules}
 use Rattle.queue_admit.proofs.admit_waits.Goals as goal
 
 pub returns-then-waits_fit : goal.returns-then-waits_fit

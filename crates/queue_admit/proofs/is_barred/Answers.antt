@@ -1,6 +1,5 @@
 use borrow.Author.Tests.{eq-eqb, ne_eqb}
 use Rattle.queue_admit.specs.Admission.{is_barred}
-use borrow.Author.Rules.{rules}
 use Rattle.queue_admit.proofs.is_barred.Goals as goal
 
 pub returns-then-size-eq-STORE : goal.returns-then-size-eq-STORE

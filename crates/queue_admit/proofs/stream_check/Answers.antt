@@ -1,4 +1,3 @@
-use borrow.Author.Rules.{rules}
 use Rattle.queue_admit.proofs.stream_check.Goals as goal
 
 pub returns-then-no_output : goal.returns-then-no_output

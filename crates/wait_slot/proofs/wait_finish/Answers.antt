@@ -15,7 +15,7 @@ returns c =
     let sized : length c.args.marks.now ≡ QUEUE =
         search rules in
     λ memory queue state h p q.
-    let n = owed_count c.args.owes_out_lem c.args.marks.now c.args.i c.numbers_at-n.result Output.Stdout c.end_if-a.result c.end_if-a.new.marks c.end_if-a.ensures in
-    let k = owed_count c.args.owes_err_lem c.end_if-a.new.marks c.args.i c.end_if-a.result Output.Stderr c.end_if-b.result c.end_if-b.new.marks c.end_if-b.ensures in
-    finish_made memory c.args.waits.now c.args.marks.now queue c.args.i c.numbers_at-n.result c.end_if-a.result c.end_if-b.result c.end_if-a.new.marks c.end_if-b.new.marks state c.args.status c.args.owes_out_lem c.args.owes_err_lem (c.numbers_at-n.ensures.0 h) (sized) h p q c.end_if-a.ensures c.end_if-b.ensures
+    let n = owed_count c.args.owes_out c.args.marks.now c.args.i c.numbers_at-n.result Output.Stdout c.end_if-a.result c.end_if-a.new.marks c.end_if-a.ensures in
+    let k = owed_count c.args.owes_err c.end_if-a.new.marks c.args.i c.end_if-a.result Output.Stderr c.end_if-b.result c.end_if-b.new.marks c.end_if-b.ensures in
+    finish_made memory c.args.waits.now c.args.marks.now queue c.args.i c.numbers_at-n.result c.end_if-a.result c.end_if-b.result c.end_if-a.new.marks c.end_if-b.new.marks state c.args.status c.args.owes_out c.args.owes_err (c.numbers_at-n.ensures.0 h) (sized) h p q c.end_if-a.ensures c.end_if-b.ensures
     (c.put_numbers.ensures h (omega (arith, n, k, c.numbers_at-n.ensures.1)))

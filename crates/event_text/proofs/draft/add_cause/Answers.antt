@@ -1,6 +1,5 @@
 use native.Mathlib.Omega.{arith}
 use Rattle.event_text.proofs.DraftLaws.{adds_both}
-use borrow.Author.Rules.{rules}
 use Rattle.event_text.proofs.draft.add_cause.Goals as goal
 
 pub returns-in-Nowhere : goal.returns-in-Nowhere

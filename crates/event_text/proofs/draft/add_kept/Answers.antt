@@ -1,5 +1,4 @@
 use native.Mathlib.Omega.{arith}
-use borrow.Author.Rules.{rules}
 use Rattle.event_text.proofs.draft.add_kept.Goals as goal
 
 pub returns-then-keep : goal.returns-then-keep

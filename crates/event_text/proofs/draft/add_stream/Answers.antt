@@ -1,5 +1,4 @@
 use native.Mathlib.Omega.{arith}
-use borrow.Author.Rules.{rules}
 use Rattle.event_text.proofs.draft.add_stream.Goals as goal
 
 pub returns-in-Stdin : goal.returns-in-Stdin

@@ -1,6 +1,5 @@
 use borrow.Author.Tests.{lt-ltb, le-ltb}
 use Rattle.event_text.specs.Line.{hex_digit}
-use borrow.Author.Rules.{rules}
 use Rattle.event_text.proofs.draft.hex_digit.Goals as goal
 
 pub returns-then-d-lt10 : goal.returns-then-d-lt10

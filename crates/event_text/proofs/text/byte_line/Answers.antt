@@ -1,7 +1,6 @@
 use Rattle.event_text.proofs.DraftLaws.{line_of_3}
 use Rattle.event_text.specs.Line.{byte_line}
 use native.Mathlib.Omega.{arith}
-use borrow.Author.Rules.{rules}
 use Rattle.event_text.proofs.text.byte_line.Goals as goal
 
 pub returns : goal.returns

@@ -1,4 +1,4 @@
-use mathlib.Core.Path.{◌≡◌, ap, ◌∙◌, subst}
+use mathlib.Core.Path.{ap, ◌∙◌, subst}
 use Prim.Native.Nat.{ℕ}
 use native.Mathlib.Omega.{arith}
 use mathlib.Core.List.{[], ◌∷◌}
@@ -8,7 +8,6 @@ use Rattle.event_text.specs.Words.{closed_word}
 use Rattle.event_text.specs.Line.{LONGEST, cause_text, line}
 use Rattle.event_text.specs.Draft.{Says}
 use Rattle.event_text.proofs.DraftLaws.{line_of_1}
-use borrow.Author.Rules.{rules}
 use Rattle.event_text.proofs.text.closed_line.Goals as goal
 
 pub returns : goal.returns

@@ -1,6 +1,5 @@
 use Rattle.event_text.proofs.DraftLaws.{line_of_3}
 use native.Mathlib.Omega.{arith}
-use borrow.Author.Rules.{rules}
 use Rattle.event_text.proofs.text.end_line.Goals as goal
 
 pub returns : goal.returns

@@ -1,6 +1,5 @@
 use native.Mathlib.Omega.{arith}
 use Rattle.event_text.specs.Line.{event_line}
-use borrow.Author.Rules.{rules}
 use Rattle.event_text.proofs.text.event_line.Goals as goal
 
 pub returns-in-Nothing : goal.returns-in-Nothing

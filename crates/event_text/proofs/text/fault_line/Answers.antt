@@ -1,4 +1,4 @@
-use mathlib.Core.Path.{◌≡◌, ap, ◌∙◌, subst}
+use mathlib.Core.Path.{ap, ◌∙◌, subst}
 use Prim.Native.Nat.{ℕ}
 use native.Mathlib.Omega.{arith}
 use mathlib.Core.List.{[], ◌∷◌}
@@ -8,7 +8,6 @@ use Rattle.event_text.specs.Words.{fault_word}
 use Rattle.event_text.specs.Line.{LONGEST, decimal, cause_text, line}
 use Rattle.event_text.specs.Draft.{Says}
 use Rattle.event_text.proofs.DraftLaws.{line_of_2}
-use borrow.Author.Rules.{rules}
 use Rattle.event_text.proofs.text.fault_line.Goals as goal
 
 pub returns : goal.returns

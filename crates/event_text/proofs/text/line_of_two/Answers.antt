@@ -1,6 +1,5 @@
 use Rattle.event_text.proofs.DraftLaws.{line_of_2}
 use native.Mathlib.Omega.{arith}
-use borrow.Author.Rules.{rules}
 use Rattle.event_text.proofs.text.line_of_two.Goals as goal
 
 pub returns : goal.returns

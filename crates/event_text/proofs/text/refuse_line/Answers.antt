@@ -1,4 +1,3 @@
-use borrow.Author.Rules.{rules}
 use Rattle.event_text.proofs.text.refuse_line.Goals as goal
 
 pub returns : goal.returns

@@ -1,0 +1,4 @@
+use Rattle.event_text.proofs.draft.+add_decimal.Given as goal
+
+abbrev pub decreases-add_decimal : goal.decreases-add_decimal
+decreases-add_decimal l = l.n
