@@ -10,14 +10,14 @@ loop-left-init c = going_start
 pub returns-then-is_taken : goal.returns-then-is_taken
 returns-then-is_taken c =
     let told : c.is_taken.result ≡ waits_in c.args.waits.now c.loop-left.i =
-        waits_told c.args.waits.now c.loop-left.i _ c.some_waits-some.ensures c.is_taken.ensures in
+    waits_told c.args.waits.now c.loop-left.i _ c.some_waits-some.ensures c.is_taken.ensures in
     λ h.
     going_found (c.loop-left.invariant h) c.loop-left-test.true (sym (told) ∙ c.if-is_taken.true)
 
 pub loop-left-preserved : goal.loop-left-preserved
 loop-left-preserved c =
     let told : c.is_taken.result ≡ waits_in c.args.waits.now c.loop-left.i =
-        waits_told c.args.waits.now c.loop-left.i _ c.some_waits-some.ensures c.is_taken.ensures in
+    waits_told c.args.waits.now c.loop-left.i _ c.some_waits-some.ensures c.is_taken.ensures in
     λ h.
     let g = c.loop-left.invariant h in
     let none = sym (told) ∙ c.if-is_taken.false in

@@ -33,7 +33,7 @@ pub returns : goal.returns
 unfolding wait_data
 returns c =
     let sized : length c.args.marks.now ≡ QUEUE =
-        search rules in
+    search rules in
     λ memory h l f.
     let fits : c.numbers_at-n.result.count + length c.args.content.now ≤ ROOM = omega (arith, c.if-content-count.false, c.if-content-gt-ROOM.false) in
     let bytes : List ℕ = room_at c.args.queue.now c.args.i in

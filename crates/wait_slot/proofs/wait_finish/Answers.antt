@@ -13,7 +13,7 @@ returns-then-i-ge-SLOTS c = λ memory queue state h p q. absurd (omega arith)
 pub returns : goal.returns
 returns c =
     let sized : length c.args.marks.now ≡ QUEUE =
-        search rules in
+    search rules in
     λ memory queue state h p q.
     let n = owed_count c.args.owes_out c.args.marks.now c.args.i c.numbers_at-n.result Output.Stdout c.end_if-a.result c.end_if-a.new.marks c.end_if-a.ensures in
     let k = owed_count c.args.owes_err c.end_if-a.new.marks c.args.i c.end_if-a.result Output.Stderr c.end_if-b.result c.end_if-b.new.marks c.end_if-b.ensures in

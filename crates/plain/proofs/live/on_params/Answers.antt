@@ -12,7 +12,7 @@ use Rattle.plain.proofs.live.on_params.Goals as goal
 pub returns-then-list-n-gt-AREA : goal.returns-then-list-n-gt-AREA
 unfolding on_params
 returns-then-list-n-gt-AREA c =
- simp (lt-ltb _ _ c.if-list-n-gt-AREA.true)
+    simp (lt-ltb _ _ c.if-list-n-gt-AREA.true)
     (c.fault.ensures _ _ c.requires.0)
 
 pub returns-then-n-eq0 : goal.returns-then-n-eq0

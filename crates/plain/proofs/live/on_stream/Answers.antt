@@ -7,7 +7,7 @@ use Rattle.plain.proofs.live.on_stream.Goals as goal
 pub returns-then-kind-e : goal.returns-then-kind-e
 unfolding on_stream
 returns-then-kind-e c =
- simp (ne_eqb _ _ c.if-kind-e.true)
+    simp (ne_eqb _ _ c.if-kind-e.true)
     (c.fault.ensures _ _ c.requires.0)
 
 pub returns-in-4 : goal.returns-in-4
