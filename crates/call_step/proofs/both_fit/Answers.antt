@@ -1,8 +1,4 @@
-use mathlib.Core.Path.{◌≡◌, sym, ap, ◌∙◌}
-use mathlib.Core.Bool.{Bool}
-use borrow.Author.Tests.{not-true, not-false}
-use borrow.Author.Rules.{rules}
-use Rattle.connection.specs.Shape.{◌and◌}
+use mathlib.Core.Path.{sym}
 use Rattle.call_step.proofs.both_fit.Goals as goal
 
 pub returns-then-not-waits_fit : goal.returns-then-not-waits_fit

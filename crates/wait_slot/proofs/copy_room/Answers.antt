@@ -2,7 +2,6 @@ use mathlib.Core.List.{List}
 use Prim.Native.Nat.{ℕ}
 use Rattle.wire.specs.Buffer.{copied}
 use Rattle.wait_slot.proofs.RoomLaws.{part_made}
-use borrow.Author.Rules.{rules}
 use Rattle.wait_slot.proofs.copy_room.Goals as goal
 
 pub returns : goal.returns

@@ -2,7 +2,6 @@ use mathlib.Core.Path.{sym}
 use borrow.Author.Tests.{eq-eqb, ne_eqb}
 use Rattle.queue_slot.specs.Wait.{wait_end}
 use Rattle.wait_slot.proofs.RoomLaws.{room_same}
-use borrow.Author.Rules.{rules}
 use Rattle.wait_slot.proofs.end_after.Goals as goal
 
 pub returns-then-count-eq0 : goal.returns-then-count-eq0

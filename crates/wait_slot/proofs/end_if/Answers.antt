@@ -1,5 +1,4 @@
 use mathlib.Core.Path.{refl}
-use borrow.Author.Rules.{rules}
 use Rattle.wait_slot.proofs.end_if.Goals as goal
 
 pub returns-then-owed : goal.returns-then-owed

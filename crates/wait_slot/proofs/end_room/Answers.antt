@@ -2,7 +2,6 @@ use mathlib.Core.List.{List}
 use Prim.Native.Nat.{ℕ}
 use Rattle.wait_area.specs.Behind.{end_behind}
 use Rattle.wait_slot.proofs.RoomLaws.{part_made}
-use borrow.Author.Rules.{rules}
 use Rattle.wait_slot.proofs.end_room.Goals as goal
 
 pub returns : goal.returns

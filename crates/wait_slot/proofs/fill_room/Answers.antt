@@ -3,7 +3,6 @@ use Prim.Native.Nat.{ℕ}
 use lib.ListN.{replicate}
 use Rattle.wire.specs.Buffer.{copied}
 use Rattle.wait_slot.proofs.RoomLaws.{part_made}
-use borrow.Author.Rules.{rules}
 use Rattle.wait_slot.proofs.fill_room.Goals as goal
 
 pub returns : goal.returns

@@ -1,6 +1,5 @@
 use native.Mathlib.Omega.{arith}
 use Rattle.queue.specs.Numbers.{numbers_at}
-use borrow.Author.Rules.{rules}
 use Rattle.wait_slot.proofs.forget_slot.Goals as goal
 
 pub returns : goal.returns

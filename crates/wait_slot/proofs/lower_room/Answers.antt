@@ -3,7 +3,6 @@ use Prim.Native.Nat.{ℕ}
 use lib.ListN.{take, drop}
 use Rattle.wire.specs.Buffer.{put_at}
 use Rattle.wait_slot.proofs.RoomLaws.{part_made}
-use borrow.Author.Rules.{rules}
 use Rattle.wait_slot.proofs.lower_room.Goals as goal
 
 pub returns : goal.returns

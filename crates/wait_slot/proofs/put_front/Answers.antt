@@ -2,7 +2,6 @@ use mathlib.Core.Path.{sym}
 use Rattle.queue_slot.specs.Wait.{Wait, with_front}
 use Rattle.wait_slot.proofs.RoomLaws.{room_same}
 use Rattle.wait_slot.proofs.SlotLaws.{put_made}
-use borrow.Author.Rules.{rules}
 use Rattle.wait_slot.proofs.put_front.Goals as goal
 
 pub returns : goal.returns

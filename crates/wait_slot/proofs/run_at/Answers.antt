@@ -2,7 +2,6 @@ use mathlib.Core.Path.{ap, ◌∙◌}
 use Rattle.queue_slot.specs.Atoms.{RUN}
 use Rattle.queue_slot.specs.Wait.{run_length}
 use Rattle.wait_slot.proofs.RoomLaws.{first_lent}
-use borrow.Author.Rules.{rules}
 use Rattle.wait_slot.proofs.run_at.Goals as goal
 
 pub returns : goal.returns

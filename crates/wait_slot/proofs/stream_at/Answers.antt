@@ -5,7 +5,6 @@ use native.Mathlib.Nat.{add-zero}
 use Rattle.wire.specs.Buffer.{byte_at}
 use Rattle.queue_slot.specs.Wait.{ROOM, mark_stream}
 use Rattle.wait_slot.proofs.RoomLaws.{room_byte}
-use borrow.Author.Rules.{rules}
 use Rattle.wait_slot.proofs.stream_at.Goals as goal
 
 pub returns-then-marks-ne-QUEUE : goal.returns-then-marks-ne-QUEUE

@@ -9,7 +9,6 @@ use Rattle.queue.specs.Calls.{room_at}
 use Rattle.wait_numbers.specs.Slot.{put_numbers}
 use Rattle.wait_slot.proofs.RoomLaws.{room_byte}
 use Rattle.wait_slot.proofs.SlotLaws.{put_made}
-use borrow.Author.Rules.{rules}
 use Rattle.wait_slot.proofs.take_run.Goals as goal
 
 pub returns-then-i-ge-SLOTS : goal.returns-then-i-ge-SLOTS

@@ -6,7 +6,6 @@ use Rattle.wait_numbers.specs.Slot.{put_numbers}
 use Rattle.wait_slot.specs.After.{wait_of}
 use Rattle.wait_slot.proofs.RoomLaws.{room_same}
 use Rattle.wait_slot.proofs.SlotLaws.{put_made, end_bytes_lem, after_count}
-use borrow.Author.Rules.{rules}
 use Rattle.wait_slot.proofs.wait_end.Goals as goal
 
 pub returns-then-i-ge-SLOTS : goal.returns-then-i-ge-SLOTS

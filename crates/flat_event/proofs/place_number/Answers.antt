@@ -1,0 +1,9 @@
+use mathlib.Core.Path.{refl}
+use borrow.Author.Rules.{rules}
+use Rattle.flat_event.proofs.place_number.Goals as goal
+
+pub returns-in-Nowhere : goal.returns-in-Nowhere
+returns-in-Nowhere c = λ n. rw c.in-Nowhere.is refl
+
+pub returns-in-At : goal.returns-in-At
+returns-in-At c = λ n. rw c.in-At.is refl
