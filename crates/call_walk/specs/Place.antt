@@ -1,5 +1,5 @@
 -- A place in a list of pairs, and the place past the pair there.
-use Rattle.std.specs.Prelude.{ℕ, zero, suc, ◌+◌, List, if◌then◌else◌}
+use Rattle.std.specs.Prelude.{ℕ, zero, suc, List, if◌then◌else◌}
 use Rattle.pairs.specs.Pair.{pair_at}
 use Rattle.pair_list.specs.List.{on_read}
 use Rattle.pairs.specs.declared.pair.Read.{Read}

@@ -1,6 +1,5 @@
-// A walk over a request's pairs: the part of the store that is its list, and a place in it. The struct holds a
-// reference, so its functions are thin, and their proofs follow the code statement by statement; the work is done
-// by functions on the list and the place.
+// A walk over a request's pairs: the part of the store that is its list, and a place in it. Its functions are thin:
+// the work is done by functions on the list and the place.
 #![tactic(auto)]
 
 ghost use Rattle.std.specs.Prelude.{◌≡◌};

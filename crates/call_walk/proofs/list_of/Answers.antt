@@ -11,19 +11,19 @@ returns-in_default c = (simp (walk_listed, ← c.list_at-listed.ensures, c.in_de
 pub slice_bounds-result-count-2 : goal.slice_bounds-result-count-2
 slice_bounds-result-count-2 c =
     let inside : Within c.args.store.now (record { refusal = 0; from = c.in-At.a; to = c.in-At.e }) =
-        subst (Within c.args.store.now) (sym c.list_at-listed.ensures ∙ ap listed_by c.in-At.is) (listing_within c.args.c c.args.store.now c.args.id) in
+    subst (Within c.args.store.now) (sym c.list_at-listed.ensures ∙ ap listed_by c.in-At.is) (listing_within c.args.c c.args.store.now c.args.id) in
     omega (arith, inside)
 
 pub slice_bounds-result-start-2 : goal.slice_bounds-result-start-2
 slice_bounds-result-start-2 c =
     let inside : Within c.args.store.now (record { refusal = 0; from = c.in-At.a; to = c.in-At.e }) =
-        subst (Within c.args.store.now) (sym c.list_at-listed.ensures ∙ ap listed_by c.in-At.is) (listing_within c.args.c c.args.store.now c.args.id) in
+    subst (Within c.args.store.now) (sym c.list_at-listed.ensures ∙ ap listed_by c.in-At.is) (listing_within c.args.c c.args.store.now c.args.id) in
     omega (arith, inside)
 
 pub slice_bounds-result-end-2 : goal.slice_bounds-result-end-2
 slice_bounds-result-end-2 c =
     let inside : Within c.args.store.now (record { refusal = 0; from = c.in-At.a; to = c.in-At.e }) =
-        subst (Within c.args.store.now) (sym c.list_at-listed.ensures ∙ ap listed_by c.in-At.is) (listing_within c.args.c c.args.store.now c.args.id) in
+    subst (Within c.args.store.now) (sym c.list_at-listed.ensures ∙ ap listed_by c.in-At.is) (listing_within c.args.c c.args.store.now c.args.id) in
     omega (arith, inside)
 
 pub returns : goal.returns

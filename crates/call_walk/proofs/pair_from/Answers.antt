@@ -13,5 +13,5 @@ pub returns-in-At : goal.returns-in-At
 unfolding read_from
 returns-in-At c =
     let open-walk : (walk c.args.c c.args.store.now c.args.id).refusal ≡ 0 =
-        simp (walk_listed, ← c.list_at-listed.ensures, c.in-At.is) in
+    simp (walk_listed, ← c.list_at-listed.ensures, c.in-At.is) in
     simp (open-walk, c.as_read.ensures, c.read_on.ensures)
