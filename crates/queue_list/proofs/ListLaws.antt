@@ -4,10 +4,9 @@ use Rattle.std.proofs.Math.Path.{refl}
 use Rattle.wire.specs.Test.{◌=?◌, by_test}
 use Rattle.pairs.specs.Pair.{pair_at}
 use Rattle.connection.specs.Refusal.{◌when◌, refusal}
-use Rattle.connection.specs.Slots.{request_at, held_at}
 use Rattle.connection.specs.RequestCalls as Of
 use Rattle.connection.specs.Calls as C
-use Rattle.queue.specs.Calls.{QueueMemory, conn_of, queue_in_shape, lent_refusal, queue_value, queue_source, queue_pair, queue_walk, queue_request, queue_count, rows_of}
+use Rattle.queue.specs.Calls.{QueueMemory, conn_of, queue_in_shape, queue_value, queue_source, queue_pair, queue_walk, queue_request, queue_count, rows_of}
 use Rattle.call_walk.specs.Place.{ReadIs, ReadRefused, read_from}
 use Rattle.queue_admit.proofs.BarredLaws.{barred, waits_well, shape_alone, shape_lost, barred_lent, free_lent, as_alone}
 use Rattle.queue_list.specs.Places.{queue_read_from}
