@@ -11,7 +11,6 @@ use Rattle.pair_list.specs.List.{first_named}
 use Rattle.pair_list.proofs.ListLaws.{first_within}
 use Rattle.connection.specs.declared.answer.Refusal.{Refusal}
 use Rattle.connection.specs.Codes.{refusal_number}
-use Rattle.connection.specs.Calls as C
 use Rattle.call_list.specs.Listing.{Listing, unlisted, listing}
 use Rattle.call_list.proofs.Laws.{Within, listing_within, value_listed, source_listed, walk_listed}
 use Rattle.call_list.specs.Part.{value_place}
