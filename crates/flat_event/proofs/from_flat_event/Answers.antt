@@ -1,6 +1,5 @@
 use borrow.Author.Tests.{ne_eqb}
 use Rattle.flat_event.specs.Flat.{read_event}
-use borrow.Author.Rules.{rules}
 use Rattle.flat_event.proofs.from_flat_event.Goals as goal
 
 pub returns-in-0 : goal.returns-in-0

@@ -1,4 +1,3 @@
-use borrow.Author.Rules.{rules}
 use Rattle.flat_event.proofs.is_known_event.Goals as goal
 
 pub returns : goal.returns

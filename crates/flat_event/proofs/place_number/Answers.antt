@@ -1,5 +1,4 @@
 use mathlib.Core.Path.{refl}
-use borrow.Author.Rules.{rules}
 use Rattle.flat_event.proofs.place_number.Goals as goal
 
 pub returns-in-Nowhere : goal.returns-in-Nowhere

@@ -1,5 +1,4 @@
 use mathlib.Core.Path.{◌∙◌}
-use borrow.Author.Rules.{rules}
 use Rattle.flat_event.proofs.to_flat_event.Goals as goal
 
 pub returns-in-Nothing : goal.returns-in-Nothing

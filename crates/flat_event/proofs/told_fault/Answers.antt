@@ -1,7 +1,6 @@
 use mathlib.Core.Path.{◌∙◌, ap}
 use Rattle.connection.specs.Codes.{fault_number}
 use Rattle.flat_event.specs.Flat.{place_of}
-use borrow.Author.Rules.{rules}
 use Rattle.flat_event.proofs.told_fault.Goals as goal
 
 pub returns : goal.returns
