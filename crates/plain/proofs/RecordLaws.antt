@@ -16,7 +16,7 @@ use Rattle.plain.specs.declared.LastWord.{LastWord}
 use Rattle.plain.specs.declared.Answer.{Answer as CodeAnswer}
 use Rattle.plain.specs.declared.Next.{Next}
 use Rattle.plain.specs.declared.Heard.{Heard as CodeHeard}
-use Rattle.plain.specs.Plain.{Heard, Request, Said, Word, Answer, Event_is, Last_is, bytes, two, says}
+use Rattle.plain.specs.Plain.{Heard, Request, Said, Word, Event_is, Last_is, bytes, two}
 use Rattle.plain.specs.Plain.{record_size, stops, follow, hear_in, heard, answer_in, answer}
 use Rattle.plain.specs.Code.{answer_of, no_entry, new_entry, empty_table, requests_from, requests_of}
 use Rattle.plain.specs.Promise.{says_by, hear, ask, after_record, followed, answer_from, Steps, NextRecord, Passes}

@@ -1,5 +1,5 @@
 -- Finish, straight out, while something may wait: refused, or as without a queue.
-use Rattle.std.specs.Prelude.{ℕ, ◌<◌, ◌≤◌, ◌≡◌, refl, Bool, true, false, not, List, [], ◌∷◌, length, if◌then◌else◌}
+use Rattle.std.specs.Prelude.{ℕ, ◌<◌, ◌≤◌, ◌≡◌, refl, Bool, true, false, not, List, [], ◌∷◌, length}
 use Rattle.std.proofs.Common.{sym, ap, ◌∙◌, arith, lt-ltb, le-ltb}
 use Rattle.wire.specs.Test.{◌<?◌, ◌=?◌}
 use Rattle.connection.specs.declared.state.Conn.{Conn}

@@ -1,15 +1,15 @@
 -- The rows of an output that is written straight out, and what the calls come to: refused, or as without a queue.
-use Rattle.std.specs.Prelude.{ℕ, ◌<◌, ◌≤◌, ◌≡◌, refl, Bool, true, false, not, List, [], ◌∷◌, length, ltb, if◌then◌else◌}
-use Rattle.std.proofs.Common.{sym, ap, ◌∙◌, arith, eq-eqb, lt-ltb, le-ltb}
+use Rattle.std.specs.Prelude.{ℕ, ◌≡◌, refl, Bool, true, false, not, List, [], ◌∷◌, length, ltb, if◌then◌else◌, cond}
+use Rattle.std.proofs.Common.{sym, ap, ◌∙◌, arith}
 use Rattle.std.proofs.lemmas.Bool.{eqb-false}
-use Rattle.wire.specs.Test.{◌<?◌, ◌=?◌, by_test}
+use Rattle.wire.specs.Test.{◌<?◌, ◌=?◌}
 use Rattle.record_writer.specs.Written.{record_fits, stream_fits}
 use Rattle.connection.specs.declared.request.Request.{Request}
 use Rattle.connection.specs.declared.state.Conn.{Conn}
 use Rattle.connection.specs.declared.answer.Output.{Output}
 use Rattle.connection.specs.declared.answer.Refusal.{Refusal}
 use Rattle.connection.specs.declared.answer.Wrote.{Wrote as CodeWrote}
-use Rattle.connection.specs.Sizes.{CHUNK, STORE}
+use Rattle.connection.specs.Sizes.{CHUNK}
 use Rattle.connection.specs.Codes.{refusal_number, output_type}
 use Rattle.connection.specs.Refusal.{Row, ◌when◌, refusal}
 use Rattle.connection.specs.RequestCalls as Of
@@ -22,15 +22,12 @@ use Rattle.request_output.proofs.Laws.{stream_room, end_room}
 use Rattle.call_admit.specs.declared.Admitted.{Admitted}
 use Rattle.call_admit.specs.Admission.{admitted_by}
 use Rattle.call_output.specs.Answer.{written_by}
-use Rattle.call_finish.specs.declared.FinishResult.{FinishResult}
-use Rattle.call_finish.specs.Answer.{owed_length, finished_by}
-use Rattle.call_finish.proofs.Laws.{owed_length_lem}
 use Rattle.queue_slot.specs.Wait.{anything}
 use Rattle.queue.specs.Numbers.{last_at}
-use Rattle.queue.specs.Calls.{QueueMemory, lent, conn_of, rows_of, stream_rows, slot_of, request_of, wait_at, is_leaving, straight_say, straight_end, straight_finish}
+use Rattle.queue.specs.Calls.{QueueMemory, lent, rows_of, stream_rows, slot_of, request_of, wait_at, straight_say, straight_end}
 use Rattle.wait_numbers.specs.Slot.{waits_in}
-use Rattle.queue_admit.specs.Admission.{queue_admission, queue_lent_admission}
-use Rattle.queue_admit.proofs.AdmissionLaws.{Own, Through, through_at, refused_by_row, lent_refused_by_row, lent_through_at, lent_own_decide}
+use Rattle.queue_admit.specs.Admission.{queue_admission}
+use Rattle.queue_admit.proofs.AdmissionLaws.{Through, through_at, refused_by_row}
 use Rattle.queue_admit.proofs.StreamLaws.{stream_rows_of, stream_rows_at, stream_decide}
 use Rattle.queue_straight.specs.Straight.{StraightCheck}
 
@@ -120,7 +117,7 @@ output_refused : (n : ℕ) (why : Refusal) (c : Conn) (l : List ℕ) (w : C.Writ
     → written_by (record { wrote = CodeWrote.Refused why; conn = c }) l ≡ (if n =? 0 then w else C.unwritten n c l)
 output_refused n why c l w e = rw (← e) (simp (refusal_some why))
 
-pub passed {ℓ} : {A : Type ℓ} (n : ℕ) (alone refused : A) → 0 ≡ n → alone ≡ (if n =? 0 then alone else refused)
+pub passed {ℓ} : {A : Type ℓ} (n : ℕ) (alone refused : A) → 0 ≡ n → alone ≡ cond (n =? 0) alone refused
 passed n alone refused e = rw (← e)
 
 not_not : (f b : Bool) → f ≡ not b → not f ≡ b

@@ -12,12 +12,12 @@ returns-then-not-fits c = simp (eq-eqb _ _ c.if-size-ne-STORE.false, c.if-not-fi
 
 pub returns-then-not-open : goal.returns-then-not-open
 unfolding checked_step
-returns-then-not-open c = simp (eq-eqb _ _ c.if-size-ne-STORE.false, c.if-not-fits.false, not-true c.args.«open» c.if-not-open.true)
+returns-then-not-open c = simp (eq-eqb _ _ c.if-size-ne-STORE.false, c.if-not-fits.false, c.if-not-open.true)
 
 pub returns-then-bytes-eq0 : goal.returns-then-bytes-eq0
 unfolding checked_step
-returns-then-bytes-eq0 c = simp (eq-eqb _ _ c.if-size-ne-STORE.false, c.if-not-fits.false, not-false c.args.«open» c.if-not-open.false, eq-eqb _ _ c.if-bytes-eq0.true)
+returns-then-bytes-eq0 c = simp (eq-eqb _ _ c.if-size-ne-STORE.false, c.if-not-fits.false, c.if-not-open.false, eq-eqb _ _ c.if-bytes-eq0.true)
 
 pub returns : goal.returns
 unfolding checked_step
-returns c = simp (eq-eqb _ _ c.if-size-ne-STORE.false, c.if-not-fits.false, not-false c.args.«open» c.if-not-open.false, ne_eqb _ _ c.if-bytes-eq0.false)
+returns c = simp (eq-eqb _ _ c.if-size-ne-STORE.false, c.if-not-fits.false, c.if-not-open.false, ne_eqb _ _ c.if-bytes-eq0.false)

@@ -1,12 +1,6 @@
-use Prim.Native.Nat.{◌+◌, ◌-◌, ◌≤◌, ◌<◌}
-use mathlib.Core.Path.{◌≡◌}
-use native.Mathlib.Omega.{arith}
-use lib.ListN.{length, take, drop, length-drop}
-use lib.Seq.{take_all}
-use borrow.Author.Rules.{rules}
-use Rattle.plain.specs.Promise.{Reading, Reads, ROOM}
-use Rattle.plain.proofs.TableLaws.{sound_more}
-use Rattle.plain.proofs.RecordLaws.{reading_start, reading_end, reading_answer, reading_next}
+use Prim.Native.Nat.{◌-◌}
+use lib.ListN.{length}
+use Rattle.plain.specs.Promise.{Reading}
 use Rattle.plain.proofs.event_in.Given as goal
 
 abbrev pub invariant-loop-at : goal.invariant-loop-at

@@ -1,5 +1,4 @@
 use Rattle.plain.proofs.RecordLaws.{pass_nothing, pass_event, pass_bytes, asked_event, asked_byte, asked_close}
-use borrow.Author.Rules.{rules}
 use Rattle.plain.proofs.pass.Goals as goal
 
 pub returns-then-left-eq0 : goal.returns-then-left-eq0

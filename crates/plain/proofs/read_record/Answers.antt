@@ -4,7 +4,6 @@ use native.Mathlib.Omega.{arith}
 use lib.ListN.{length, take, drop, length-take}
 use Rattle.plain.specs.Plain.{two}
 use Rattle.plain.proofs.RecordLaws.{content_part, reads_short, reads_record}
-use borrow.Author.Rules.{rules}
 use Rattle.plain.proofs.read_record.Goals as goal
 
 pub returns-then-bytes-lt8 : goal.returns-then-bytes-lt8

@@ -7,7 +7,6 @@ use mathlib.Core.List.{List}
 use mathlib.Core.Bool.{Bool}
 use Prim.Native.Nat.{ℕ}
 use mathlib.Core.Path.{◌≡◌, sym, ap, ◌∙◌}
-use borrow.Author.Rules.{rules}
 use Rattle.queue_pump.proofs.pump.Goals as goal
 
 pub turn-requires : goal.turn-requires
@@ -18,17 +17,17 @@ turn-requires c =
 pub returns-in-Refused : goal.returns-in-Refused
 returns-in-Refused c =
     let checked : (gathered : List ℕ) → check_number c.pump_check-check.result ≡ pump_refusal (lent c.args.c gathered c.args.store.now c.args.waits.now c.args.marks.now c.args.queue.now) c.args.allowance c.args.out.now =
-        λ gathered. 
-        c.pump_check-check.ensures
-        ∙ ap (λ (f : Bool). pump_rows (length c.args.store.now) (length c.args.queue.now) f c.args.c.«open» (length c.args.out.now) c.args.allowance) c.is_fit-fits.ensures
-        ∙ rows_of c.args.c gathered c.args.store.now c.args.waits.now c.args.marks.now c.args.queue.now c.args.allowance c.args.out.now in
+    λ gathered.
+    c.pump_check-check.ensures
+    ∙ ap (λ (f : Bool). pump_rows (length c.args.store.now) (length c.args.queue.now) f c.args.c.«open» (length c.args.out.now) c.args.allowance) c.is_fit-fits.ensures
+    ∙ rows_of c.args.c gathered c.args.store.now c.args.waits.now c.args.marks.now c.args.queue.now c.args.allowance c.args.out.now in
     λ gathered. pump_refused_lem c.args.c gathered c.args.store.now c.args.waits.now c.args.marks.now c.args.queue.now c.args.allowance c.args.out.now c.in-Refused.why (ap check_number (sym c.in-Refused.is) ∙ checked gathered)
 
 pub returns-in-Passed : goal.returns-in-Passed
 returns-in-Passed c =
     let checked : (gathered : List ℕ) → check_number c.pump_check-check.result ≡ pump_refusal (lent c.args.c gathered c.args.store.now c.args.waits.now c.args.marks.now c.args.queue.now) c.args.allowance c.args.out.now =
-        λ gathered. 
-        c.pump_check-check.ensures
-        ∙ ap (λ (f : Bool). pump_rows (length c.args.store.now) (length c.args.queue.now) f c.args.c.«open» (length c.args.out.now) c.args.allowance) c.is_fit-fits.ensures
-        ∙ rows_of c.args.c gathered c.args.store.now c.args.waits.now c.args.marks.now c.args.queue.now c.args.allowance c.args.out.now in
+    λ gathered.
+    c.pump_check-check.ensures
+    ∙ ap (λ (f : Bool). pump_rows (length c.args.store.now) (length c.args.queue.now) f c.args.c.«open» (length c.args.out.now) c.args.allowance) c.is_fit-fits.ensures
+    ∙ rows_of c.args.c gathered c.args.store.now c.args.waits.now c.args.marks.now c.args.queue.now c.args.allowance c.args.out.now in
     λ gathered. c.turn.ensures gathered ∙ pump_passed c.args.c gathered c.args.store.now c.args.waits.now c.args.marks.now c.args.queue.now c.args.allowance c.args.out.now (ap check_number (sym c.in-Passed.is) ∙ checked gathered)

@@ -1,6 +1,5 @@
 use mathlib.Core.Path.{◌∙◌}
 use Rattle.queue_straight.proofs.StraightLaws.{end_refused, end_passed}
-use borrow.Author.Rules.{rules}
 use Rattle.queue_straight.proofs.end_output.Goals as goal
 
 pub returns-in-Refused : goal.returns-in-Refused

@@ -1,4 +1,4 @@
-use Prim.Native.Nat.{ℕ, ◌<◌, ◌≤◌}
+use Prim.Native.Nat.{◌<◌, ◌≤◌}
 use mathlib.Core.Path.{sym, ap, ◌∙◌}
 use native.Mathlib.Omega.{arith}
 use lib.ListN.{length}
@@ -8,7 +8,6 @@ use Rattle.call_admit.specs.Admission.{admitted_by}
 use Rattle.call_finish.specs.Answer.{owed_length}
 use Rattle.wait_numbers.proofs.SlotLaws.{kept_as_was}
 use Rattle.queue_straight.proofs.FinishLaws.{finish_refused, finish_leaving, finish_short, finish_waiting, finish_passed}
-use borrow.Author.Rules.{rules}
 use Rattle.queue_straight.proofs.finish.Goals as goal
 
 pub returns-then-is_leaving : goal.returns-then-is_leaving

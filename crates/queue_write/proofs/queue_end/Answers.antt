@@ -19,7 +19,7 @@ returns-in-Refused c =
 pub returns-in-Refused-check : goal.returns-in-Refused-check
 returns-in-Refused-check c =
     let here : (gathered store queue : List ℕ) → Through (lent c.args.c gathered store c.args.waits.now c.args.marks.now queue) c.args.id c.in-At.i =
-        λ gathered store queue.  let a = c.args in through_at (lent a.c gathered store a.waits.now a.marks.now queue) a.id c.in-At.i (ap admitted_by (sym c.in-At.is) ∙ c.admit_waits-admitted.ensures) in
+    λ gathered store queue. let a = c.args in through_at (lent a.c gathered store a.waits.now a.marks.now queue) a.id c.in-At.i (ap admitted_by (sym c.in-At.is) ∙ c.admit_waits-admitted.ensures) in
     λ gathered store queue. let a = c.args in
     ap (λ (w : Queueing). queued_by w gathered store a.waits.now a.marks.now queue) c.refused-in-Refused-check.ensures
     ∙ end_ended a.c gathered store a.waits.now a.marks.now queue a.id a.output (here gathered store queue) c.request_at-request.ensures c.is_leaving.ensures c.in-Refused-check.why (ap check_number (sym c.in-Refused-check.is) ∙ c.stream_check-check.ensures)
@@ -27,7 +27,7 @@ returns-in-Refused-check c =
 pub returns-in-Passed : goal.returns-in-Passed
 returns-in-Passed c =
     let here : (gathered store queue : List ℕ) → Through (lent c.args.c gathered store c.args.waits.now c.args.marks.now queue) c.args.id c.in-At.i =
-        λ gathered store queue.  let a = c.args in through_at (lent a.c gathered store a.waits.now a.marks.now queue) a.id c.in-At.i (ap admitted_by (sym c.in-At.is) ∙ c.admit_waits-admitted.ensures) in
+    λ gathered store queue. let a = c.args in through_at (lent a.c gathered store a.waits.now a.marks.now queue) a.id c.in-At.i (ap admitted_by (sym c.in-At.is) ∙ c.admit_waits-admitted.ensures) in
     λ gathered store queue. let a = c.args in
     ap (λ (w : Queueing). queued_by w gathered store c.wait_end.new.waits c.wait_end.new.marks queue) c.put_back.ensures
     ∙ end_waits_lem a.c gathered store a.waits.now a.marks.now queue a.id a.output (here gathered store queue) c.request_at-request.ensures c.is_leaving.ensures

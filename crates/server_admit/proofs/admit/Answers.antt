@@ -18,12 +18,12 @@ pub returns-in-At : goal.returns-in-At
 unfolding call_admission call_refusal
 returns-in-At c =
     let through : Passed c.args.c =
-        passed c.args.c (ap check_number (sym c.in-Passed.is) ∙ c.check_state-checked.ensures) in
+    passed c.args.c (ap check_number (sym c.in-Passed.is) ∙ c.check_state-checked.ensures) in
     simp ((through).shape, (through).is_open, ← c.find_from-slot.ensures, c.in-At.is)
 
 pub returns-in-Nowhere : goal.returns-in-Nowhere
 unfolding call_admission call_refusal
 returns-in-Nowhere c =
     let through : Passed c.args.c =
-        passed c.args.c (ap check_number (sym c.in-Passed.is) ∙ c.check_state-checked.ensures) in
+    passed c.args.c (ap check_number (sym c.in-Passed.is) ∙ c.check_state-checked.ensures) in
     simp ((through).shape, (through).is_open, ← c.find_from-slot.ensures, c.in-Nowhere.is)

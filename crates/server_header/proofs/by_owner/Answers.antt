@@ -2,7 +2,6 @@ use mathlib.Core.Path.{sym, ap, ◌∙◌}
 use Rattle.server.specs.Decision.{inner_in}
 use Rattle.server_header.specs.declared.Owner.{Owner}
 use Rattle.server_header.specs.Rows.{by_owner}
-use borrow.Author.Rules.{rules}
 use Rattle.server_header.proofs.by_owner.Goals as goal
 
 pub on_request-requires : goal.on_request-requires

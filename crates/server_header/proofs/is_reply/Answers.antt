@@ -3,7 +3,6 @@ use Prim.Native.Nat.{ℕ}
 use Rattle.record.specs.Names.{END_REQUEST, STDOUT, STDERR}
 use Rattle.server.specs.Step.{is_management, is_reply}
 use borrow.Author.Tests.{eq-eqb, ne_eqb}
-use borrow.Author.Rules.{rules}
 use Rattle.server_header.proofs.is_reply.Goals as goal
 
 -- a reply that is none of the three is a management record

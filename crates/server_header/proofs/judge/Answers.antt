@@ -12,7 +12,6 @@ use Rattle.server_header.specs.declared.HeaderCheck.{HeaderCheck}
 use Rattle.server_header.specs.declared.Owner.{Owner}
 use Rattle.server_header.specs.Rows.{Seen, checked_header, by_owner, by_check, judged_for}
 use Rattle.server_header.proofs.RowLaws.{judged_seen, owner_slot, slot_id}
-use borrow.Author.Rules.{rules}
 use Rattle.server_header.proofs.judge.Goals as goal
 
 pub by_owner-requires : goal.by_owner-requires

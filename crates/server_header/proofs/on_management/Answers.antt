@@ -1,7 +1,6 @@
 use mathlib.Core.Path.{◌∙◌}
 use borrow.Author.Tests.{eq-eqb, ne_eqb, lt-ltb, le-ltb}
 use Rattle.server.specs.Step.{on_management}
-use borrow.Author.Rules.{rules}
 use Rattle.server_header.proofs.on_management.Goals as goal
 
 pub returns-then-n-eq8 : goal.returns-then-n-eq8

@@ -11,7 +11,6 @@ use Rattle.server.specs.Decision.{inner_in}
 use Rattle.server_header.specs.declared.OutputRow.{OutputRow}
 use Rattle.server_header.specs.Rows.{output_row, by_row}
 use Rattle.server_header.proofs.RowLaws.{output_rows_lem}
-use borrow.Author.Rules.{rules}
 use Rattle.server_header.proofs.on_output.Goals as goal
 
 pub returns-in-TooLate : goal.returns-in-TooLate

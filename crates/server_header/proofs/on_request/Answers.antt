@@ -3,7 +3,6 @@ use borrow.Author.Tests.{eq-eqb, ne_eqb}
 use Rattle.slot_word.specs.Word.{taken}
 use Rattle.server_header.proofs.RowLaws.{out_mark, err_mark}
 use Rattle.server.specs.Step.{on_request}
-use borrow.Author.Rules.{rules}
 use Rattle.server_header.proofs.on_request.Goals as goal
 
 pub returns-then-n-eq8 : goal.returns-then-n-eq8

@@ -1,4 +1,3 @@
-use borrow.Author.Rules.{rules}
 use Rattle.server_header.proofs.output_target.Goals as goal
 
 pub returns-in-Stdout : goal.returns-in-Stdout

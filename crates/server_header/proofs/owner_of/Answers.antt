@@ -1,6 +1,5 @@
 use borrow.Author.Tests.{eq-eqb, ne_eqb}
 use Rattle.server_header.specs.Rows.{owner_in}
-use borrow.Author.Rules.{rules}
 use Rattle.server_header.proofs.owner_of.Goals as goal
 
 pub returns-then-id-eq0 : goal.returns-then-id-eq0

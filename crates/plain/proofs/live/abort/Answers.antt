@@ -2,7 +2,6 @@ use mathlib.Core.Path.{refl}
 use native.Mathlib.Omega.{arith}
 use lib.Seq.{take_at}
 use Rattle.plain.specs.Plain.{abort}
-use borrow.Author.Rules.{rules}
 use Rattle.plain.proofs.live.abort.Goals as goal
 
 pub returns : goal.returns

@@ -1,6 +1,5 @@
 use borrow.Author.Tests.{eq-eqb, ne_eqb, lt-ltb, le-ltb}
 use Rattle.plain.specs.Plain.{against}
-use borrow.Author.Rules.{rules}
 use Rattle.plain.proofs.live.against.Goals as goal
 
 pub returns-in_default : goal.returns-in_default

@@ -2,7 +2,6 @@ use mathlib.Core.Path.{refl}
 use native.Mathlib.Omega.{arith}
 use lib.Seq.{take_at}
 use Rattle.plain.specs.Plain.{ends}
-use borrow.Author.Rules.{rules}
 use Rattle.plain.proofs.live.ends.Goals as goal
 
 pub returns : goal.returns

@@ -1,7 +1,6 @@
 use mathlib.Core.Path.{refl}
 use native.Mathlib.Omega.{arith}
 use Rattle.plain.specs.Plain.{fault}
-use borrow.Author.Rules.{rules}
 use Rattle.plain.proofs.live.fault.Goals as goal
 
 pub returns : goal.returns

@@ -3,7 +3,6 @@ use native.Mathlib.Omega.{arith}
 use lib.Seq.{take_at}
 use borrow.Author.Tests.{eq-eqb, ne_eqb}
 use Rattle.plain.specs.Plain.{on_body, measure, show}
-use borrow.Author.Rules.{rules}
 use Rattle.plain.proofs.live.on_body.Goals as goal
 
 pub returns-then-n-eq0 : goal.returns-then-n-eq0

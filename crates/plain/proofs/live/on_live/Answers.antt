@@ -1,13 +1,11 @@
 use Prim.Native.Nat.{◌≤◌}
 use mathlib.Core.Path.{◌≡◌}
 use mathlib.Core.Bool.{true, false}
-use mathlib.Core.Logic.{⊎_elim}
 use native.Mathlib.Omega.{arith}
 use lib.Dec.{eqb}
 use borrow.Author.Tests.{ne_eqb, eqb-false}
 use Rattle.wire.specs.Test.{by_test}
 use Rattle.plain.specs.Plain.{is_stream, on_live}
-use borrow.Author.Rules.{rules}
 use Rattle.plain.proofs.live.on_live.Goals as goal
 use Rattle.plain.proofs.live.on_live.Goals.{in_default-via-then-kind-lt4, in_default-via-else-kind-lt4+else-kind-lt6, in-8-1, in_default+else-kind-lt4+then-kind-lt6}
 

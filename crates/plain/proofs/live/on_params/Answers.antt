@@ -6,7 +6,6 @@ use lib.ListN.{length, length-append}
 use lib.Seq.{take_all, take-length}
 use borrow.Author.Tests.{lt-ltb, le-ltb, eq-eqb, ne_eqb}
 use Rattle.plain.specs.Plain.{on_params, keep}
-use borrow.Author.Rules.{rules}
 use Rattle.plain.proofs.live.on_params.Goals as goal
 
 pub returns-then-list-n-gt-AREA : goal.returns-then-list-n-gt-AREA

@@ -1,7 +1,6 @@
 use mathlib.Core.Path.{◌≡◌, sym, ◌∙◌}
 use borrow.Author.Tests.{eq-eqb, ne_eqb, eqb-true}
 use Rattle.plain.specs.Plain.{on_stream}
-use borrow.Author.Rules.{rules}
 use Rattle.plain.proofs.live.on_stream.Goals as goal
 
 pub returns-then-kind-e : goal.returns-then-kind-e

@@ -4,7 +4,6 @@ use Rattle.pair_list.specs.List.{ending_of}
 use Rattle.pair_list.proofs.ListLaws.{ended_formed, broken_formed, ending_place}
 use Rattle.pair_list.specs.declared.Ending.{Ending}
 use Rattle.plain.specs.Plain.{params_end}
-use borrow.Author.Rules.{rules}
 use Rattle.plain.proofs.live.params_end.Goals as goal
 
 pub returns-then-list_repeats : goal.returns-then-list_repeats

@@ -1,4 +1,3 @@
-use borrow.Author.Rules.{rules}
 use Rattle.plain.proofs.live.stated_for.Goals as goal
 
 pub returns-in-Stdin : goal.returns-in-Stdin

@@ -1,4 +1,3 @@
-use borrow.Author.Rules.{rules}
 use Rattle.plain.proofs.rules.has_name.Goals as goal
 
 pub returns-in-At : goal.returns-in-At

@@ -6,7 +6,6 @@ use lib.Seq.{length-take-le}
 use Rattle.wire.proofs.BufferLaws.{copied_room}
 use Rattle.plain.specs.Code.{entry_at}
 use Rattle.plain.proofs.RuleLaws.{own_live, active_spent, active_live}
-use borrow.Author.Rules.{rules}
 use Rattle.plain.proofs.rules.on_active.Goals as goal
 
 pub returns-then-e : goal.returns-then-e

@@ -1,7 +1,6 @@
 use borrow.Author.Tests.{eq-eqb, ne_eqb}
 use Rattle.plain.specs.Plain.{on_inactive}
 use Rattle.plain.proofs.RuleLaws.{stays}
-use borrow.Author.Rules.{rules}
 use Rattle.plain.proofs.rules.on_inactive.Goals as goal
 
 pub returns-then-kind-ne-BEGIN : goal.returns-then-kind-ne-BEGIN

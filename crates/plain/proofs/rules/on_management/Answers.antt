@@ -1,6 +1,5 @@
 use borrow.Author.Tests.{eq-eqb, ne_eqb}
 use Rattle.plain.specs.Plain.{on_management}
-use borrow.Author.Rules.{rules}
 use Rattle.plain.proofs.rules.on_management.Goals as goal
 
 pub returns-then-kind-eq-GET_VALUES : goal.returns-then-kind-eq-GET_VALUES

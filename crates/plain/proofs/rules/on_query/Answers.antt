@@ -5,7 +5,6 @@ use Rattle.pair_list.specs.List.{ending_of}
 use Rattle.pair_list.proofs.ListLaws.{ended_formed, broken_formed, ending_place}
 use Rattle.pair_list.specs.declared.Ending.{Ending}
 use Rattle.plain.specs.Plain.{on_query}
-use borrow.Author.Rules.{rules}
 use Rattle.plain.proofs.rules.on_query.Goals as goal
 
 pub returns-then-n-gt512 : goal.returns-then-n-gt512

@@ -4,7 +4,6 @@ use Prim.Native.Nat.{ℕ}
 use Rattle.plain.specs.Plain.{is_role, two}
 use Rattle.plain.specs.Code.{requests_of}
 use Rattle.plain.proofs.RuleLaws.{opening_known, opening_unknown, stays}
-use borrow.Author.Rules.{rules}
 use Rattle.plain.proofs.rules.opening.Goals as goal
 
 pub returns-in-1 : goal.returns-in-1

@@ -4,7 +4,6 @@ use lib.ListN.{length}
 use borrow.Author.Tests.{lt-ltb, le-ltb}
 use Rattle.plain.specs.Code.{new_entry}
 use Rattle.plain.proofs.TableLaws.{requests_length, opened_last, sound_with, sound_more}
-use borrow.Author.Rules.{rules}
 use Rattle.plain.proofs.rules.opens.Goals as goal
 
 pub returns-then-count-lt-ENTRIES : goal.returns-then-count-lt-ENTRIES

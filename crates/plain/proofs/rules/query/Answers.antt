@@ -1,5 +1,4 @@
 use Rattle.plain.specs.Plain.{query}
-use borrow.Author.Rules.{rules}
 use Rattle.plain.proofs.rules.query.Goals as goal
 
 pub returns : goal.returns

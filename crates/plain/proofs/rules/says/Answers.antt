@@ -5,7 +5,6 @@ use lib.ListN.{length}
 use Rattle.plain.specs.Code.{requests_of}
 use Rattle.plain.proofs.TableLaws.{requests_length}
 use Rattle.plain.proofs.RuleLaws.{stays, says_version, says_management, says_active, says_inactive}
-use borrow.Author.Rules.{rules}
 use Rattle.plain.proofs.rules.says.Goals as goal
 
 pub returns-then-version-ne1 : goal.returns-then-version-ne1

@@ -1,4 +1,3 @@
-use borrow.Author.Rules.{rules}
 use Rattle.plain.proofs.table.empty_table.Goals as goal
 
 pub returns : goal.returns

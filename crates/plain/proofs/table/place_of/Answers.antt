@@ -1,11 +1,7 @@
-use Prim.Native.Nat.{ℕ, suc, ◌+◌, ◌-◌, ◌≤◌}
+use Prim.Native.Nat.{ℕ, suc, ◌+◌, ◌≤◌}
 use mathlib.Core.Path.{◌≡◌, ap, ◌∙◌}
-use mathlib.Core.List.{List}
 use native.Mathlib.Omega.{arith}
-use lib.ListN.{length, drop}
-use borrow.Author.Rules.{rules}
-use Rattle.plain.specs.Plain.{place_of}
-use Rattle.plain.specs.Code.{requests_of}
+use lib.ListN.{length}
 use Rattle.plain.proofs.TableLaws.{place_here, place_next, place_end, mapped_length}
 use Rattle.plain.proofs.table.place_of.Goals as goal
 

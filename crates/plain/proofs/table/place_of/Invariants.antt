@@ -1,12 +1,9 @@
-use Prim.Native.Nat.{ℕ, suc, ◌+◌, ◌-◌, ◌≤◌}
-use mathlib.Core.Path.{◌≡◌, ap, ◌∙◌}
+use Prim.Native.Nat.{ℕ, ◌+◌, ◌-◌, ◌≤◌}
+use mathlib.Core.Path.{◌≡◌}
 use mathlib.Core.List.{List}
-use native.Mathlib.Omega.{arith}
-use lib.ListN.{length, drop}
-use borrow.Author.Rules.{rules}
+use lib.ListN.{drop}
 use Rattle.plain.specs.Plain.{place_of}
 use Rattle.plain.specs.Code.{requests_of}
-use Rattle.plain.proofs.TableLaws.{place_here, place_next, place_end, mapped_length}
 use Rattle.plain.proofs.table.place_of.Given as goal
 
 abbrev pub invariant-loop-i : goal.invariant-loop-i

@@ -2,7 +2,7 @@ use Prim.Native.Nat.{◌*◌, ◌<◌, ◌≤◌}
 use native.Mathlib.Omega.{arith}
 use Rattle.queue.specs.Calls.{PUMPED}
 use Rattle.queue_pump.specs.Serving.{pump_rows}
-use borrow.Author.Tests.{eq-eqb, ne_eqb, lt-ltb, le-ltb, not-true, not-false}
+use borrow.Author.Tests.{eq-eqb, ne_eqb, lt-ltb, le-ltb}
 use Rattle.queue_pump.proofs.check.pump_check.Goals as goal
 
 pub returns-then-store-ne-STORE : goal.returns-then-store-ne-STORE
@@ -19,18 +19,18 @@ returns-then-not-fits c = simp (eq-eqb _ _ c.if-store-ne-STORE.false, eq-eqb _ _
 
 pub returns-then-not-open : goal.returns-then-not-open
 unfolding pump_rows
-returns-then-not-open c = simp (eq-eqb _ _ c.if-store-ne-STORE.false, eq-eqb _ _ c.if-queue-ne-QUEUE.false, c.if-not-fits.false, not-true c.args.«open» c.if-not-open.true)
+returns-then-not-open c = simp (eq-eqb _ _ c.if-store-ne-STORE.false, eq-eqb _ _ c.if-queue-ne-QUEUE.false, c.if-not-fits.false, c.if-not-open.true)
 
 pub returns-then-out-allowance : goal.returns-then-out-allowance
 unfolding pump_rows
 returns-then-out-allowance c =
     let short : c.args.out < PUMPED * c.args.allowance =
-        omega (arith, c.if-out-allowance.true) in
-    simp (eq-eqb _ _ c.if-store-ne-STORE.false, eq-eqb _ _ c.if-queue-ne-QUEUE.false, c.if-not-fits.false, not-false c.args.«open» c.if-not-open.false, lt-ltb _ _ (short))
+    omega (arith, c.if-out-allowance.true) in
+    simp (eq-eqb _ _ c.if-store-ne-STORE.false, eq-eqb _ _ c.if-queue-ne-QUEUE.false, c.if-not-fits.false, c.if-not-open.false, lt-ltb _ _ (short))
 
 pub returns : goal.returns
 unfolding pump_rows
 returns c =
     let long : PUMPED * c.args.allowance ≤ c.args.out =
-        omega (arith, c.if-out-allowance.false) in
-    simp (eq-eqb _ _ c.if-store-ne-STORE.false, eq-eqb _ _ c.if-queue-ne-QUEUE.false, c.if-not-fits.false, not-false c.args.«open» c.if-not-open.false, le-ltb _ _ (long))
+    omega (arith, c.if-out-allowance.false) in
+    simp (eq-eqb _ _ c.if-store-ne-STORE.false, eq-eqb _ _ c.if-queue-ne-QUEUE.false, c.if-not-fits.false, c.if-not-open.false, le-ltb _ _ (long))

@@ -1,10 +1,8 @@
-use mathlib.Core.Path.{◌≡◌, sym, ap}
-use Prim.Native.Nat.{◌≤◌}
+use mathlib.Core.Path.{sym, ap}
 use native.Mathlib.Omega.{arith}
 use Rattle.reading.proofs.Signs.{below, above}
 use Rattle.station_number.specs.Fixed.{sign_text}
 use Rattle.station_number.proofs.PutsLaws.{puts_as, puts_none}
-use borrow.Author.Rules.{rules}
 use Rattle.station_number.proofs.fixed.add_sign.Goals as goal
 
 pub returns-then-t-lt0 : goal.returns-then-t-lt0

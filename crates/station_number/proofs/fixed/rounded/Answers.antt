@@ -3,7 +3,6 @@ use Prim.Native.Nat.{ℕ, ◌+◌, ◌*◌, ◌-◌, ◌/◌, ◌%◌, ◌^◌, 
 use native.Mathlib.Omega.{arith}
 use lib.Pow.{pow_mono}
 use Rattle.station_number.proofs.FixedLaws.{nearest_shifted, nearest_none}
-use borrow.Author.Rules.{rules}
 use Rattle.station_number.proofs.fixed.rounded.Goals as goal
 
 pub returns-then-places-gt63 : goal.returns-then-places-gt63

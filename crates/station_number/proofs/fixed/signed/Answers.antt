@@ -1,16 +1,14 @@
-use mathlib.Core.Path.{◌≡◌, sym, ap, ◌∙◌}
+use mathlib.Core.Path.{sym, ap, ◌∙◌}
 use mathlib.Core.Bool.{Bool, true}
-use Prim.Native.Nat.{ℕ, ◌-◌, ◌<◌}
+use Prim.Native.Nat.{◌-◌, ◌<◌}
 use native.Mathlib.Omega.{arith}
 use lib.IntN.{negsuc}
 use mir.Val.{SFits}
 use mir.ValLaws.{to_z-of_z}
 use mir.Syntax.{w32}
-use borrow.Author.Tests.{not-true, not-false}
 use Rattle.reading.proofs.Signs.{as_signed, minus_up}
 use Rattle.station_number.specs.Fixed.{signed as signedBy}
 use Rattle.station_number.proofs.FixedLaws.{signed_below}
-use borrow.Author.Rules.{rules}
 use Rattle.station_number.proofs.fixed.signed.Goals as goal
 
 pub returns-then-not-below : goal.returns-then-not-below

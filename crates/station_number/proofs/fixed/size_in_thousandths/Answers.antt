@@ -1,6 +1,5 @@
 use borrow.Author.Tests.{eq-eqb, ne_eqb}
 use Rattle.station_number.specs.Pattern.{pattern_size}
-use borrow.Author.Rules.{rules}
 use Rattle.station_number.proofs.fixed.size_in_thousandths.Goals as goal
 
 pub returns-then-field-eq0 : goal.returns-then-field-eq0

@@ -7,7 +7,6 @@ use mir.ValLaws.{to_z-of_z}
 use mir.Syntax.{w32}
 use Rattle.reading.proofs.Signs.{Below, below, above}
 use Rattle.station_number.specs.Fixed.{size_of}
-use borrow.Author.Rules.{rules}
 use Rattle.station_number.proofs.fixed.size_of.Goals as goal
 
 pub overflow_sub-below : goal.overflow_sub-below

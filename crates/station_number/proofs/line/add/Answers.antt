@@ -1,5 +1,4 @@
 use Rattle.station_number.proofs.PutsLaws.{puts_copied}
-use borrow.Author.Rules.{rules}
 use Rattle.station_number.proofs.line.add.Goals as goal
 
 pub returns : goal.returns

@@ -1,6 +1,5 @@
 use Prim.Native.Nat.{◌+◌}
 use Rattle.station_number.proofs.PutsLaws.{puts_one}
-use borrow.Author.Rules.{rules}
 use Rattle.station_number.proofs.line.add_digit.Goals as goal
 
 pub returns : goal.returns
