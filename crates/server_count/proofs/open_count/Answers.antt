@@ -4,7 +4,6 @@ use Rattle.server.specs.Codes.{refusal_number}
 use Rattle.server.specs.Calls.{open_count}
 use Rattle.server.specs.Answer.{refusal_some}
 use Rattle.server_admit.specs.Admission.{check_number}
-use borrow.Author.Rules.{rules}
 use Rattle.server_count.proofs.open_count.Goals as goal
 
 pub returns-in-Refused : goal.returns-in-Refused

@@ -2,7 +2,6 @@ use mathlib.Core.Path.{sym, ap, ◌∙◌}
 use Rattle.server_admit.specs.Admission.{check_number}
 use Rattle.server_admit.proofs.AdmissionLaws.{passed}
 use Rattle.server_open.proofs.Laws.{rows_refused, rows_own}
-use borrow.Author.Rules.{rules}
 use Rattle.server_open.proofs.open_check.Goals as goal
 
 pub returns-in-Refused : goal.returns-in-Refused

@@ -6,7 +6,6 @@ use Rattle.server.specs.Calls.{begin_bytes, role_of, with_taken, open_refusal, o
 use Rattle.server.specs.Answer.{call_refused}
 use Rattle.server_admit.specs.Admission.{check_number}
 use Rattle.server_open.proofs.Laws.{begin_fits, open_wrote}
-use borrow.Author.Rules.{rules}
 use Rattle.server_open.proofs.open_request.Goals as goal
 
 pub returns-in-Refused : goal.returns-in-Refused

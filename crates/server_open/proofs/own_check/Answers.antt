@@ -1,6 +1,5 @@
-use borrow.Author.Tests.{eq-eqb, ne_eqb, lt-ltb, le-ltb, not-true, not-false}
+use borrow.Author.Tests.{eq-eqb, ne_eqb, lt-ltb, le-ltb}
 use Rattle.server_open.specs.Rows.{own_rows}
-use borrow.Author.Rules.{rules}
 use Rattle.server_open.proofs.own_check.Goals as goal
 
 pub returns-then-id-eq0 : goal.returns-then-id-eq0

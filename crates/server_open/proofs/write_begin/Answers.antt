@@ -1,4 +1,3 @@
-use borrow.Author.Rules.{rules}
 use Rattle.server_open.proofs.write_begin.Goals as goal
 
 pub returns : goal.returns
