@@ -1,5 +1,5 @@
 -- What holds of the calls that read with what waits lent beside the state.
-use Rattle.std.specs.Prelude.{ℕ, ◌≡◌, refl, Bool, List, length, if◌then◌else◌}
+use Rattle.std.specs.Prelude.{ℕ, ◌≡◌, Bool, List, length}
 use Rattle.std.proofs.Common.{sym, ◌∙◌, arith, le-ltb}
 use Rattle.std.proofs.Math.Path.{ap}
 use Rattle.std.proofs.Math.Bool.{true, false}
@@ -9,7 +9,7 @@ use Rattle.connection.specs.declared.answer.Refusal.{Refusal}
 use Rattle.connection.specs.Sizes.{SLOTS, STORE}
 use Rattle.connection.specs.Codes.{refusal_number}
 use Rattle.connection.specs.Shape.{in_shape, ◌and◌}
-use Rattle.connection.specs.Step.{State, Stepped, state_of, stays}
+use Rattle.connection.specs.Step.{State, state_of, stays}
 use Rattle.connection.proofs.Laws.ShapeLaws.{and_true}
 use Rattle.queue.specs.Numbers.{kept_waits}
 use Rattle.queue.specs.Calls.{waits_fit}

@@ -1,4 +1,4 @@
-use borrow.Author.Tests.{eq-eqb, ne_eqb}
+use Rattle.std.proofs.Common.{eq-eqb, ne_eqb}
 use Rattle.call_step.specs.Check.{checked_step}
 use Rattle.call_step.proofs.check_step.Goals as goal
 

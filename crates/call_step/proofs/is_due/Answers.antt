@@ -1,5 +1,3 @@
-use borrow.Author.Tests.{not-false, not-true}
-use borrow.Author.Rules.{rules}
 use Rattle.call_step.proofs.is_due.Goals as goal
 
 pub returns-then-not-on : goal.returns-then-not-on

@@ -2,7 +2,6 @@ use mathlib.Core.Path.{◌∙◌}
 use mathlib.Core.Bool.{false}
 use Rattle.wait_numbers.proofs.FitLaws.{nobody_fits}
 use Rattle.call_step.proofs.BesideLaws.{beside_fits}
-use borrow.Author.Rules.{rules}
 use Rattle.call_step.proofs.step.Goals as goal
 
 pub returns : goal.returns
