@@ -120,6 +120,7 @@ pub fn mix(sum: u64, told: StepResult) -> u64
 }
 
 // Where the piece ends that the byte at place `at` lies in, and after which `end` was the last.
+#[tactic(auto, unfolding(crate::specs::Digest::next_end))]
 pub fn next_end(at: usize, end: usize, piece: usize, n: usize) -> usize
     requires { (at ≤ n) × (end ≤ n) }
     ensures { (result ≡ next_end at end piece n) × (at ≤ result) × (result ≤ n) }
