@@ -19,8 +19,8 @@ pub returns-then-not-record_fits : goal.returns-then-not-record_fits
 unfolding own_rows
 returns-then-not-record_fits c =
     let room : c.record_fits.result ≡ not (ltb c.args.room (length (record_bytes GET_VALUES 0 c.args.list.now))) =
-        let short = not_long c.args.list.now (sym c.bad_query.ensures ∙ c.if-bad_query.false) in
-        c.record_fits.ensures ∙ record_room GET_VALUES 0 c.args.list.now c.args.room (omega arith) in
+    let short = not_long c.args.list.now (sym c.bad_query.ensures ∙ c.if-bad_query.false) in
+    c.record_fits.ensures ∙ record_room GET_VALUES 0 c.args.list.now c.args.room (omega arith) in
     let long : ltb c.args.room (length (record_bytes GET_VALUES 0 c.args.list.now)) ≡ true = not-false _ (sym (room) ∙ c.if-not-record_fits.true) in
     simp (← c.bad_query.ensures, c.if-bad_query.false, long)
 
@@ -28,7 +28,7 @@ pub returns : goal.returns
 unfolding own_rows
 returns c =
     let room : c.record_fits.result ≡ not (ltb c.args.room (length (record_bytes GET_VALUES 0 c.args.list.now))) =
-        let short = not_long c.args.list.now (sym c.bad_query.ensures ∙ c.if-bad_query.false) in
-        c.record_fits.ensures ∙ record_room GET_VALUES 0 c.args.list.now c.args.room (omega arith) in
+    let short = not_long c.args.list.now (sym c.bad_query.ensures ∙ c.if-bad_query.false) in
+    c.record_fits.ensures ∙ record_room GET_VALUES 0 c.args.list.now c.args.room (omega arith) in
     let fits : ltb c.args.room (length (record_bytes GET_VALUES 0 c.args.list.now)) ≡ false = not-true _ (sym (room) ∙ c.if-not-record_fits.false) in
     simp (← c.bad_query.ensures, c.if-bad_query.false, fits)

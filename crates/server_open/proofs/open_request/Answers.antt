@@ -12,8 +12,8 @@ pub returns-in-Refused : goal.returns-in-Refused
 unfolding open_request
 returns-in-Refused c =
     let checked : check_number c.open_check-checked.result ≡ open_refusal c.args.c c.args.id c.args.role (length c.args.out.now) (length (begin_bytes c.args.id c.args.role c.args.keep)) =
-        let room = length c.args.out.now in
-        c.open_check-checked.ensures room (length (begin_bytes c.args.id c.args.role c.args.keep)) (c.record_fits.ensures ∙ begin_fits c.args.id c.args.role c.args.keep room) in
+    let room = length c.args.out.now in
+    c.open_check-checked.ensures room (length (begin_bytes c.args.id c.args.role c.args.keep)) (c.record_fits.ensures ∙ begin_fits c.args.id c.args.role c.args.keep room) in
     let begin = begin_bytes c.args.id c.args.role c.args.keep in
     call_refused c.in-Refused.why (open_refusal c.args.c c.args.id c.args.role (length c.args.out.now) (length begin)) c.args.c (with_taken c.args.c (free_slot_of c.args.c.table) (opened c.args.id (role_of c.args.role) c.args.keep)) begin c.args.out.now
     (sym (checked) ∙ ap check_number c.in-Refused.is)
@@ -21,7 +21,7 @@ returns-in-Refused c =
 pub returns-in-Passed : goal.returns-in-Passed
 returns-in-Passed c =
     let checked : check_number c.open_check-checked.result ≡ open_refusal c.args.c c.args.id c.args.role (length c.args.out.now) (length (begin_bytes c.args.id c.args.role c.args.keep)) =
-        let room = length c.args.out.now in
-        c.open_check-checked.ensures room (length (begin_bytes c.args.id c.args.role c.args.keep)) (c.record_fits.ensures ∙ begin_fits c.args.id c.args.role c.args.keep room) in
+    let room = length c.args.out.now in
+    c.open_check-checked.ensures room (length (begin_bytes c.args.id c.args.role c.args.keep)) (c.record_fits.ensures ∙ begin_fits c.args.id c.args.role c.args.keep room) in
     open_wrote c.args.c c.args.id c.args.role c.args.keep c.args.out.now (ap check_number (sym c.in-Passed.is) ∙ checked)
     c.write_begin-written.ensures c.role_of.ensures c.open_request-request.ensures c.free_slot.ensures c.take_request.ensures
