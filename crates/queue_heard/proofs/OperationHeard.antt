@@ -12,8 +12,6 @@ use Rattle.connection.specs.Event.{Event as StationEvent}
 use Rattle.connection.specs.Sizes.{SLOTS}
 use Rattle.connection.specs.Refusal.{refusal}
 use Rattle.connection.specs.Slots.{no_state, request_at, find}
-use Rattle.connection.specs.RequestCalls as Of
-use Rattle.connection.specs.Calls as C
 use Rattle.connection.specs.Arguments.{Argument, ForRead, ForSay, ForEnd, ForFinish}
 use Rattle.connection.specs.Run.{Memory, step_of, memory_of}
 use Rattle.connection.proofs.Runs.LinkingCalls.{slot_found}

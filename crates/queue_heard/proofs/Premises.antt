@@ -1,6 +1,6 @@
 -- The premises of the theorems can be met: they hold of a request that says, finishes and leaves by turns of the pump.
-use Rattle.std.specs.Prelude.{◌≡◌, refl, true, List, [], ◌∷◌}
-use Rattle.std.proofs.Common.{ap, ◌∙◌, arith}
+use Rattle.std.specs.Prelude.{refl, [], ◌∷◌}
+use Rattle.std.proofs.Common.{arith}
 use mathlib.Core.List.Memᴰ
 use Rattle.server.proofs.WrittenBytes.{small_bytes}
 use Rattle.replies_heard.proofs.Cases.{header, begin}

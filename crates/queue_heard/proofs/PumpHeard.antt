@@ -22,7 +22,6 @@ use Rattle.connection.specs.Slots.{request_at, put_request, free_slot, no_reques
 use Rattle.connection.specs.RequestCalls.{is_ended, ended_on}
 use Rattle.connection.specs.Calls as C
 use Rattle.connection.proofs.Laws.ShapeLaws.{Tidy, shaped}
-use Rattle.connection.proofs.Laws.SlotsLaws as S
 use Rattle.server.specs.Event.{Event, Note, showing}
 use Rattle.server.specs.Step.{idle}
 use Rattle.server.proofs.Laws.{Ready}

@@ -1,5 +1,4 @@
 use Rattle.lifting.specs.Call.{verdict_now}
-use borrow.Author.Rules.{rules}
 use Rattle.lifting.proofs.calls.lift_verdict.Goals as goal
 
 pub returns-then-is_between : goal.returns-then-is_between

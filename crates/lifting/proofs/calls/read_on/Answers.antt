@@ -4,7 +4,6 @@ use Rattle.wire.specs.Test.{◌<?◌}
 use Rattle.record_reader.specs.declared.Position.{Position}
 use Rattle.lifting.specs.Ways.{lifting_with}
 use Rattle.lifting.proofs.CallLaws.{stepped_over}
-use borrow.Author.Rules.{rules}
 use Rattle.lifting.proofs.calls.read_on.Goals as goal
 
 pub returns : goal.returns

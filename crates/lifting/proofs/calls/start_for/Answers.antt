@@ -1,7 +1,6 @@
 use mathlib.Core.Path.{◌∙◌}
 use borrow.Author.Tests.{eq-eqb, ne_eqb}
 use Rattle.lifting.specs.Ways.{started_for}
-use borrow.Author.Rules.{rules}
 use Rattle.lifting.proofs.calls.start_for.Goals as goal
 
 pub returns-then-id-eq0 : goal.returns-then-id-eq0

@@ -1,7 +1,6 @@
 use mathlib.Core.Path.{ap, ◌∙◌}
 use Rattle.connection.specs.Step.{Started}
 use Rattle.lifting.proofs.CallLaws.{lift_started_from, started_lift}
-use borrow.Author.Rules.{rules}
 use Rattle.lifting.proofs.calls.start_lift.Goals as goal
 
 pub returns : goal.returns

@@ -3,7 +3,6 @@ use native.Mathlib.Omega.{arith}
 use lib.ListN.{length}
 use Prim.Native.Nat.{◌+◌, ◌≤◌}
 use Rattle.wire.proofs.BufferLaws.{copied_room}
-use borrow.Author.Rules.{rules}
 use Rattle.lifting.proofs.calls.write_copied.Goals as goal
 
 pub returns-then-copies : goal.returns-then-copies

@@ -1,5 +1,4 @@
 use mathlib.Core.Path.{sym, ◌∙◌}
-use borrow.Author.Rules.{rules}
 use Rattle.lifting.proofs.marks.after_bytes.Goals as goal
 
 pub returns-then-makes_whole : goal.returns-then-makes_whole

@@ -1,4 +1,3 @@
-use borrow.Author.Rules.{rules}
 use Rattle.lifting.proofs.marks.closing_by.Goals as goal
 
 pub returns-in-Closed : goal.returns-in-Closed

@@ -1,4 +1,3 @@
-use borrow.Author.Rules.{rules}
 use Rattle.lifting.proofs.marks.copies_content.Goals as goal
 
 pub returns-then-copied : goal.returns-then-copied

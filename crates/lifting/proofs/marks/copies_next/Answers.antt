@@ -1,4 +1,3 @@
-use borrow.Author.Rules.{rules}
 use Rattle.lifting.proofs.marks.copies_next.Goals as goal
 
 pub returns-then-open : goal.returns-then-open

@@ -1,5 +1,4 @@
 use borrow.Author.Tests.{eq-eqb, ne_eqb}
-use borrow.Author.Rules.{rules}
 use Rattle.lifting.proofs.marks.is_copied.Goals as goal
 
 pub returns-then-begun : goal.returns-then-begun

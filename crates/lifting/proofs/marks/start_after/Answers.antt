@@ -1,4 +1,3 @@
-use borrow.Author.Rules.{rules}
 use Rattle.lifting.proofs.marks.start_after.Goals as goal
 
 pub returns-then-is_between : goal.returns-then-is_between

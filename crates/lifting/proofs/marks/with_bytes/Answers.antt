@@ -1,5 +1,4 @@
 use Rattle.lifting.specs.Call.{with_bytes}
-use borrow.Author.Rules.{rules}
 use Rattle.lifting.proofs.marks.with_bytes.Goals as goal
 
 pub returns : goal.returns

@@ -1,5 +1,4 @@
 use Rattle.lifting.specs.Call.{with_header}
-use borrow.Author.Rules.{rules}
 use Rattle.lifting.proofs.marks.with_header.Goals as goal
 
 pub returns : goal.returns

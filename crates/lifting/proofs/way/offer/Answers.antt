@@ -1,6 +1,5 @@
 use borrow.Author.Tests.{lt-ltb, le-ltb, eq-eqb, ne_eqb}
 use Rattle.lifting.specs.Ways.{offer_of}
-use borrow.Author.Rules.{rules}
 use Rattle.lifting.proofs.way.offer.Goals as goal
 
 pub returns-then-waiting-gt0 : goal.returns-then-waiting-gt0

@@ -1,0 +1,5 @@
+use borrow.Author.Rules.{rules}
+use Rattle.server_write.proofs.put_back.Goals as goal
+
+pub returns : goal.returns
+returns c = simp c.put_request.ensures
