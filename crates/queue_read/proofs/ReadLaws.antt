@@ -3,13 +3,14 @@ use Rattle.std.specs.Prelude.{ℕ, ◌≤◌, ◌≡◌, Bool, true, false, List
 use Rattle.std.proofs.Common.{sym, ap, ◌∙◌, arith}
 use Rattle.std.proofs.lemmas.Bool.{eqb-false}
 use Rattle.wire.specs.Test.{◌=?◌, by_test}
-use Rattle.connection.specs.Sizes.{STORE}
-use Rattle.connection.specs.Step.{State, Stepped, stepped, step_refusal, stays}
+use Rattle.connection.specs.declared.state.Conn.{Conn}
+use Rattle.connection.specs.Sizes.{SLOTS, STORE}
+use Rattle.connection.specs.Step.{State, Stepped, state_of, stepped, step_refusal, stays}
 use Rattle.connection.proofs.Laws.Progress.{step_refused, step_uses_no_more}
 use Rattle.call_step.specs.Next.{goes_on, next_event, steps_by}
 use Rattle.call_step.specs.Beside.{steps_beside}
 use Rattle.call_step.proofs.NextLaws.{next_step, next_uses_no_more}
-use Rattle.queue.specs.Calls.{QueueMemory, conn_of, queue_step_refusal, queue_step}
+use Rattle.queue.specs.Calls.{QueueMemory, conn_of, waits_fit, lent, queue_step_refusal, queue_step}
 use Rattle.queue_admit.specs.Admission.{is_barred}
 use Rattle.queue_admit.proofs.BarredLaws.{waits_well, barred, barred_step, free_step}
 use Rattle.queue_read.specs.Next.{queue_next}
@@ -82,3 +83,13 @@ next_inside m piece =
     by_test (queue_step_refusal m =? 0)
     (λ t. simp t (next_uses_no_more m.memory.state m.memory.store piece))
     (λ t. simp t (omega arith))
+
+-- The same of what the calls are lent.
+module _ (c : Conn) (gathered store waits marks queue piece : List ℕ) where
+  pub lent_step : steps_beside (waits_fit SLOTS waits c.table.occupied 0) false (state_of c gathered) store piece
+      ≡ queue_step (lent c gathered store waits marks queue) piece
+  lent_step = beside_step (lent c gathered store waits marks queue) piece
+
+  pub lent_next : steps_beside (waits_fit SLOTS waits c.table.occupied 0) true (state_of c gathered) store piece
+      ≡ queue_next (lent c gathered store waits marks queue) piece
+  lent_next = beside_next (lent c gathered store waits marks queue) piece

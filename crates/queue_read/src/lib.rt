@@ -34,6 +34,7 @@ pub fn start(store: &mut [u8], gathered: &mut [u8; QUERY], waits: &mut [u16; WAI
 }
 
 // One step over a piece.
+#[tactic(auto, using(crate::proofs::ReadLaws::lent_step))]
 pub fn step(
     c: Conn,
     store: &mut [u8],
@@ -51,6 +52,7 @@ pub fn step(
 
 // Steps until something is told, a refusal, or the end of the piece. Of a data event the bytes are the last of those
 // used.
+#[tactic(auto, using(crate::proofs::ReadLaws::lent_next))]
 pub fn next_event(
     c: Conn,
     store: &mut [u8],
