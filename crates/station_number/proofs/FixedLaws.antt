@@ -1,18 +1,14 @@
 -- A float in thousandths: equal fractions round alike, and the bit pattern says which fraction a float is.
-use Rattle.std.specs.Prelude.{◌≡◌, refl, Bool, true, false, cond, ℕ, zero, suc, ◌+◌, ◌-◌, ◌*◌, ◌/◌, ◌%◌, ◌^◌, ◌≤◌, ◌<◌, T, leb, eqb, ℤ, pos, negsuc, neg_ℤ, Float}
-use Rattle.std.proofs.Common.{sym, ap, ◌∙◌, subst, arith, mul_assoc, mul_comm, mul_right_comm, add-mul, mul-pos, le_trans, le_of_eq, mul-le-mul_right, le_of_mul-le-mul_right, le-div_iff_mul-le, div-lt_iff_lt-mul, mul_left_comm, pow-add, pow_pos, pow_mono, eq-eqb, ne_eqb, eqb-true}
+use Rattle.std.specs.Prelude.{◌≡◌, refl, Bool, true, ℕ, zero, suc, ◌+◌, ◌-◌, ◌*◌, ◌/◌, ◌^◌, ◌≤◌, ◌<◌, negsuc, Float}
+use Rattle.std.proofs.Common.{sym, ap, ◌∙◌, arith, mul_assoc, mul_comm, mul_right_comm, add-mul, le_trans, le_of_eq, mul-le-mul_right, le_of_mul-le-mul_right, le-div_iff_mul-le, div-lt_iff_lt-mul, mul_left_comm, pow-add, pow_pos, pow_mono}
 use Rattle.std.proofs.Math.Nat.{div-eq_of_lt}
-use Rattle.std.specs.Float.{nan, inf, fin, binary64}
-use Rattle.std.specs.Float.Ieee.{up, down, odd, fits, of_fields, of_bits, to_bits}
+use Rattle.std.specs.Float.{nan, inf, fin}
+use Rattle.std.specs.Float.Ieee.{up, down}
 use Rattle.std.specs.Float.Ieee.Fits.{down_pos}
-use Rattle.std.specs.Float.Ieee.Exact.{HasValue, odd_sign}
+use Rattle.std.specs.Float.Ieee.Exact.{HasValue}
 use Rattle.std.specs.Float.Ieee.Nearest.{div_same}
-use Rattle.std.specs.Float.Ieee.Bits.{of_bits-to_bits}
-use Rattle.std.proofs.lemmas.Bool.{eqb-false}
-use Rattle.wire.specs.Test.{by_test, ◌=?◌}
 use Rattle.ice_correction.specs.FloatSize.{AtMost}
 use Rattle.station_number.specs.Fixed.{signed, nearest_thousandths, thousandths}
-use Rattle.station_number.specs.Pattern.{pattern_size}
 
 -- ---- equal fractions
 crossed : (a b d : ℕ) → (a * 2000 + b) * (d * 2) ≡ (a * d * 2000 + b * d) * 2

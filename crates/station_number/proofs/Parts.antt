@@ -1,5 +1,5 @@
 -- Numbers with a point from their parts, as the code puts them one after another.
-use Rattle.std.specs.Prelude.{ℕ, ◌/◌, ◌%◌, ◌≡◌, List, [], ◌∷◌, ◌++◌, ℤ}
+use Rattle.std.specs.Prelude.{ℕ, ◌/◌, ◌%◌, ◌≡◌, [], ◌∷◌, ◌++◌, ℤ}
 use Rattle.std.proofs.Common.{append_assoc}
 use Rattle.event_text.specs.Line.{digit, decimal}
 use Rattle.station_number.specs.Fixed.{sign_text, size_of, degrees_text, thousandths_text}

@@ -1,7 +1,7 @@
 -- The bit pattern of a float says which fraction it is, and so how many thousandths it has.
-use Rattle.std.specs.Prelude.{◌≡◌, refl, Bool, true, false, cond, ℕ, zero, suc, ◌+◌, ◌-◌, ◌*◌, ◌/◌, ◌%◌, ◌^◌, ◌≤◌, ◌<◌, T, leb, eqb, ℤ, Float}
-use Rattle.std.proofs.Common.{sym, ap, ◌∙◌, subst, arith, mul_assoc, mul_comm, mul-one, mul-le-mul, le_trans, pow-add, pow_pos, pow_mono, ltb-true, ltb-false, eq-eqb, ne_eqb, eqb-true}
-use Rattle.std.specs.Float.{nan, inf, fin, binary64}
+use Rattle.std.specs.Prelude.{◌≡◌, refl, Bool, true, false, cond, ℕ, zero, suc, ◌+◌, ◌-◌, ◌*◌, ◌/◌, ◌%◌, ◌^◌, ◌≤◌, ◌<◌, T, leb, eqb, Float}
+use Rattle.std.proofs.Common.{sym, ap, ◌∙◌, subst, arith, mul_assoc, mul-one, mul-le-mul, pow-add, pow_pos, pow_mono, ltb-true, ltb-false, eq-eqb, ne_eqb, eqb-true}
+use Rattle.std.specs.Float.{nan, inf, binary64}
 use Rattle.std.specs.Float.Ieee.{odd, fits, of_fields, of_bits, to_bits}
 use Rattle.std.specs.Float.Ieee.Exact.{HasValue, odd_sign}
 use Rattle.std.specs.Float.Ieee.Bits.{of_bits-to_bits}

@@ -1,5 +1,5 @@
 -- The size of a float in thousandths, from its bit pattern without the sign.
-use Rattle.std.specs.Prelude.{ℕ, ◌+◌, ◌*◌, ◌-◌, ◌/◌, ◌%◌, ◌^◌, if◌then◌else◌}
+use Rattle.std.specs.Prelude.{ℕ, ◌+◌, ◌-◌, ◌/◌, ◌%◌, ◌^◌, if◌then◌else◌}
 use Rattle.wire.specs.Test.{◌=?◌}
 use Rattle.station_number.specs.Fixed.{nearest_thousandths}
 

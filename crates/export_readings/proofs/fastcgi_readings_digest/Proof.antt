@@ -53,7 +53,7 @@ used c =
     (omega (arith, n, length-take (e.result - l.at) (drop l.at p), e.ensures), e.ensures.2)
 
 add_at : tie.Need-overflow-add-at invariant-loop decreases-loop
-add_at c = omega (arith, used c.before.before.before, c.before.before.before.before.before.before.before.before.before.before.well-formed.0)
+add_at c = omega (arith, used c.before.before.before, c.before.before.before.before.before.before.before.before.before.before.well_formed.0)
 
 loop-less : tie.Need-loop-smaller invariant-loop decreases-loop
 loop-less c = search rules

@@ -1,4 +1,3 @@
-use borrow.Author.Rules.{rules}
 use Rattle.server_write.proofs.put_back.Goals as goal
 
 pub returns : goal.returns

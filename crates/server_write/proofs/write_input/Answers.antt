@@ -4,7 +4,6 @@ use Rattle.server.specs.Calls.{Content}
 use Rattle.server.specs.Answer.{written_by}
 use Rattle.server_admit.specs.Admission.{admitted_by}
 use Rattle.server_write.proofs.Laws.{call_refused, call_through}
-use borrow.Author.Rules.{rules}
 use Rattle.server_write.proofs.write_input.Goals as goal
 
 pub returns-in-Refused : goal.returns-in-Refused

@@ -3,7 +3,6 @@ use mir.ValLaws.{to_z-of_z}
 use mir.Syntax.{w32}
 use Rattle.station_number.proofs.PutsLaws.{puts_both, puts_as}
 use Rattle.station_number.proofs.Parts.{thousandths_parts}
-use borrow.Author.Rules.{rules}
 use Rattle.station_number.proofs.fixed.add_thousandths.Goals as goal
 
 pub returns : goal.returns
@@ -14,4 +13,4 @@ returns c =
     let hundredth = puts_both 24 tenth c.add_digit-hundredth.ensures (omega arith) (omega (arith, c.requires)) in
     let all = puts_both 25 hundredth c.add_digit.ensures (omega arith) (omega (arith, c.requires)) in
     let t = to_z-of_z w32 c.args.thousandths c.ranges.thousandths in
-    puts_as 25 all (thousandths_parts c.args.thousandths _ _ c.type_size.result t t c.type_size.ensures) (omega arith)
+    puts_as 25 all (thousandths_parts c.args.thousandths _ _ c.size_of-size.result t t c.size_of-size.ensures) (omega arith)

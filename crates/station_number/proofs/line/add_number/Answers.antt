@@ -1,10 +1,6 @@
-use Prim.Native.Nat.{◌≤◌}
 use native.Mathlib.Omega.{arith}
 use mathlib.Core.Path.{refl}
-use lib.ListN.{length}
-use Rattle.event_text.specs.Line.{decimal}
 use Rattle.station_number.proofs.PutsLaws.{puts_as, decimal_20}
-use borrow.Author.Rules.{rules}
 use Rattle.station_number.proofs.line.add_number.Goals as goal
 
 pub add_decimal-requires : goal.add_decimal-requires
