@@ -1,10 +1,9 @@
 -- Lifting one request out of a capture (request [13]): the copy and the verdict of a whole capture, record by record.
 -- A replay without calls is what the plain receiver hears (`plain/Plain`), which is proved to be what the stepping
 -- receiver tells in any cutting (`plain_agrees/Agreement`).
-use Rattle.std.specs.Prelude.{ℕ, zero, suc, ◌+◌, min, Bool, true, false, ◌||◌, List, [], ◌∷◌, ◌++◌, length, take, drop, get_or, set, if◌then◌else◌}
+use Rattle.std.specs.Prelude.{ℕ, zero, suc, ◌+◌, min, Bool, true, false, ◌||◌, List, [], ◌++◌, length, take, drop, get_or, set, if◌then◌else◌}
 use Rattle.wire.specs.Test.{◌<?◌, ◌≤?◌, ◌=?◌}
 use Rattle.machine.specs.Cause.{Cause}
-use Rattle.connection.specs.Bytewise.{Note}
 use Rattle.plain.specs.Plain.{BEGIN, Request, Said, says, two, record_size}
 
 -- ---- the verdict

@@ -18,7 +18,6 @@ use Rattle.connection.specs.Bytewise.{Note}
 use Rattle.connection.specs.Run.{Memory, memory_of}
 use Rattle.wire.proofs.Bytes.{AllBytes}
 use Rattle.connection.proofs.Laws.Progress.{Fits, fits_admitted}
-use Rattle.plain.specs.Plain as P
 use Rattle.plain.specs.Plain.{Request, Said}
 use Rattle.plain_agrees.specs.Agreement.{close_of_event, is_between, word_at}
 use Rattle.lifting.specs.Lift as L

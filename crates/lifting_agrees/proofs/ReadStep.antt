@@ -12,7 +12,6 @@ use Rattle.machine.specs.Cause.{Cause}
 use Rattle.record_reader.specs.declared.Position.{Position}
 use Rattle.record_reader.specs.Position.{between_records, after}
 use Rattle.connection.specs.Step.{State, Stepped}
-use Rattle.plain.specs.Plain as P
 use Rattle.plain.specs.Plain.{Said, two, record_size}
 use Rattle.lifting.specs.Lift as L
 use Rattle.lifting.specs.Lift.{LARGEST_PLACE, copied_header, content_of, is_copied, copy_of_record, copy_of, verdict_of}

@@ -1,7 +1,4 @@
--- The premises of isolation with a queue, as tests that are computed for runs that are written out.
---
--- One test goes once through a run: no call of R is refused by 10, no byte of R's records comes between a finish of R
--- and its END, and nothing of R waits at the end. Where it holds, so do the premises.
+-- Where the test of a run's premises holds, so do the premises.
 use Rattle.std.specs.Prelude.{◌≡◌, refl, ◌⊎◌, Bool, true, false, not, ℕ, if◌then◌else◌}
 use Rattle.std.proofs.Common.{ap, inl, inr, arith, eq-eqb}
 use mathlib.Core.List.{List, [], ◌∷◌, ◌++◌, map, Memᴰ}
@@ -24,6 +21,7 @@ use Rattle.queue.specs.Calls.{QUEUE, QueueMemory}
 use Rattle.queue.specs.Run.{QueueOperation, StepOver, CallFor, CountActive, TurnWith, queue_called, used_of, queue_after, waits_of, leaving_of, notes_of, shown_in, records_of, final_queue, queue_items, queue_timeline, shown_all, written_all, notes_all, PiecesAreBytes, QueueRun, beginning}
 use Rattle.queue.specs.Isolation.{is_ten, NeverTenFrom, QuietBytes, scanned, QuietFrom, QuietAloneFrom, NeverOverloaded, Settled, SettledAlone}
 use Rattle.queue.proofs.PumpTests.{computing}
+use Rattle.queue_runs.specs.Premises.{none_own, among_others, is_nil, on_its_own, Quiet, is_well, scan_after, goes_well}
 
 -- what a run, its timeline and what it shows and writes are computed with
 unfoldable pub judging : Unit {0}
@@ -88,11 +86,6 @@ pub never_overloaded : (R : ℕ) (r : QueueRun) → refused_in R (map Heard (not
 never_overloaded R r e h = never_refused R (map Heard (notes_all (beginning r) r.operations)) e (heard_in_lem _ _ h)
 
 -- ---- no byte of R's between a finish of R and its END
--- none of these bytes is of R's records
-unfoldable pub none_own : ℕ → Scan → List ℕ → List ℕ → Bool
-none_own R m [] rest = true
-none_own R m (b ∷ x) rest = if is_own R m (b ∷ (x ++ rest)) then false else none_own R (scan_next R m b) x rest
-
 none_own_lem : (R : ℕ) (m : Scan) (x rest : List ℕ) → none_own R m x rest ≡ true → QuietBytes R true m x rest
 unfolding none_own
 none_own_lem R m [] rest e = tt
@@ -104,54 +97,17 @@ not_leaving : (R : ℕ) (m : Scan) (x rest : List ℕ) → QuietBytes R false m 
 not_leaving R m [] rest = tt
 not_leaving R m (b ∷ x) rest = (λ o. refl, not_leaving R (scan_next R m b) x rest)
 
--- the test of a step among the records of others, by whether R is leaving
-abbrev pub among_others : ℕ → Bool → Scan → List ℕ → List ℕ → Bool
-among_others R true k x rest = none_own R k x rest
-among_others R false k x rest = true
-
 among_others_lem : (R : ℕ) (l : Bool) (k : Scan) (x rest : List ℕ) → among_others R l k x rest ≡ true → QuietBytes R l k x rest
 among_others_lem R true k x rest e = none_own_lem R k x rest e
 among_others_lem R false k x rest e = not_leaving R k x rest
-
--- the test of a step where all bytes are R's
-abbrev pub is_nil : {A : Type 0} → List A → Bool
-is_nil [] = true
-is_nil (x ∷ l) = false
 
 is_nil_lem : {A : Type 0} (l : List A) → is_nil l ≡ true → l ≡ []
 is_nil_lem [] e = refl
 is_nil_lem (x ∷ l) e = let z : ◌≡◌ {A = ℕ} 0 1 = cc in absurd (omega arith)
 
-abbrev pub on_its_own : Bool → Scan → List ℕ → List ℕ → Bool
-on_its_own true k x rest = is_nil x
-on_its_own false k x rest = true
-
 on_its_own_lem : (l : Bool) (k : Scan) (x rest : List ℕ) → on_its_own l k x rest ≡ true → (x ≡ []) ⊎ (l ≡ false)
 on_its_own_lem true k x rest e = inl (is_nil_lem x e)
 on_its_own_lem false k x rest e = inr refl
-
--- ---- a run
-abbrev pub Quiet : Type 0
-Quiet = Bool → Scan → List ℕ → List ℕ → Bool
-
--- an operation goes well: a call of R is not refused by 10, and a step is quiet
-abbrev pub is_well : Quiet → ℕ → QueueMemory → Scan → QueueOperation → List QueueOperation → Bool
-is_well quiet R m k (StepOver piece) os = quiet (leaving_of R m) k (used_of m piece) (item_bytes (queue_timeline (queue_after m (StepOver piece)) os))
-is_well quiet R m k (CallFor id a) os = if id =? R then not (is_ten (queue_called m id a).answer) else true
-is_well quiet R m k CountActive os = true
-is_well quiet R m k (TurnWith allowance buffer) os = true
-
--- where the scan for R stands behind it
-abbrev pub scan_after : ℕ → QueueMemory → Scan → QueueOperation → Scan
-scan_after R m k (StepOver piece) = scanned R k (used_of m piece)
-scan_after R m k (CallFor id a) = k
-scan_after R m k CountActive = k
-scan_after R m k (TurnWith allowance buffer) = k
-
--- All of it, in one way through the operations.
-unfoldable pub goes_well : Quiet → ℕ → QueueMemory → Scan → List QueueOperation → Bool
-goes_well quiet R m k [] = is_nil (waits_of R m)
-goes_well quiet R m k (o ∷ os) = if is_well quiet R m k o os then goes_well quiet R (queue_after m o) (scan_after R m k o) os else false
 
 not_held : (R id : ℕ) (t : Bool) → (if id =? R then not t else true) ≡ true → id ≡ R → t ≡ false
 not_held R id t e same = not-true t (rw (eq-eqb id R same) at e)

@@ -14,7 +14,8 @@ use Rattle.queue_slot.specs.Atoms.{Atom, ByteOn, EndOf, finish_of}
 use Rattle.queue.specs.Run.{ToSay, ToEnd, ToFinish, QueueOperation, StepOver, CallFor, CountActive, TurnWith, notes_all, QueueRun, beginning, timeline_of, shown, written}
 use Rattle.queue.specs.Isolation.{EndsBetweenRecords, Isolated}
 use Rattle.queue_theorem.proofs.Theorem.{isolation, plain_same}
-use Rattle.queue_runs.proofs.Premises.{judging, pieces_below, from_zeros, never_overloaded, none_own, among_others, on_its_own, goes_well, settled, settled_alone}
+use Rattle.queue_runs.proofs.Premises.{judging, pieces_below, from_zeros, never_overloaded, settled, settled_alone}
+use Rattle.queue_runs.specs.Premises.{none_own, among_others, on_its_own, goes_well}
 
 -- BEGIN of a responder with KEEP_CONN, and its end of PARAMS
 abbrev begin : ℕ → List ℕ

@@ -11,7 +11,6 @@ use Rattle.std.proofs.Math.ListN.{length}
 use Rattle.std.proofs.lemmas.List.{length-replicate}
 use borrow.Author.Tests.{eq-eqb, ne_eqb, le-leb, le-ltb, not-false}
 use Rattle.wire.specs.Test.{by_test, ◌<?◌}
-use Rattle.wire.specs.Buffer.{zeros}
 use Rattle.connection.specs.declared.state.Slot.{Slot}
 use Rattle.connection.specs.Sizes.{SLOTS, STORE}
 use Rattle.connection.specs.Refusal.{Row, ◌when◌, holds_in, refusal}
@@ -41,23 +40,9 @@ use Rattle.queue_runs.proofs.Changes.{straight_rows, queued_rows}
 use Rattle.queue_runs.proofs.Refusals.{Sound}
 use Rattle.queue_runs.proofs.Closing.{both_ways}
 use Rattle.queue_runs.proofs.Final.{closed_stays}
-use Rattle.queue_second_run.proofs.Turns.{NothingWaits, MOST, most_written}
-
--- ---- definitions
--- a buffer that MOST records fit
-unfoldable pub wide_buffer : List ℕ
-wide_buffer = zeros (PUMPED * MOST)
-
--- a turn of the pump that writes all that waits
-abbrev pub whole_turn : QueueOperation
-whole_turn = TurnWith MOST wide_buffer
-
--- A queued say has at most ROOM bytes; nothing is asked of other calls.
-abbrev pub SayFits : Asking → Type 0
-SayFits (D.Straight a) = Unit {0}
-SayFits (D.ToSay o content) = length content ≤ ROOM
-SayFits (D.ToEnd o) = Unit {0}
-SayFits (D.ToFinish status) = Unit {0}
+use Rattle.queue_second_run.specs.Turns.{NothingWaits, MOST}
+use Rattle.queue_second_run.proofs.Turns.{most_written}
+use Rattle.queue_second_run.specs.Idle.{wide_buffer, whole_turn, SayFits}
 
 -- ---- one slot
 -- END does not wait

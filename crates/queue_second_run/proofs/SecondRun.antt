@@ -22,8 +22,9 @@ use Rattle.queue_link.proofs.Loaded.{queue_step_is, nobody_at}
 use Rattle.queue_link.proofs.LoadedTurn.{Good}
 use Rattle.queue_link.proofs.LinkedRuns.{PieceOk, Fine, op_fine}
 use Rattle.queue_theorem.proofs.Theorem.{start_fine, isolation}
-use Rattle.queue_second_run.proofs.Turns.{NothingWaits}
-use Rattle.queue_second_run.proofs.Idle.{whole_turn, SayFits, none_of, none_leaving, step_idle, idle_not_ten, turn_idle}
+use Rattle.queue_second_run.specs.Turns.{NothingWaits}
+use Rattle.queue_second_run.specs.Idle.{whole_turn, SayFits}
+use Rattle.queue_second_run.proofs.Idle.{none_of, none_leaving, step_idle, idle_not_ten, turn_idle}
 
 -- ---- definitions
 -- a call, as an operation

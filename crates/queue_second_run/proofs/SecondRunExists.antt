@@ -31,8 +31,9 @@ use Rattle.queue_link.proofs.LinkedRuns.{Fine, op_fine}
 use Rattle.queue_theorem.proofs.Theorem.{start_fine, isolation}
 use Rattle.queue_runs.proofs.Rows.{let_through}
 use Rattle.queue_runs.proofs.Closing.{both_ways}
-use Rattle.queue_second_run.proofs.Turns.{NothingWaits}
-use Rattle.queue_second_run.proofs.Idle.{whole_turn, SayFits, none_leaving, step_idle, not_ten, idle_not_ten}
+use Rattle.queue_second_run.specs.Turns.{NothingWaits}
+use Rattle.queue_second_run.specs.Idle.{whole_turn, SayFits}
+use Rattle.queue_second_run.proofs.Idle.{none_leaving, step_idle, not_ten, idle_not_ten}
 use Rattle.queue_second_run.proofs.SecondRun.{item_by_item, EachItem, IsByte, FitsOf, purged_bytes, one_byte_lem, second_run, call_idle, start_idle, second_run_unheld, fitting_isolated}
 use Rattle.queue_second_run.proofs.LongSays.{shortened, short_call, short_item, short_run, short_of, first_rows, first_refusal, say_first, say_last, first_called, say_answer, long_first, left_short, short_purged, same_timeline, ends_short, never_short, settled_short}
 

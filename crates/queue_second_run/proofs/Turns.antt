@@ -4,7 +4,7 @@
 -- one byte, end or END out of its slot and puts none in. So a turn that may write as many records as there are of
 -- these leaves nothing waiting; in a memory as runs have them there are at most 49,200.
 use Rattle.std.proofs.Math.Path.{◌≡◌}
-use Rattle.std.specs.Prelude.{refl, List, [], ◌∷◌, ◌++◌, map, Bool, ℕ, zero, suc, ◌+◌, ◌*◌, ◌≤◌, ◌<◌, length, take, get_or, eqb}
+use Rattle.std.specs.Prelude.{refl, List, [], ◌∷◌, ◌++◌, map, Bool, ℕ, zero, suc, ◌*◌, ◌≤◌, ◌<◌, length, take, get_or, eqb}
 use Rattle.std.proofs.Common.{ap, sym, ◌∙◌, subst, arith, length-append, length-take, eqb-true}
 use Rattle.std.proofs.Math.Option.{Option, none, some}
 use Rattle.std.proofs.Math.Bool.{true, false}
@@ -30,32 +30,11 @@ use Rattle.queue_link.proofs.Loaded.{slot_free, nobody_at}
 use Rattle.queue_link.proofs.LoadedPump as P
 use Rattle.queue_link.proofs.LoadedTurn.{Good, pump_good, waiting_is, waits_open, waits_found_lem, first_below}
 use Rattle.queue_link.proofs.LinkedRuns.{pump_done, pump_refused_lem}
-
--- ---- definitions
--- Nothing waits in any slot.
-abbrev pub NothingWaits : QueueMemory → Type 0
-NothingWaits m = (i : ℕ) → i < SLOTS → slot_waits m i ≡ false
-
--- how many things wait in slot i: bytes, ends and END
-abbrev pub waiting_at : QueueMemory → ℕ → ℕ
-waiting_at m i = length (atoms_in (wait_at m i))
-
--- f 0 + .. + f (n - 1)
-unfoldable pub sum_below : ℕ → (ℕ → ℕ) → ℕ
-sum_below zero f = 0
-sum_below (suc n) f = f n + sum_below n f
-
--- how many things wait in all slots
-abbrev pub waiting_in : QueueMemory → ℕ
-waiting_in m = sum_below SLOTS (waiting_at m)
-
--- The most that can wait, 49,200: in each slot two ends before all bytes, two behind each byte, and END.
-unfoldable pub MOST : ℕ
-MOST = SLOTS * (3 * ROOM + 3)
+use Rattle.queue_second_run.specs.Turns.{NothingWaits, waiting_at, sum_below, waiting_in, MOST, StopsEarly}
 
 -- ---- a turn that stops early
 -- A turn that writes fewer records than it may leaves nothing waiting in any slot.
-pub early : (k : ℕ) (m : QueueMemory) → length (turned k m).records < k → NothingWaits (turned k m).left
+pub early : StopsEarly
 unfolding turned
 early zero m h = absurd (omega arith)
 early (suc k) m h = go (next_waiting SLOTS SLOTS (slot_waits m) (first_slot (get_or m.waits NEXT 0))) refl h (λ n. early k n)

@@ -13,7 +13,6 @@ use Rattle.lifting.specs.Call.{lifting_of}
 use Rattle.lifting.specs.Answer.{lifted_by}
 use Rattle.lifting.specs.Ways.{offer_of, way_of, goes, lifting_with}
 use Rattle.lifting.proofs.CallLaws.{offer_to, offer_within, offer_has_room, offer_uses, goes_lifted}
-use borrow.Author.Rules.{rules}
 use Rattle.lifting.proofs.calls.lift.Goals as goal
 
 pub slice_bounds-step-end : goal.slice_bounds-step-end

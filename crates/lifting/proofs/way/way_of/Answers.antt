@@ -1,6 +1,5 @@
 use mathlib.Core.Path.{sym, ◌∙◌}
 use borrow.Author.Tests.{eq-eqb, ne_eqb}
-use borrow.Author.Rules.{rules}
 use Rattle.lifting.proofs.way.way_of.Goals as goal
 
 pub returns-then-refusal_number-eq1 : goal.returns-then-refusal_number-eq1
