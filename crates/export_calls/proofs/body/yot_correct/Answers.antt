@@ -3,7 +3,6 @@ use mir.ValLaws.{to_z-of_z}
 use mir.Syntax.{w32}
 use Rattle.flat_reading.specs.Answers.{flatCorrected}
 use Rattle.export_calls.specs.Body.{exported_correct}
-use borrow.Author.Rules.{rules}
 use Rattle.export_calls.proofs.body.yot_correct.Goals as goal
 
 pub returns : goal.returns

@@ -1,4 +1,3 @@
-use borrow.Author.Rules.{rules}
 use Rattle.export_calls.proofs.body.yot_new_reader.Goals as goal
 
 pub returns : goal.returns

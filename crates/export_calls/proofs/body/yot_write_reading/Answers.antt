@@ -2,7 +2,6 @@ use mathlib.Core.Path.{◌∙◌}
 use mir.ValLaws.{to_z-of_z}
 use mir.Syntax.{w32}
 use Rattle.export_calls.proofs.WriteLaws.{leaves_reading}
-use borrow.Author.Rules.{rules}
 use Rattle.export_calls.proofs.body.yot_write_reading.Goals as goal
 
 pub returns : goal.returns

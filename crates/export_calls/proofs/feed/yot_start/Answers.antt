@@ -1,5 +1,4 @@
 use Rattle.export_calls.proofs.FeedLaws.{starts}
-use borrow.Author.Rules.{rules}
 use Rattle.export_calls.proofs.feed.yot_start.Goals as goal
 
 pub returns : goal.returns

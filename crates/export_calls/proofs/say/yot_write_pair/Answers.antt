@@ -1,5 +1,4 @@
 use Rattle.export_calls.proofs.WriteLaws.{leaves_pair}
-use borrow.Author.Rules.{rules}
 use Rattle.export_calls.proofs.say.yot_write_pair.Goals as goal
 
 pub returns : goal.returns

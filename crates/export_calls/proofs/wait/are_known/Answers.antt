@@ -1,4 +1,3 @@
-use borrow.Author.Rules.{rules}
 use Rattle.export_calls.proofs.wait.are_known.Goals as goal
 
 pub returns : goal.returns
