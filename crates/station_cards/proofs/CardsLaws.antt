@@ -77,6 +77,12 @@ under_more Decimal.NoNumber m n h u = tt
 rest : (text : List ℕ) (k : ℕ) → take (length text - k) (drop k text) ≡ drop k text
 rest text k = ap (λ (n : ℕ). take n (drop k text)) (sym (length-drop k text)) ∙ take-length (drop k text)
 
+-- a place that is found lies within the text, or is its length
+pub found_within : (b : ℕ) (text : List ℕ) → index_of b text ≤ length text
+unfolding index_of
+found_within b [] = omega arith
+found_within b (x ∷ xs) = by_test (x =? b) (λ e. rw e (omega arith)) (λ e. rw e (omega (arith, found_within b xs)))
+
 pub no_point : (text : List ℕ) (p : ℕ) → p ≡ index_of 46 text → p ≡ length text → whole_of text ≡ unsigned_of text
 unfolding unsigned_of
 no_point text p e end = simp (sym e, eq-eqb _ _ end)
