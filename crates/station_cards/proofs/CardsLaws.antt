@@ -1,12 +1,11 @@
 -- The parts of a parameter's text, and how large a number of so many digits can be.
 use Rattle.std.specs.Prelude.{ℕ, zero, suc, ◌+◌, ◌-◌, ◌*◌, ◌≤◌, ◌<◌, ◌≡◌, refl, true, false, List, [], ◌∷◌, length, take, drop, get_or, pos}
-use Rattle.std.proofs.Common.{sym, ap, ◌∙◌, arith, mul_assoc, mul_comm, mul-le-mul_right, lt_of_lt_of_le, le_trans, le_of_eq, length-drop, eq-eqb, ne_eqb, eqb-true}
-use Rattle.std.proofs.Math.Option.{none, some}
+use Rattle.std.proofs.Common.{sym, ap, ◌∙◌, arith, mul_assoc, mul_comm, mul-le-mul_right, lt_of_lt_of_le, le_trans, le_of_eq, length-drop, eq-eqb, ne_eqb}
+use Rattle.std.proofs.Math.Option.{some}
 use Rattle.std.proofs.Math.Nat.{sub-zero}
 use Rattle.std.proofs.Math.Seq.{take-length}
 use Rattle.std.specs.Float.{binary64}
 use Rattle.std.specs.Float.Ieee.{of_int, of_bits}
-use Rattle.std.proofs.lemmas.Bool.{eqb-false}
 use Rattle.wire.specs.Test.{by_test, ◌<?◌, ◌=?◌}
 use Rattle.decimal.specs.Decimal.{is_digit, digit_value, digits_after, decimal_of}
 use Rattle.decimal.proofs.Laws.{digit_byte, ten_to}

@@ -1,16 +1,16 @@
 -- What is written reads back: a number's digits as that number, and a text in thousandths, as a card's parameter is read,
 -- as that number of thousandths.
-use Rattle.std.specs.Prelude.{ℕ, zero, suc, ◌+◌, ◌-◌, ◌*◌, ◌/◌, ◌%◌, ◌≤◌, ◌<◌, ◌≡◌, refl, true, false, List, [], ◌∷◌, ◌++◌, ℤ, pos, negsuc, length, take, drop, get_or}
-use Rattle.std.proofs.Common.{sym, ap, ◌∙◌, subst, arith, length-append, take_at, lt-ltb, le-ltb, le-leb, ltb-true, ltb-false, eq-eqb, ne_eqb}
-use Rattle.std.proofs.Math.Option.{Option, none, some}
+use Rattle.std.specs.Prelude.{ℕ, zero, suc, ◌+◌, ◌*◌, ◌/◌, ◌%◌, ◌≤◌, ◌<◌, ◌≡◌, refl, true, List, [], ◌∷◌, ◌++◌, ℤ, pos, negsuc, length, take, drop, get_or}
+use Rattle.std.proofs.Common.{ap, ◌∙◌, arith, length-append, take_at, le-ltb, le-leb, ltb-true, ltb-false, ne_eqb}
+use Rattle.std.proofs.Math.Option.{some}
 use Rattle.std.proofs.Math.Seq.{drop-append-add}
 use Rattle.wire.specs.Test.{by_test, ◌<?◌}
 use Rattle.decimal.specs.Decimal.{is_digit, digit_value, digits_after, decimal_of}
 use Rattle.decimal.proofs.Laws.{digit_byte, ten_to}
 use Rattle.event_text.specs.Line.{digit, decimal}
 use Rattle.event_text.proofs.LineLaws.{decimal_one, decimal_more}
-use Rattle.station_number.specs.Fixed.{size_of, signed, thousandths_text}
-use Rattle.station_cards.specs.Cards.{index_of, plus, whole_of, fraction_of, unsigned_of, card_number, thousandths_in}
+use Rattle.station_number.specs.Fixed.{size_of, thousandths_text}
+use Rattle.station_cards.specs.Cards.{index_of, whole_of, fraction_of, unsigned_of, thousandths_in}
 use Rattle.station_number.proofs.PutsLaws.{digits_few}
 
 -- ---- digits

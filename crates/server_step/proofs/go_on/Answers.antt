@@ -13,17 +13,17 @@ use Rattle.server_step.proofs.go_on.Goals as goal
 pub slice_bounds-decide-end : goal.slice_bounds-decide-end
 slice_bounds-decide-end c =
     let fits : c.advance-a.result.used ≤ length c.args.piece.now =
-        let e : c.advance-a.result.used ≡ _ = ap (λ (x : Advanced). x.used) c.advance-a.ensures in
-        omega (arith, used_within c.args.f.position c.args.piece.now, e) in
+    let e : c.advance-a.result.used ≡ _ = ap (λ (x : Advanced). x.used) c.advance-a.ensures in
+    omega (arith, used_within c.args.f.position c.args.piece.now, e) in
     fits
 
 pub decide-m-requires : goal.decide-m-requires
 decide-m-requires c =
     let few : c.advance-a.result.phase ≡ Phase.Content → c.advance-a.result.used ≤ c.args.f.position.content =
-        λ is. 
-        let e : c.advance-a.result.used ≡ _ = ap (λ (x : Advanced). x.used) c.advance-a.ensures in
-        let content = content_within c.args.f.position c.args.piece.now (ap (λ (x : Advanced). x.phase) (sym c.advance-a.ensures) ∙ is) in
-        omega (arith, content, e) in
+    λ is.
+    let e : c.advance-a.result.used ≡ _ = ap (λ (x : Advanced). x.used) c.advance-a.ensures in
+    let content = content_within c.args.f.position c.args.piece.now (ap (λ (x : Advanced). x.phase) (sym c.advance-a.ensures) ∙ is) in
+    omega (arith, content, e) in
     λ is.
     fed_less c.args.f.target c.args.f.gathered c.args.f.position.content (length (take (c.advance-a.result.used - 0) c.args.piece.now)) (omega (arith, length-take (c.advance-a.result.used - 0) c.args.piece.now, few is)) c.requires
 

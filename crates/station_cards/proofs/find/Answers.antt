@@ -1,6 +1,5 @@
-use Rattle.std.proofs.Common.{◌≡◌, ℕ, suc, ◌+◌, ◌<◌, ◌≤◌, List, [], length, drop, get_or, refl, sym, ap, ◌∙◌, arith, add-one, drop-cons, eq-eqb, ne_eqb}
+use Rattle.std.proofs.Common.{◌≡◌, ℕ, suc, ◌+◌, ◌<◌, List, length, drop, get_or, arith, drop-cons, eq-eqb, ne_eqb}
 use Rattle.std.proofs.Math.Seq.{drop-length}
-use Rattle.wire.specs.Test.{◌=?◌}
 use Rattle.station_cards.specs.Cards.{index_of}
 use Rattle.station_cards.proofs.find.Goals as goal
 

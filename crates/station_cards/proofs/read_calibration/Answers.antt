@@ -1,5 +1,4 @@
 use Rattle.station_cards.specs.Cards.{calibration_of}
-use borrow.Author.Rules.{rules}
 use Rattle.station_cards.proofs.read_calibration.Goals as goal
 
 pub returns : goal.returns

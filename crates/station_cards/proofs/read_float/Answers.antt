@@ -1,4 +1,4 @@
-use mathlib.Core.Path.{◌≡◌, ap, ◌∙◌}
+use mathlib.Core.Path.{ap, ◌∙◌}
 use lib.IntN.{ℤ}
 use lib.Ieee.{Float, binary64, div, of_int, of_bits}
 use mir.Val.{SFits}

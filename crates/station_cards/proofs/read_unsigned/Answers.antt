@@ -1,8 +1,7 @@
-use mathlib.Core.Path.{◌≡◌, sym, ap₂, ◌∙◌}
+use mathlib.Core.Path.{ap₂, ◌∙◌}
 use Rattle.station_cards.specs.Cards.{plus}
-use Rattle.std.proofs.Common.{arith, add-one}
+use Rattle.std.proofs.Common.{arith}
 use Rattle.station_cards.proofs.CardsLaws.{under_more, no_point, point_at, found_within}
-use borrow.Author.Rules.{rules}
 use Rattle.station_cards.proofs.read_unsigned.Goals as goal
 
 pub returns-then-point-end : goal.returns-then-point-end

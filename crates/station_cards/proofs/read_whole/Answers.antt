@@ -15,18 +15,18 @@ returns-then-text-gt4 c = (simp (lt-ltb _ _ c.if-text-gt4.true), tt)
 pub overflow_mul-result : goal.overflow_mul-result
 overflow_mul-result c =
     let is : decimal_of c.args.text.now ≡ some c.in-Number.value =
-        sym c.read_decimal-read.ensures ∙ ap read_as c.in-Number.is in
+    sym c.read_decimal-read.ensures ∙ ap read_as c.in-Number.is in
     let small : c.in-Number.value < 10000 =
-        whole_under c.args.text.now c.in-Number.value c.if-text-gt4.false (is) in
+    whole_under c.args.text.now c.in-Number.value c.if-text-gt4.false (is) in
     record { fits = omega (arith, small) }
 
 pub returns-in-Number : goal.returns-in-Number
 unfolding whole_of
 returns-in-Number c =
     let is : decimal_of c.args.text.now ≡ some c.in-Number.value =
-        sym c.read_decimal-read.ensures ∙ ap read_as c.in-Number.is in
+    sym c.read_decimal-read.ensures ∙ ap read_as c.in-Number.is in
     let small : c.in-Number.value < 10000 =
-        whole_under c.args.text.now c.in-Number.value c.if-text-gt4.false (is) in
+    whole_under c.args.text.now c.in-Number.value c.if-text-gt4.false (is) in
     (simp (le-ltb _ _ c.if-text-gt4.false, is), omega (arith, small))
 
 pub returns-in-NoNumber : goal.returns-in-NoNumber

@@ -21,17 +21,17 @@ slice_bounds-step-end c = omega (arith, c.offer-n.ensures, offer_within c.args.l
 pub slice_bounds-go-end : goal.slice_bounds-go-end
 slice_bounds-go-end c =
     let went : stepped_by c.step-s.result c.step-s.new.gathered c.step-s.new.store ≡ stepped (state_of c.args.l.conn c.args.gathered.now) c.args.store.now (take (offer_to (lifting_of c.args.l c.args.gathered.now) c.args.piece.now c.args.out.now) c.args.piece.now) =
-        let none : c.offer-n.result - 0 ≡ c.offer-n.result = omega arith in
-        let n = none ∙ c.offer-n.ensures ∙ ap (λ (x : Bool). offer_of c.args.l.waiting c.args.l.id x (length c.args.piece.now) (length c.args.out.now)) c.copies_content-copies.ensures in
-        c.step-s.ensures ∙ ap (λ (k : ℕ). stepped (state_of c.args.l.conn c.args.gathered.now) c.args.store.now (take k c.args.piece.now)) n in
+    let none : c.offer-n.result - 0 ≡ c.offer-n.result = omega arith in
+    let n = none ∙ c.offer-n.ensures ∙ ap (λ (x : Bool). offer_of c.args.l.waiting c.args.l.id x (length c.args.piece.now) (length c.args.out.now)) c.copies_content-copies.ensures in
+    c.step-s.ensures ∙ ap (λ (k : ℕ). stepped (state_of c.args.l.conn c.args.gathered.now) c.args.store.now (take k c.args.piece.now)) n in
     offer_uses (lifting_of c.args.l c.args.gathered.now) c.args.piece.now c.args.out.now (state_of c.args.l.conn c.args.gathered.now) c.args.store.now c.step-s.result.used (ap (λ (y : Stepped). y.used) (went))
 
 pub returns : goal.returns
 returns c =
     let went : stepped_by c.step-s.result c.step-s.new.gathered c.step-s.new.store ≡ stepped (state_of c.args.l.conn c.args.gathered.now) c.args.store.now (take (offer_to (lifting_of c.args.l c.args.gathered.now) c.args.piece.now c.args.out.now) c.args.piece.now) =
-        let none : c.offer-n.result - 0 ≡ c.offer-n.result = omega arith in
-        let n = none ∙ c.offer-n.ensures ∙ ap (λ (x : Bool). offer_of c.args.l.waiting c.args.l.id x (length c.args.piece.now) (length c.args.out.now)) c.copies_content-copies.ensures in
-        c.step-s.ensures ∙ ap (λ (k : ℕ). stepped (state_of c.args.l.conn c.args.gathered.now) c.args.store.now (take k c.args.piece.now)) n in
+    let none : c.offer-n.result - 0 ≡ c.offer-n.result = omega arith in
+    let n = none ∙ c.offer-n.ensures ∙ ap (λ (x : Bool). offer_of c.args.l.waiting c.args.l.id x (length c.args.piece.now) (length c.args.out.now)) c.copies_content-copies.ensures in
+    c.step-s.ensures ∙ ap (λ (k : ℕ). stepped (state_of c.args.l.conn c.args.gathered.now) c.args.store.now (take k c.args.piece.now)) n in
     let l = lifting_of c.args.l c.args.gathered.now in
     let st = state_of c.args.l.conn c.args.gathered.now in
     let s = stepped_by c.step-s.result c.step-s.new.gathered c.step-s.new.store in

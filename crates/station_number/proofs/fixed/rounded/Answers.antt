@@ -11,12 +11,12 @@ returns-then-places-gt63 c = let a = c in sym (nearest_none a.args.digits a.args
 pub overflow_add-result : goal.overflow_add-result
 overflow_add-result c =
     let half : 2 ^ (c.args.places - 1) ≤ 4611686018427387904 =
-        let few : c.args.places - 1 ≤ 62 = omega (arith, c.if-places-gt63.false) in pow_mono few in
+    let few : c.args.places - 1 ≤ 62 = omega (arith, c.if-places-gt63.false) in pow_mono few in
     record { fits = omega (arith, half, c.requires.0) }
 
 pub returns : goal.returns
 returns c =
     let half : 2 ^ (c.args.places - 1) ≤ 4611686018427387904 =
-        let few : c.args.places - 1 ≤ 62 = omega (arith, c.if-places-gt63.false) in pow_mono few in
+    let few : c.args.places - 1 ≤ 62 = omega (arith, c.if-places-gt63.false) in pow_mono few in
     let h : 1 * 2 ^ (c.args.places - 1) % 18446744073709551616 ≡ 2 ^ (c.args.places - 1) = omega (arith, half) in
     ap (λ (z : ℕ). (c.args.digits * 1000 + z) / 2 ^ c.args.places) h ∙ nearest_shifted c.args.digits c.args.places c.requires.1

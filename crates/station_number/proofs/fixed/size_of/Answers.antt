@@ -12,7 +12,7 @@ use Rattle.station_number.proofs.fixed.size_of.Goals as goal
 pub overflow_sub-below : goal.overflow_sub-below
 overflow_sub-below c =
     let low : Below c.args.t =
-        below c.args.t c.if-t-lt0.true c.ranges.t in
+    below c.args.t c.if-t-lt0.true c.ranges.t in
     let l = low in
     let n : SFits w32 (pos l.size) = record { sfits = l.small } in
     rw (to_z-of_z w32 c.args.t c.ranges.t, l.minus) n
@@ -20,7 +20,7 @@ overflow_sub-below c =
 pub overflow_cast-result : goal.overflow_cast-result
 overflow_cast-result c =
     let low : Below c.args.t =
-        below c.args.t c.if-t-lt0.true c.ranges.t in
+    below c.args.t c.if-t-lt0.true c.ranges.t in
     let l = low in
     let n : SFits w32 (pos l.size) = record { sfits = l.small } in
     rw (to_z-of_z w32 c.args.t c.ranges.t, l.minus, to_z-of_z w32 (pos l.size) n) (tt, record { fits = omega (arith, l.small) })
@@ -28,7 +28,7 @@ overflow_cast-result c =
 pub overflow_add-result : goal.overflow_add-result
 overflow_add-result c =
     let low : Below c.args.t =
-        below c.args.t c.if-t-lt0.true c.ranges.t in
+    below c.args.t c.if-t-lt0.true c.ranges.t in
     let l = low in
     let n : SFits w32 (pos l.size) = record { sfits = l.small } in
     rw (to_z-of_z w32 c.args.t c.ranges.t, l.minus, to_z-of_z w32 (pos l.size) n) (record { fits = omega (arith, l.small) })
@@ -36,7 +36,7 @@ overflow_add-result c =
 pub returns-then-t-lt0 : goal.returns-then-t-lt0
 returns-then-t-lt0 c =
     let low : Below c.args.t =
-        below c.args.t c.if-t-lt0.true c.ranges.t in
+    below c.args.t c.if-t-lt0.true c.ranges.t in
     let l = low in
     let n : SFits w32 (pos l.size) = record { sfits = l.small } in
     let one : suc l.size ≡ l.size + 1 = omega arith in

@@ -12,19 +12,19 @@ use Rattle.station_number.proofs.fixed.thousandths_of.Goals as goal
 pub size_in_thousandths-size-requires : goal.size_in_thousandths-size-requires
 size_in_thousandths-size-requires c =
     let known : PatternOf c.args.x (leb 9223372036854775808 c.bits_of_float-bits.result) (c.bits_of_float-bits.result % 9223372036854775808) =
-        subst (λ (b : ℕ). PatternOf c.args.x (leb 9223372036854775808 b) (b % 9223372036854775808)) (sym c.bits_of_float-bits.ensures) (pattern_of c.args.x (subst T (sym c.well_formed.0.1) tt) c.requires) in
+    subst (λ (b : ℕ). PatternOf c.args.x (leb 9223372036854775808 b) (b % 9223372036854775808)) (sym c.bits_of_float-bits.ensures) (pattern_of c.args.x (subst T (sym c.well_formed.0.1) tt) c.requires) in
     (known).low
 
 pub signed-requires : goal.signed-requires
 signed-requires c =
     let known : PatternOf c.args.x (leb 9223372036854775808 c.bits_of_float-bits.result) (c.bits_of_float-bits.result % 9223372036854775808) =
-        subst (λ (b : ℕ). PatternOf c.args.x (leb 9223372036854775808 b) (b % 9223372036854775808)) (sym c.bits_of_float-bits.ensures) (pattern_of c.args.x (subst T (sym c.well_formed.0.1) tt) c.requires) in
+    subst (λ (b : ℕ). PatternOf c.args.x (leb 9223372036854775808 b) (b % 9223372036854775808)) (sym c.bits_of_float-bits.ensures) (pattern_of c.args.x (subst T (sym c.well_formed.0.1) tt) c.requires) in
     subst (λ (n : ℕ). n < 2147483648) (sym c.size_in_thousandths-size.ensures) (known).small
 
 pub returns : goal.returns
 returns c =
     let known : PatternOf c.args.x (leb 9223372036854775808 c.bits_of_float-bits.result) (c.bits_of_float-bits.result % 9223372036854775808) =
-        subst (λ (b : ℕ). PatternOf c.args.x (leb 9223372036854775808 b) (b % 9223372036854775808)) (sym c.bits_of_float-bits.ensures) (pattern_of c.args.x (subst T (sym c.well_formed.0.1) tt) c.requires) in
+    subst (λ (b : ℕ). PatternOf c.args.x (leb 9223372036854775808 b) (b % 9223372036854775808)) (sym c.bits_of_float-bits.ensures) (pattern_of c.args.x (subst T (sym c.well_formed.0.1) tt) c.requires) in
     let n : SFits w32 c.signed.result = search rules in
     to_z-of_z w32 c.signed.result n
     ∙ c.signed.ensures
