@@ -1,4 +1,0 @@
-pub mod BesideLaws
-pub mod DataLaws
-pub mod NextLaws
-pub mod RoundLaws

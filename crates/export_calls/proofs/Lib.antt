@@ -1,4 +1,0 @@
-pub mod Known
-pub mod FeedLaws
-pub mod WriteLaws
-pub mod HandedOn

@@ -1,5 +1,0 @@
-pub mod Feed
-pub mod Ask
-pub mod Wait
-pub mod Say
-pub mod Body

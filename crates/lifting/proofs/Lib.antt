@@ -1,3 +1,0 @@
-pub mod HeaderLaws
-pub mod CallLaws
-pub mod Cases

@@ -1,4 +1,0 @@
-pub mod Lift
-pub mod Call
-pub mod Answer
-pub mod Ways

@@ -1,2 +1,0 @@
-pub mod NextRuns
-pub mod ReadLaws

@@ -1,4 +1,0 @@
-pub mod CardFloat
-pub mod CardsLaws
-pub mod Cases
-pub mod ReadBack

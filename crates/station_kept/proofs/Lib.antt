@@ -1,2 +1,0 @@
-pub mod KeptLaws
-pub mod PartLaws

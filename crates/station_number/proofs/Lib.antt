@@ -1,5 +1,0 @@
-pub mod Cases
-pub mod FixedLaws
-pub mod Parts
-pub mod PatternLaws
-pub mod PutsLaws

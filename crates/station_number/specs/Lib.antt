@@ -1,3 +1,0 @@
-pub mod Fixed
-pub mod Pattern
-pub mod Puts
