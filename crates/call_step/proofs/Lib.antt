@@ -1,0 +1,4 @@
+pub mod BesideLaws
+pub mod DataLaws
+pub mod NextLaws
+pub mod RoundLaws

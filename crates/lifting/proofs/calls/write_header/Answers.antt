@@ -1,0 +1,26 @@
+use Prim.Native.Nat.{◌+◌, ◌-◌}
+use mathlib.Core.Path.{◌≡◌, refl, ap, ◌∙◌}
+use native.Mathlib.Omega.{arith}
+use lib.ListN.{length, take, drop}
+use Rattle.lifting.specs.Call.{with_waiting}
+use Rattle.lifting.specs.Ways.{lifting_with}
+use Rattle.lifting.proofs.HeaderLaws.{waiting_part, wrote, header_written_lem}
+use borrow.Author.Rules.{rules}
+use Rattle.lifting.proofs.calls.write_header.Goals as goal
+
+pub slice_bounds-copy_into-end : goal.slice_bounds-copy_into-end
+slice_bounds-copy_into-end c =
+    let l : length c.args.m.header ≡ 8 = search rules in
+    omega (arith, l, c.least-w.ensures, c.least-n.ensures)
+
+pub returns : goal.returns
+returns c =
+    λ id s.
+    let k = 8 - c.least-w.result in
+    let l : length c.args.m.header ≡ 8 = search rules in
+    let x = take (k + c.least-n.result - k) (drop k c.args.m.header) in
+    let m = lifting_with s.state id c.args.m in
+    let room = length c.args.out.now in
+    let part = waiting_part c.args.m.header c.args.m.waiting room c.least-w.result c.least-n.result k (k + c.least-n.result) l c.least-w.ensures c.least-n.ensures refl refl in
+    ap (wrote c.least-n.result (with_waiting m (c.least-w.result - c.least-n.result)) s.store) c.copy_into.ensures
+    ∙ header_written_lem m s.store c.args.out.now x c.least-w.result c.least-n.result l part c.least-w.ensures c.least-n.ensures

@@ -1,0 +1,4 @@
+pub mod Lift
+pub mod Call
+pub mod Answer
+pub mod Ways

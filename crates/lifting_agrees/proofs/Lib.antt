@@ -1,0 +1,16 @@
+pub mod CopyRecords
+pub mod FrontLaws
+pub mod Closings
+pub mod LiftLaws
+pub mod OwnRequest
+pub mod SameEvents
+pub mod Final
+pub mod CallLaws
+pub mod Replay
+pub mod PartPosition
+pub mod PartTests
+pub mod Reading
+pub mod OneStep
+pub mod ReadStep
+pub mod AnyCalls
+pub mod Theorem

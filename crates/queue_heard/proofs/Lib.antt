@@ -1,0 +1,11 @@
+pub mod Cases
+pub mod Flow
+pub mod Sends
+pub mod Accounts
+pub mod PumpHeard
+pub mod QueuedHeard
+pub mod OperationHeard
+pub mod Together
+pub mod JointTheorem
+pub mod Said
+pub mod Premises

@@ -1,0 +1,2 @@
+pub mod NextRuns
+pub mod ReadLaws

@@ -1,0 +1,15 @@
+pub mod Cases
+pub mod Agree
+pub mod Alike
+pub mod StationSteps
+pub mod CallHeard
+pub mod OutputHeard
+pub mod FinishHeard
+pub mod RepliesHeard
+pub mod MoveHeard
+pub mod Pending
+pub mod Behind
+pub mod ServerCalls
+pub mod Together
+pub mod JointTheorem
+pub mod Premises

@@ -1,0 +1,14 @@
+pub mod PairsWritten
+pub mod PartsLaws
+pub mod RecordRead
+pub mod StationLeads
+pub mod StationReads
+pub mod SlotTaken
+pub mod StationOpens
+pub mod ServerHas
+pub mod RequestTheorem
+pub mod InStep
+pub mod ManyTheorem
+pub mod QueryTheorem
+pub mod Cases
+pub mod Instances

@@ -1,0 +1,4 @@
+pub mod CardFloat
+pub mod CardsLaws
+pub mod Cases
+pub mod ReadBack

@@ -1,0 +1,3 @@
+pub mod Fixed
+pub mod Pattern
+pub mod Puts
