@@ -1,5 +1,5 @@
 -- Start, and one step.
-use Rattle.std.specs.Prelude.{ℕ, ◌+◌, Bool, true, false, not, List, [], ◌∷◌, length, take, if◌then◌else◌}
+use Rattle.std.specs.Prelude.{ℕ, ◌+◌, Bool, true, false, not, List, [], ◌∷◌, length, take, if◌then◌else◌, cond}
 use Rattle.wire.specs.Test.{◌<?◌, ◌=?◌}
 use Rattle.wire.specs.Buffer.{zeros, copied}
 use Rattle.record.specs.Names.{VERSION, BEGIN_REQUEST, GET_VALUES, RESPONDER, AUTHORIZER, FILTER, OVERLOADED, UNKNOWN_ROLE}
@@ -155,12 +155,10 @@ judged st store h =
 -- ---- content bytes; p is the position after them
 -- A BEGIN body's eighth byte: an unknown role is refused by 3, else no free slot by 2 (house rule); else the request is
 -- opened in the lowest-numbered free slot. A refused opening never closes the connection (house rule).
-abbrev pub on_role : {A : Type 0} → ℕ → (Role → A) → A → A
+abbrev pub on_role {ℓ} : {A : Type ℓ} → ℕ → (Role → A) → A → A
 on_role n f other =
-    if n =? RESPONDER then f Role.Responder
-    else if n =? AUTHORIZER then f Role.Authorizer
-    else if n =? FILTER then f Role.Filter
-    else other
+    cond (n =? RESPONDER) (f Role.Responder)
+    (cond (n =? AUTHORIZER) (f Role.Authorizer) (cond (n =? FILTER) (f Role.Filter) other))
 
 unfoldable pub opens : State → List ℕ → ℕ → BeginBody → Role → Frame → Left
 opens st store id b role f =
