@@ -1,0 +1,4 @@
+pub mod Known
+pub mod FeedLaws
+pub mod WriteLaws
+pub mod HandedOn

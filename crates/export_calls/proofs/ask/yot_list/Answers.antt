@@ -1,0 +1,19 @@
+use mathlib.Core.Path.{sym, ap, ◌∙◌}
+use mathlib.Core.List.{[]}
+use Rattle.flat_answer.specs.ReadAnswers.{flat_place}
+use Rattle.export_calls.specs.Ask.{exported_list}
+use Rattle.export_calls.proofs.Known.{unknown_by, known_by}
+use Rattle.export_calls.proofs.ask.yot_list.Goals as goal
+
+pub returns-then-not-is_known : goal.returns-then-not-is_known
+unfolding exported_list
+returns-then-not-is_known c =
+    let k = unknown_by c.is_known.ensures c.if-not-is_known.true in
+    c.no_place.ensures ∙ sym (simp k)
+
+pub returns : goal.returns
+unfolding exported_list
+returns c =
+    let k = known_by c.is_known.ensures c.if-not-is_known.false in
+    c.flat_place.ensures ∙ ap flat_place (c.list_place-place.ensures [] [] [])
+    ∙ simp (k, c.from_flat-c.ensures)

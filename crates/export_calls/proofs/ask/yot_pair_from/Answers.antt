@@ -1,0 +1,18 @@
+use mathlib.Core.Path.{sym, ap, ◌∙◌}
+use Rattle.flat_answer.specs.ReadAnswers.{flat_read_from}
+use Rattle.export_calls.specs.Ask.{exported_pair_from}
+use Rattle.export_calls.proofs.Known.{unknown_by, known_by}
+use Rattle.export_calls.proofs.ask.yot_pair_from.Goals as goal
+
+pub returns-then-not-is_known : goal.returns-then-not-is_known
+unfolding exported_pair_from
+returns-then-not-is_known c =
+    let k = unknown_by c.is_known.ensures c.if-not-is_known.true in
+    c.refused_pair.ensures ∙ sym (simp k)
+
+pub returns : goal.returns
+unfolding exported_pair_from
+returns c =
+    let k = known_by c.is_known.ensures c.if-not-is_known.false in
+    c.flat_read_from.ensures ∙ ap flat_read_from c.pair_from-r.ensures
+    ∙ simp (k, c.from_flat-c.ensures)

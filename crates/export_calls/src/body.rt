@@ -1,0 +1,80 @@
+// Readings in a body, and their correction.
+ghost use Rattle.std.specs.Prelude.{◌≡◌};
+ghost use Rattle.export_calls.specs.Body.{exported_new_reader, exported_read, exported_end_body};
+ghost use Rattle.export_calls.specs.Body.{exported_reading, exported_correct};
+
+use fastcgi_queue::{Reading, correct, end_body, new_reader, read_reading, write_reading};
+use flat_answer::answer::FlatWrote;
+use flat_reading::{
+    FlatCard, FlatCorrected, FlatEnded, FlatRead, FlatReader, calibration_of, flat_corrected,
+    flat_ended, flat_read, from_flat_reader, is_known_reader, reading_bytes, reading_refusal,
+    to_flat_reader, unended, unread,
+};
+
+// A reader at the start of a body.
+#[unsafe(no_mangle)]
+pub extern "C" fn yot_new_reader() -> FlatReader
+    ensures { result ≡ exported_new_reader }
+{
+    let r = new_reader();
+    to_flat_reader(r)
+}
+
+// Reads on in a body. Refusals 9 of an unknown code, 31, 32, 33, or the one that stands.
+#[unsafe(no_mangle)]
+pub extern "C" fn yot_read_reading(reader: FlatReader, bytes: &[u8]) -> FlatRead
+    ensures { result ≡ exported_read reader bytes.now }
+{
+    if !is_known_reader(reader) {
+        return unread(reader);
+    }
+    let r = from_flat_reader(reader);
+    let q = read_reading(r, bytes);
+    flat_read(q)
+}
+
+// The body ends. Refusals 9 of an unknown code, 34, or the one that stands.
+#[unsafe(no_mangle)]
+pub extern "C" fn yot_end_body(reader: FlatReader) -> FlatEnded
+    ensures { result ≡ exported_end_body reader }
+{
+    if !is_known_reader(reader) {
+        return unended(reader);
+    }
+    let r = from_flat_reader(reader);
+    let e = end_body(r);
+    flat_ended(e)
+}
+
+// Writes a reading. Refusals 33, 6.
+#[unsafe(no_mangle)]
+pub extern "C" fn yot_write_reading(out: &mut [u8], log: u32, tenths: i32, raw: u32) -> FlatWrote
+    ensures { record { answer = result; out = out.new }
+        ≡ exported_reading out.old log tenths raw }
+{
+    let reading = Reading {
+        log: log,
+        tenths: tenths,
+        raw: raw,
+    };
+    let w = write_reading(out, reading);
+    FlatWrote {
+        written: reading_bytes(w),
+        refusal: reading_refusal(w),
+    }
+}
+
+// A raw count corrected by two cards. Refusals 41, 42, 43, 44.
+#[unsafe(no_mangle)]
+pub extern "C" fn yot_correct(
+    thawed: FlatCard,
+    frozen: FlatCard,
+    tenths: i32,
+    raw: u32,
+) -> FlatCorrected
+    ensures { result ≡ exported_correct thawed frozen tenths raw }
+{
+    let calibration = calibration_of(thawed, frozen);
+    let c = correct(calibration, tenths, raw);
+    flat_corrected(c)
+}
