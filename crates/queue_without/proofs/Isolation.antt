@@ -27,7 +27,8 @@ use Rattle.queue_theorem.proofs.Theorem
 use Rattle.queue_runs.specs.Premises.{Quiet, is_well, scan_after, goes_well, among_others, on_its_own}
 use Rattle.queue_runs.proofs.Premises.{settled, settled_alone}
 use Rattle.queue_without.proofs.AnyCutting.{AnyRun, cutting_from}
-use Rattle.queue_without.proofs.Operations.{plainly, idle, plain_item, plain_shown, zero_queue, without_queue, never_ten, call_same, after_same}
+use Rattle.queue_without.specs.Operations.{plainly, idle, plain_item, plain_shown, zero_queue, without_queue}
+use Rattle.queue_without.proofs.Operations.{never_ten, call_same, after_same}
 use Rattle.queue_without.proofs.WholeRuns.{NothingQueued, plain_part, PlainRun, SameRun, waits_none, leaving_none, through, without_plain, without_same, same_run, unqueued_plain, unqueued_same}
 
 -- ---- nothing is lost between the two

@@ -28,7 +28,8 @@ use Rattle.queue.specs.Run.{Asking, Straight, QueueOperation, Straightly, waits_
 use Rattle.queue_link.proofs.Loaded.{nobody_at}
 use Rattle.queue_runs.proofs.Lists.{is_queued}
 use Rattle.queue_runs.proofs.Closing.{both_ways}
-use Rattle.queue_without.proofs.Operations.{plainly, idle, plain_item, plain_shown, UnusedQueue, without_queue, none_leaving, step_same, call_same, after_same}
+use Rattle.queue_without.specs.Operations.{plainly, idle, plain_item, plain_shown, UnusedQueue, without_queue}
+use Rattle.queue_without.proofs.Operations.{none_leaving, step_same, call_same, after_same}
 
 -- ---- definitions
 -- what was written of R's, by the answers that are observed
