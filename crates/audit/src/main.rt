@@ -4,26 +4,17 @@
 
 use connection::event::Event;
 use event_text::{LONGEST, write_byte_line, write_line};
-use host::{read_full, write_out};
+use host::{read_full, write_first, write_out};
 use plain::{Answer, LastWord, event_at};
 use std::io;
 
 // The longest capture that it takes, 1 MiB.
 const LARGEST: usize = 1048576;
 
-// The first n bytes, which are a line.
-fn print(rt: &HostRuntime, line: &[u8], n: usize) -> io::Result<()> {
-    let start: usize = 0;
-    if n <= line.len() {
-        return write_out(rt, &line[start..n]);
-    }
-    Ok(())
-}
-
 fn print_event(rt: &HostRuntime, event: Event) -> io::Result<()> {
     let mut line = [0u8; LONGEST];
     let n = write_line(&mut line, 0, event);
-    print(rt, &line, n)
+    write_first(rt, &line, n)
 }
 
 fn print_last(rt: &HostRuntime, word: LastWord) -> io::Result<()> {
@@ -47,7 +38,7 @@ fn print_answer(rt: &HostRuntime, answer: Answer) -> io::Result<bool> {
         Answer::Byte { id, stream, byte } => {
             let mut line = [0u8; LONGEST];
             let n = write_byte_line(&mut line, 0, id, stream, byte);
-            print(rt, &line, n)?;
+            write_first(rt, &line, n)?;
             Ok(true)
         }
         Answer::Last(word) => {
@@ -59,13 +50,10 @@ fn print_answer(rt: &HostRuntime, answer: Answer) -> io::Result<bool> {
 
 // Asks from 0 on, up to the last word. (A proved loop has to end, so it counts to a number that no capture comes to.)
 fn print_all(rt: &HostRuntime, capture: &[u8]) -> io::Result<()> {
-    let mut k: usize = 0;
-    while k < usize::MAX {
-        let answer = event_at(capture, k);
-        if !print_answer(rt, answer)? {
+    for k in 0..usize::MAX {
+        if !print_answer(rt, event_at(capture, k))? {
             return Ok(());
         }
-        k += 1;
     }
     Ok(())
 }
@@ -76,8 +64,7 @@ fn audit(rt: &HostRuntime, capture: &mut [u8]) -> io::Result<()> {
     if LARGEST < n {
         return write_out(rt, b"audit: the capture is longer than 1048576 bytes\n");
     }
-    let start: usize = 0;
-    print_all(rt, &capture[start..n])
+    print_all(rt, &capture[..n])
 }
 
 // (The array goes through a function of its own, because the length of so long a local array is not proved.)

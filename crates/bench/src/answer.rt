@@ -1,217 +1,266 @@
 // A line answered.
-use crate::command::{
-    FEED, HANG, OPENED, START, STEP, VALUES, WAIT, end_of, is_question, room_of, size_of,
-};
-use crate::feeding::feed;
-use crate::poke::{poke_values, poked};
-use crate::state::{State, with_server};
-use crate::station::{Pipes, hang_up};
-use crate::waiting::{TO_THE_END, wait};
-use crate::write::{kept_call, put_effect, send_on};
-use fastcgi_server::{OpenCount, QUERY, Server, open_count, refusal_number, start_server};
-use script::fields::POKE;
-use script::form::Form;
-use script::lines::LONG;
-use script::page::{end_line, put, put_hex, put_number};
-use script::said::put_refused;
-use script::words::part;
+use crate::command::{Command, Writing};
+use crate::memory::{Memory, fresh};
+use crate::station::{Pipes, hang_up, is_there, receive, send};
+use crate::told::{put_event, shown_by};
+use fastcgi_server::{ServerEvent, open_count, refusal_number};
+use script::feeding::{End, Source, Step, Tale, feed, feed_once, put_mark, take_step, untold};
+use script::page::Page;
+use script::words::BYTES;
+use slot_table::find_from;
 use std::io;
-use wire::least;
 
-// An answer of words alone.
-fn tell(rt: &HostRuntime, page: &mut [u8], text: &[u8]) -> io::Result<()> {
-    let at = put(rt, page, 0, text)?;
-    end_line(rt, page, at)
+// How many bytes are received at once.
+const INBOX: usize = 65536;
+
+// What the bench keeps from line to line: the memory, a copy of it from before the last call, and the buffer from which
+// rooms are lent.
+#[derive(Drop)]
+pub struct Bench {
+    memory: Memory,
+    kept: Memory,
+    buffer: [u8; BYTES],
 }
 
-// The number of open requests.
-fn tell_count(rt: &HostRuntime, page: &mut [u8], c: Server) -> io::Result<()> {
-    let count = open_count(c);
-    match count {
-        OpenCount::Open(n) => {
-            let at = put_number(rt, page, 0, b"opened ", n as u64)?;
-            end_line(rt, page, at)
-        }
-        OpenCount::Refused(why) => {
-            let at = put_refused(rt, page, 0, refusal_number(why))?;
-            end_line(rt, page, at)
-        }
+// What was received from the station and not yet read lies in the inbox between two places.
+#[derive(Drop)]
+pub struct Inbox {
+    bytes: [u8; INBOX],
+    from: usize,
+    to: usize,
+}
+
+// Why the waiting ends: the request is finished, the connection is closed or a step refused, or the station's output is
+// over.
+#[derive(Clone, Copy)]
+enum Why {
+    Finished,
+    Closed,
+    Over,
+}
+
+// Before the first line.
+pub fn new_bench() -> Bench {
+    let memory = fresh();
+    Bench {
+        memory,
+        kept: memory,
+        buffer: [0; BYTES],
     }
 }
 
-// How many bytes there are without the zeros at the end.
-fn length_of(bytes: &[u8]) -> usize {
-    let mut n = bytes.len();
-    while n > 0 {
-        if bytes[n - 1] != 0 {
-            return n;
-        }
-        n -= 1;
+// Nothing is received.
+pub fn new_inbox() -> Inbox {
+    Inbox {
+        bytes: [0; INBOX],
+        from: 0,
+        to: 0,
     }
-    n
 }
 
-// The values without the zeros at their end.
-fn tell_values(rt: &HostRuntime, page: &mut [u8], values: &[u8]) -> io::Result<()> {
-    let at = put(rt, page, 0, b"values")?;
-    let e = put_hex(rt, page, at, part(values, 0, length_of(values)))?;
-    end_line(rt, page, e)
+impl End for Bench {
+    type Event = ServerEvent;
+
+    fn step(&mut self, piece: &[u8]) -> Step<ServerEvent> {
+        self.kept = self.memory;
+        let stepped = self.memory.step(piece);
+        Step {
+            used: stepped.used,
+            told: stepped.result.map_err(refusal_number),
+        }
+    }
+
+    fn is_changed(&self) -> bool {
+        self.memory != self.kept
+    }
+
+    fn nothing() -> ServerEvent {
+        ServerEvent::Nothing
+    }
+
+    fn is_nothing(e: ServerEvent) -> bool {
+        matches!(e, ServerEvent::Nothing)
+    }
+
+    fn is_close(e: ServerEvent) -> bool {
+        matches!(e, ServerEvent::Closed { .. })
+    }
+
+    fn shown(e: ServerEvent) -> Option<(Source, usize)> {
+        shown_by(e)
+    }
+
+    fn put_event(&self, page: &mut Page, e: ServerEvent, used: &[u8]) -> io::Result<()> {
+        put_event(page, e, used, &self.memory.values)
+    }
 }
 
-// A question, a line that is too long, or one that is no command.
-fn ask(
-    rt: &HostRuntime,
-    page: &mut [u8],
-    c: Server,
-    values: &[u8; QUERY],
-    kind: u64,
+// The first n bytes of the buffer as the room of a call.
+fn write_over(
+    m: &mut Memory,
+    call: Writing,
+    buffer: &mut [u8; BYTES],
+    n: usize,
+) -> Result<usize, u8> {
+    m.fill_and_write(call, &mut buffer[..n.min(BYTES)])
+}
+
+// The line of a call that writes; what it wrote goes to the station, if there is one.
+fn tell_and_send(
+    page: &mut Page,
+    pipes: &mut Pipes,
+    wrote: Result<usize, u8>,
+    changed: bool,
+    room: &[u8],
 ) -> io::Result<()> {
-    match kind {
-        OPENED => tell_count(rt, page, c),
-        VALUES => tell_values(rt, page, values),
-        LONG => tell(rt, page, b"long"),
-        _ => tell(rt, page, b"what"),
+    match wrote {
+        Ok(n) => {
+            page.tell_written(Ok((n, b"")), changed, room)?;
+            send(pipes, room.get(..n).unwrap_or(&[]));
+            Ok(())
+        }
+        Err(why) => page.tell_written(Err(why), changed, room),
     }
 }
 
-// Starts anew.
-fn start_anew(
-    rt: &HostRuntime,
-    s: State,
-    values: &mut [u8; QUERY],
-    page: &mut [u8],
-) -> io::Result<State> {
-    let c = start_server(values);
-    tell(rt, page, b"open")?;
-    Ok(with_server(s, c))
-}
-
-// A call that writes into the lent room; what it wrote goes to the station, if there is one.
-fn write_on(
-    rt: &HostRuntime,
-    s: State,
-    f: Form,
-    values: &[u8; QUERY],
-    kept: &mut [u8],
-    bytes: &[u8],
-    room: &mut [u8],
-    pipes: &mut Pipes,
-    page: &mut [u8],
-) -> io::Result<State> {
-    let written = kept_call(s.server, f, values, kept, bytes, room);
-    let wrote = written.wrote;
-    put_effect(rt, page, written, kept, values, room)?;
-    send_on(pipes, s.station, wrote, room);
-    Ok(with_server(s, written.server))
-}
-
-// Waits for the station.
-fn wait_on(
-    rt: &HostRuntime,
-    s: State,
-    id: u64,
-    values: &mut [u8; QUERY],
-    kept: &mut [u8],
-    inbox: &mut [u8],
-    pipes: &mut Pipes,
-    page: &mut [u8],
-) -> io::Result<State> {
-    if s.station {
-        return wait(rt, s, id, values, kept, inbox, pipes, page);
+impl Inbox {
+    // Whether something is left to read; where nothing is, what the station writes next is received.
+    fn refill(&mut self, pipes: &mut Pipes) -> bool {
+        if self.from >= self.to {
+            self.from = 0;
+            self.to = receive(pipes, &mut self.bytes);
+        }
+        self.from < self.to
     }
-    tell(rt, page, b"what")?;
-    Ok(s)
-}
 
-// Ends the station's input, and waits for the end of its output.
-fn hang_on(
-    rt: &HostRuntime,
-    s: State,
-    values: &mut [u8; QUERY],
-    kept: &mut [u8],
-    inbox: &mut [u8],
-    pipes: &mut Pipes,
-    page: &mut [u8],
-) -> io::Result<State> {
-    if s.station {
-        hang_up(pipes);
-    }
-    wait_on(rt, s, TO_THE_END, values, kept, inbox, pipes, page)
-}
-
-// What a command does, with so much of the buffer as its room.
-fn perform(
-    rt: &HostRuntime,
-    s: State,
-    f: Form,
-    values: &mut [u8; QUERY],
-    kept: &mut [u8],
-    bytes: &[u8],
-    out: &mut [u8],
-    inbox: &mut [u8],
-    pipes: &mut Pipes,
-    page: &mut [u8],
-) -> io::Result<State> {
-    let numbers = f.values;
-    let z: usize = 0;
-    let e = least(room_of(f), out.len());
-    let kind = f.kind;
-    match kind {
-        START => start_anew(rt, s, values, page),
-        STEP | FEED => Ok(with_server(
-            s,
-            feed(
-                rt,
-                s.server,
-                size_of(f),
-                part(bytes, 0, end_of(f)),
-                values,
-                kept,
-                page,
-            )?,
-        )),
-        WAIT => wait_on(rt, s, numbers[0], values, kept, inbox, pipes, page),
-        HANG => hang_on(rt, s, values, kept, inbox, pipes, page),
-        _ => write_on(rt, s, f, values, kept, bytes, &mut out[z..e], pipes, page),
+    fn unread(&self) -> &[u8] {
+        self.bytes.get(self.from..self.to).unwrap_or(&[])
     }
 }
 
-// Sets a field.
-fn poke(
-    rt: &HostRuntime,
-    s: State,
-    f: Form,
-    values: &mut [u8; QUERY],
-    bytes: &[u8],
-    page: &mut [u8],
-) -> io::Result<State> {
-    let numbers = f.values;
-    let a = numbers[0];
-    let b = numbers[1];
-    poke_values(values, f.kind, a, bytes);
-    tell(rt, page, b"ok")?;
-    Ok(with_server(s, poked(s.server, f.kind, a, b, numbers[2], bytes)))
-}
+impl Bench {
+    // The number of open requests.
+    fn tell_count(&self, page: &mut Page) -> io::Result<()> {
+        match open_count(self.memory.server) {
+            Ok(n) => page.put_number(b"opened ", u64::from(n))?,
+            Err(why) => page.put_refused(refusal_number(why))?,
+        }
+        page.end_line()
+    }
 
-// Answers a line that was read.
-pub fn answer(
-    rt: &HostRuntime,
-    s: State,
-    f: Form,
-    values: &mut [u8; QUERY],
-    kept: &mut [u8],
-    bytes: &[u8],
-    out: &mut [u8],
-    inbox: &mut [u8],
-    pipes: &mut Pipes,
-    page: &mut [u8],
-) -> io::Result<State> {
-    if is_question(f.kind) {
-        ask(rt, page, s.server, values, f.kind)?;
-        return Ok(s);
+    // The values without the zeros at their end.
+    fn tell_values(&self, page: &mut Page) -> io::Result<()> {
+        let values = &self.memory.values;
+        let n = values
+            .iter()
+            .rposition(|b| *b != 0)
+            .map_or(0, |last| last.saturating_add(1));
+        page.put(b"values")?;
+        page.put_hex(values.get(..n).unwrap_or(&[]))?;
+        page.end_line()
     }
-    if POKE <= f.kind {
-        return poke(rt, s, f, values, bytes, page);
+
+    // A call that writes into so much of the buffer.
+    fn write(
+        &mut self,
+        page: &mut Page,
+        pipes: &mut Pipes,
+        call: Writing,
+        n: usize,
+    ) -> io::Result<()> {
+        self.kept = self.memory;
+        let wrote = write_over(&mut self.memory, call, &mut self.buffer, n);
+        let changed = self.is_changed();
+        tell_and_send(page, pipes, wrote, changed, &self.buffer[..n.min(BYTES)])
     }
-    perform(rt, s, f, values, kept, bytes, out, inbox, pipes, page)
+
+    // Whether a request is open.
+    fn is_open(&self, id: u16) -> bool {
+        let table = self.memory.server.table;
+        find_from(&table.ids, table.occupied, id, 0).is_some()
+    }
+
+    // Why the steps have ended the waiting, if they have. Without an id the station's output is read to its end.
+    fn why_now(&self, tale: Tale<ServerEvent>, id: Option<u16>) -> Option<Why> {
+        if Self::is_close(tale.event) || tale.refusal.is_some() {
+            return Some(Why::Closed);
+        }
+        if self.is_open(id?) {
+            None
+        } else {
+            Some(Why::Finished)
+        }
+    }
+
+    // Steps over what the station writes until a request is not open any more, or to the end of the station's output. A
+    // proved loop has to end, and nothing says that the station does: so this one counts to a number of turns that no
+    // run uses up.
+    fn wait(
+        &mut self,
+        page: &mut Page,
+        pipes: &mut Pipes,
+        inbox: &mut Inbox,
+        id: Option<u16>,
+    ) -> io::Result<()> {
+        let mut tale = untold::<Bench>(false);
+        let mut why = self.why_now(tale, id);
+        for _ in 0..u64::MAX {
+            if why.is_some() {
+                break;
+            }
+            if !inbox.refill(pipes) {
+                why = Some(Why::Over);
+                break;
+            }
+            let before = tale.used;
+            tale = take_step(self, page, tale, inbox.unread())?;
+            inbox.from = inbox.from.saturating_add(tale.used.saturating_sub(before));
+            why = self.why_now(tale, id);
+        }
+        put_mark::<Bench>(page, tale.event, b"; ")?;
+        match (tale.refusal, why) {
+            (Some(refusal), _) => page.put_refusal(refusal, self.is_changed())?,
+            (None, Some(Why::Finished)) => page.put(b"finished")?,
+            (None, Some(Why::Closed)) => page.put(b"closed")?,
+            (None, _) => page.put(b"over")?,
+        }
+        page.end_line()
+    }
+
+    // Does what a command says, and answers it.
+    pub fn answer(
+        &mut self,
+        page: &mut Page,
+        pipes: &mut Pipes,
+        inbox: &mut Inbox,
+        command: Command,
+    ) -> io::Result<()> {
+        match command {
+            Command::Opened => self.tell_count(page),
+            Command::Values => self.tell_values(page),
+            Command::Start => {
+                self.memory.start();
+                page.tell(b"open")
+            }
+            Command::Step(bytes) => {
+                feed_once(self, page, bytes)?;
+                Ok(())
+            }
+            Command::Feed(size, bytes) => {
+                feed(self, page, size, bytes)?;
+                Ok(())
+            }
+            Command::Wait(_) | Command::Hang if !is_there(pipes) => page.tell(b"what"),
+            Command::Wait(id) => self.wait(page, pipes, inbox, Some(id)),
+            Command::Hang => {
+                hang_up(pipes);
+                self.wait(page, pipes, inbox, None)
+            }
+            Command::Write(call, room) => self.write(page, pipes, call, room),
+            Command::Poke(field) => {
+                self.memory.poke(field);
+                page.tell(b"ok")
+            }
+        }
+    }
 }

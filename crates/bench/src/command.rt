@@ -1,106 +1,129 @@
-// A line as a form. The numbers of commands are their places in the table.
-use script::form::{Form, read_form};
-use script::lines::{LONG, is_long, is_poke, read_poke, too_long};
-use script::words::{part, rest};
+// A line as a command, with its arguments.
+use fastcgi_server::{Input, QUERY, Stream};
+use script::fields::{PositionField, TableField, read_position_field, read_table_field};
+use script::words::{BYTES, Words};
+use server::state::Target;
 
-// Commands that ask without changing anything.
-pub const OPENED: u64 = 0;
-
-pub const VALUES: u64 = 1;
-
-// Commands that change the state without a buffer.
-pub const START: u64 = 2;
-
-pub const STEP: u64 = 3;
-
-pub const FEED: u64 = 4;
-
-// Those that need a station.
-pub const WAIT: u64 = 5;
-
-pub const HANG: u64 = 6;
-
-// Calls that write.
-pub const OPEN: u64 = 7;
-
-pub const PAIR: u64 = 8;
-
-pub const WRITE: u64 = 9;
-
-pub const END: u64 = 10;
-
-pub const ABORT: u64 = 11;
-
-pub const ASK: u64 = 12;
-
-// Whether a line asks without changing anything; so does one that is too long or no command.
-pub fn is_question(kind: u64) -> bool {
-    if kind < START {
-        return true;
-    }
-    LONG <= kind
+// A call that writes. Its first number is the id of a request.
+#[derive(Clone, Copy)]
+pub enum Writing<'a> {
+    Open { id: u16, role: u16, keep: bool },
+    Pair(u16, &'a [u8], &'a [u8]),
+    Write(u16, Stream, &'a [u8]),
+    End(u16, Input),
+    Abort(u16),
+    Ask(&'a [u8]),
 }
 
-// The size of the pieces that bytes are fed in; 0 for a single step.
-pub fn size_of(f: Form) -> usize {
-    let values = f.values;
-    if f.kind == FEED {
-        return values[0] as usize;
-    }
-    0
+// A field of the state or of what is lent beside it, and what it is set to.
+#[derive(Clone, Copy)]
+pub enum Field<'a> {
+    Open(bool),
+    Table(TableField),
+    Position(PositionField),
+    Target(Target),
+    Gathered(usize),
+    Body([u8; 8]),
+    Values(&'a [u8]),
 }
 
-// Where the bytes of a step or a feed end.
-pub fn end_of(f: Form) -> usize {
-    let values = f.values;
-    if f.kind == FEED {
-        return values[1] as usize;
-    }
-    values[0] as usize
+// Waiting and hanging up need a station. Of a call that writes the number is the size of its room.
+#[derive(Clone, Copy)]
+pub enum Command<'a> {
+    Opened,
+    Values,
+    Start,
+    Step(&'a [u8]),
+    Feed(usize, &'a [u8]),
+    Wait(u16),
+    Hang,
+    Write(Writing<'a>, usize),
+    Poke(Field<'a>),
 }
 
-// The room of a command that writes: its last argument.
-pub fn room_of(f: Form) -> usize {
-    let kind = f.kind;
-    let values = f.values;
-    match kind {
-        ABORT | ASK => values[1] as usize,
-        END => values[2] as usize,
-        _ => values[3] as usize,
+// What the content of the record being read is for.
+fn read_target(words: &mut Words) -> Option<Target> {
+    match words.next()? {
+        b"skip" => Some(Target::Skip),
+        b"stdout" => Some(Target::Stdout(words.byte()?)),
+        b"stderr" => Some(Target::Stderr(words.byte()?)),
+        b"end" => Some(Target::End(words.byte()?)),
+        b"values" => Some(Target::Values),
+        b"unknown" => Some(Target::Unknown),
+        _ => None,
     }
 }
 
-// A line that is no poke.
-fn read_command(line: &[u8], bytes: &mut [u8]) -> Form {
-    read_form(
-        line,
-        b"opened values start step feed wait hang open pair write end abort ask",
-        b"- - - h nh i - iiam ihhm idhm iqm im hm",
-        bytes,
-    )
+// What stands after the word `poke`.
+fn read_field<'a>(words: &mut Words<'a>) -> Option<Field<'a>> {
+    let name = words.next()?;
+    match name {
+        b"target" => Some(Field::Target(read_target(words)?)),
+        b"open" => Some(Field::Open(words.flag()?)),
+        b"gathered" => Some(Field::Gathered(words.size()?)),
+        b"body" => Some(Field::Body(words.eight()?)),
+        b"values" => Some(Field::Values(words.bytes(QUERY)?)),
+        b"held" | b"header" | b"content" | b"padding" => {
+            Some(Field::Position(read_position_field(name, words)?))
+        }
+        _ => Some(Field::Table(read_table_field(name, words)?)),
+    }
 }
 
-// What stands after the word `poke`. The numbers of fields are those of `script::fields`; `err_used` is none of the
-// bench's, and no line has five arguments.
-fn read_field(line: &[u8], bytes: &mut [u8]) -> Form {
-    read_poke(
-        line,
-        b"open occupied id length role keep turn spent out_ended err_used err_ended held header content padding gathered body values",
-        b"f i si si sr sf st sv sf xxxxx sf k 8 k k k 8 5",
-        b"skip stdout stderr end values unknown",
-        b"- b b b - -",
-        bytes,
-    )
+// Whether the connection is kept or dropped after a request.
+fn read_keep(words: &mut Words) -> Option<bool> {
+    match words.next()? {
+        b"keep" => Some(true),
+        b"drop" => Some(false),
+        _ => None,
+    }
 }
 
-// A line of so many characters.
-pub fn read_line(line: &[u8], held: usize, bytes: &mut [u8]) -> Form {
-    if is_long(line, held) {
-        return too_long();
+// An input stream, PARAMS among them.
+fn read_input(words: &mut Words) -> Option<Input> {
+    match words.next()? {
+        b"params" => Some(Input::Params),
+        b"stdin" => Some(Input::Stdin),
+        b"data" => Some(Input::Data),
+        _ => None,
     }
-    let text = part(line, 0, held);
-    if is_poke(text) {
-        return read_field(rest(text), bytes);
+}
+
+// A call that writes. Its room is the last word.
+fn read_writing<'a>(name: &[u8], words: &mut Words<'a>) -> Option<Writing<'a>> {
+    match name {
+        b"open" => Some(Writing::Open {
+            id: words.short()?,
+            role: words.short()?,
+            keep: read_keep(words)?,
+        }),
+        b"pair" => Some(Writing::Pair(words.short()?, words.bytes(BYTES)?, words.bytes(BYTES)?)),
+        b"write" => Some(Writing::Write(words.short()?, words.stream()?, words.bytes(BYTES)?)),
+        b"end" => Some(Writing::End(words.short()?, read_input(words)?)),
+        b"abort" => Some(Writing::Abort(words.short()?)),
+        b"ask" => Some(Writing::Ask(words.bytes(BYTES)?)),
+        _ => None,
     }
-    read_command(text, bytes)
+}
+
+// A command by its name.
+fn read_command<'a>(name: &[u8], words: &mut Words<'a>) -> Option<Command<'a>> {
+    match name {
+        b"opened" => Some(Command::Opened),
+        b"values" => Some(Command::Values),
+        b"start" => Some(Command::Start),
+        b"step" => Some(Command::Step(words.bytes(BYTES)?)),
+        b"feed" => Some(Command::Feed(words.piece()?, words.bytes(BYTES)?)),
+        b"wait" => Some(Command::Wait(words.short()?)),
+        b"hang" => Some(Command::Hang),
+        b"poke" => Some(Command::Poke(read_field(words)?)),
+        _ => Some(Command::Write(read_writing(name, words)?, words.room()?)),
+    }
+}
+
+// A line as a command; none where it has too few words or too many, or one that is none of those that may stand there.
+pub fn read_line<'a>(line: &'a [u8], room: &'a mut [u8]) -> Option<Command<'a>> {
+    let mut words = Words::new(line, room);
+    let command = read_command(words.next()?, &mut words)?;
+    if words.is_over() { Some(command) } else { None }
 }

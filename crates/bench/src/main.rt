@@ -5,85 +5,41 @@
 
 mod answer;
 mod command;
-mod feeding;
-mod image;
-mod kept;
-mod poke;
-mod state;
+mod memory;
 mod station;
 mod told;
-mod waiting;
-mod write;
 
-use crate::answer::answer;
+use crate::answer::{new_bench, new_inbox};
 use crate::command::read_line;
-use crate::kept::KEPT;
-use crate::state::fresh;
-use crate::station::{Pipes, is_asked, open_pipes};
-use fastcgi_server::QUERY;
-use host::large_buffer;
-use script::form::BYTES;
-use script::input::{Input, LINE, next_line};
+use crate::station::{is_asked, open_pipes};
+use script::input::{Input, LINE};
+use script::page::Page;
+use script::words::BYTES;
 use std::io;
 
-// Answers every line. A proved loop has to end, and nothing says that the input does: so it counts its turns down, from
-// a number that no run uses up.
-fn answer_all(
-    rt: &HostRuntime,
-    asked: bool,
-    piece: &mut [u8],
-    line: &mut [u8],
-    values: &mut [u8; QUERY],
-    kept: &mut [u8],
-    bytes: &mut [u8],
-    out: &mut [u8],
-    inbox: &mut [u8],
-    pipes: &mut Pipes,
-    page: &mut [u8],
-) -> io::Result<()> {
-    let mut input = Input {
-        from: 0,
-        to: 0,
-        held: 0,
-        more: true,
-    };
-    let mut state = fresh(values, asked);
-    let mut turns = u64::MAX;
-    while turns > 0 {
-        turns -= 1;
-        input = next_line(rt, input, piece, line)?;
-        if input.more {} else {
-            return Ok(());
-        }
-        let f = read_line(line, input.held, bytes);
-        state = answer(rt, state, f, values, kept, bytes, out, inbox, pipes, page)?;
-    }
-    Ok(())
-}
-
-// The buffers are made once.
+// The buffers are made once. A proved loop has to end, and nothing says that the input does: so this one counts to a
+// number of turns that no run uses up.
 fn main(rt: HostRuntime) -> io::Result<()> {
     let asked = is_asked(&rt);
     let mut pipes = open_pipes(&rt, asked)?;
-    let mut values = [0u8; QUERY];
-    let mut piece = large_buffer();
-    let mut line = [0u8; LINE];
-    let mut kept = [0u8; KEPT];
-    let mut bytes = [0u8; BYTES];
-    let mut out = [0u8; BYTES];
-    let mut inbox = large_buffer();
-    let mut page = large_buffer();
-    answer_all(
-        &rt,
-        asked,
-        &mut piece,
-        &mut line,
-        &mut values,
-        &mut kept,
-        &mut bytes,
-        &mut out,
-        &mut inbox,
-        &mut pipes,
-        &mut page,
-    )
+    let mut bench = new_bench();
+    let mut inbox = new_inbox();
+    let mut input = Input::new(&rt);
+    let mut page = Page::new(&rt);
+    let mut line = [0; LINE];
+    let mut bytes = [0; BYTES];
+    for _ in 0..u64::MAX {
+        let Some(n) = input.next_line(&mut line)? else {
+            return Ok(());
+        };
+        let Some(text) = line.get(..n) else {
+            page.tell(b"long")?;
+            continue;
+        };
+        match read_line(text, &mut bytes) {
+            Some(command) => bench.answer(&mut page, &mut pipes, &mut inbox, command)?,
+            None => page.tell(b"what")?,
+        }
+    }
+    Ok(())
 }

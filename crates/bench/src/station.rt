@@ -3,7 +3,6 @@ use host::{argument, argument_count, buffer};
 use std::fs::{File, OpenOptions};
 use std::io;
 use std::io::{Read, Write};
-use wire::same;
 
 // The numbers of the arguments: a word, the pipe that the station reads, and the one that it writes.
 const WORD: usize = 1;
@@ -29,7 +28,7 @@ pub fn is_asked(rt: &HostRuntime) -> bool {
     if argument_count(rt) != ALL {
         return false;
     }
-    same(&word[..n], b"station")
+    matches!(&word[..n], b"station")
 }
 
 // Opens the file that argument i names.
@@ -64,7 +63,12 @@ pub fn open_pipes(rt: &HostRuntime, asked: bool) -> io::Result<Pipes> {
     Ok(Pipes { to, from })
 }
 
-// Sends what a call wrote. To a station that has ended it cannot be sent, and what is heard of that station says so.
+// Whether there is a station, or was before it was hung up.
+pub fn is_there(pipes: &Pipes) -> bool {
+    pipes.from.is_some()
+}
+
+// Sends what a call wrote, if there is a station. To a station that has ended it cannot be sent, and what is heard of that station says so.
 pub fn send(pipes: &mut Pipes, bytes: &[u8]) {
     if let Some(to) = &mut pipes.to {
         let _ = to.write_all(bytes);

@@ -10,24 +10,16 @@ use connection::answer::Refusal;
 use connection::state::Conn;
 use slot_word::taken_count;
 
-// How many requests are active, or why the call is refused.
-#[derive(Clone, Copy)]
-pub enum Count {
-    Active(u32),
-    Refused(Refusal),
-}
-
 // The number of active requests (rows 9 and 1).
-pub fn active_count(c: Conn) -> Count
+pub fn active_count(c: Conn) -> Result<u32, Refusal>
     ensures { counted_by result ≡ active_count c }
 {
-    let t = c.table;
-    let f = c.frame;
-    if !in_shape(&t.ids, &t.lengths, t.occupied, f) {
-        return Count::Refused(Refusal::OutOfShape);
+    let table = c.table;
+    if !in_shape(&table.ids, &table.lengths, table.occupied, c.frame) {
+        return Err(Refusal::OutOfShape);
     }
     if !c.open {
-        return Count::Refused(Refusal::Closed);
+        return Err(Refusal::Closed);
     }
-    Count::Active(taken_count(t.occupied))
+    Ok(taken_count(table.occupied))
 }

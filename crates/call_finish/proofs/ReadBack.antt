@@ -1,4 +1,5 @@
 -- What finish writes reads back as what was owed.
+use Rattle.connection.specs.Slots.{Slot}
 use Rattle.std.specs.Prelude.{ℕ, ◌+◌, ◌<◌, refl, Bool, true, false, not, List, [], ◌∷◌, ◌++◌, length, take, drop, ltb, if◌then◌else◌}
 use Rattle.std.proofs.Math.Path.{◌≡◌}
 use Rattle.std.proofs.Common.{sym, ap, ◌∙◌, append-nil, arith, take_at, eqb-true}
@@ -10,7 +11,6 @@ use Rattle.record.specs.Body.{end_body_of, end_body_bytes}
 use Rattle.record.specs.Split.{Record, Split, ◌then-split◌, all_rest, split_in, split}
 use Rattle.record_writer.proofs.ReadBack.{record_of, record_read_back, end_record_read_back}
 use Rattle.connection.specs.declared.request.Request.{Request}
-use Rattle.connection.specs.declared.state.Slot.{Slot}
 use Rattle.connection.specs.declared.state.Conn.{Conn}
 use Rattle.connection.specs.Sizes.{SLOTS, STORE}
 use Rattle.connection.specs.Slots.{request_at, find, on_slot, is_found}

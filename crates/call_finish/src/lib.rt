@@ -7,7 +7,7 @@ ghost use Rattle.connection.specs.RequestCalls.{owes_out, owes_err, finish_bytes
 ghost use Rattle.connection.specs.Calls.{redirected, released, finish};
 ghost use Rattle.call_finish.specs.Answer.{owed_length, end_if, skip_own, finished_by};
 
-use call_admit::{Admitted, admit_lent};
+use call_admit::admit_lent;
 use conn_frame::closed;
 use connection::answer::Refusal;
 use connection::request::{Request, RequestState};
@@ -20,7 +20,7 @@ use slot_table::{free_request, request_at};
 use wire::clear;
 
 // What finish comes to: the bytes written, the connection still open; the bytes written, the connection closed; or
-// the refusal.
+// the refusal. (The first two are both successes: a Result of an enum of two would read no plainer.)
 #[derive(Clone, Copy)]
 pub enum FinishResult {
     Open(usize),
@@ -35,42 +35,26 @@ pub struct Finished {
 }
 
 // An empty STDOUT record is owed if STDOUT is not ended.
+#[tactic(auto, unfolding(connection::specs::RequestCalls::owes_out))]
 pub fn owes_out(m: RequestState) -> bool
     ensures { result ≡ owes_out m }
 {
-    if m.out_ended {
-        return false;
-    }
-    true
+    !m.out_ended
 }
 
 // An empty STDERR record is owed if STDERR was used and is not ended.
+#[tactic(auto, unfolding(connection::specs::RequestCalls::owes_err))]
 pub fn owes_err(m: RequestState) -> bool
     ensures { result ≡ owes_err m }
 {
-    if m.err_used {
-        if m.err_ended {
-            return false;
-        }
-        return true;
-    }
-    false
+    m.err_used && !m.err_ended
 }
 
 // An empty record takes eight bytes, the END_REQUEST record sixteen.
 pub fn owed_length(m: RequestState) -> usize
     ensures { result ≡ owed_length m }
 {
-    if owes_out(m) {
-        if owes_err(m) {
-            return 32;
-        }
-        return 24;
-    }
-    if owes_err(m) {
-        return 24;
-    }
-    16
+    8 * usize::from(owes_out(m)) + 8 * usize::from(owes_err(m)) + 16
 }
 
 // An empty record at a place, if it is owed; answers the place after it.
@@ -80,9 +64,10 @@ fn write_end(out: &mut [u8], at: usize, owed: bool, kind: u8, id: u16) -> usize
         × (out.new ≡ put_at out.old at (end_if owed kind id)) }
 {
     if owed {
-        return write_record(out, at, kind, id, b"");
+        write_record(out, at, kind, id, b"")
+    } else {
+        at
     }
-    at
 }
 
 // Writes what is owed at the start of out: the ends of STDOUT and STDERR, then END_REQUEST with the application's
@@ -92,9 +77,8 @@ fn write_owed(out: &mut [u8], r: Request, app_status: u32) -> usize
     ensures { (result ≡ length (finish_bytes r app_status))
         × (out.new ≡ put_at out.old 0 (finish_bytes r app_status)) }
 {
-    let state = r.state;
-    let a = write_end(out, 0, owes_out(state), names::STDOUT, r.id);
-    let b = write_end(out, a, owes_err(state), names::STDERR, r.id);
+    let a = write_end(out, 0, owes_out(r.state), names::STDOUT, r.id);
+    let b = write_end(out, a, owes_err(r.state), names::STDERR, r.id);
     let body = end_body(app_status, names::REQUEST_COMPLETE);
     write_record(out, b, names::END_REQUEST, r.id, &body)
 }
@@ -103,10 +87,11 @@ fn write_owed(out: &mut [u8], r: Request, app_status: u32) -> usize
 fn skip_own(i: usize, j: u8, kept: Target) -> Target
     ensures { result ≡ skip_own i j kept }
 {
-    if j as usize == i {
-        return Target::Skip;
+    if usize::from(j) == i {
+        Target::Skip
+    } else {
+        kept
     }
-    kept
 }
 
 // The rest of a half-read record of the request in slot i is skipped.
@@ -114,12 +99,8 @@ pub fn redirect(i: usize, target: Target) -> Target
     ensures { result ≡ redirected i target }
 {
     match target {
-        Target::Skip => Target::Skip,
-        Target::Begin(id) => Target::Begin(id),
-        Target::Query => Target::Query,
-        Target::Params(j) => skip_own(i, j, Target::Params(j)),
-        Target::Stdin(j) => skip_own(i, j, Target::Stdin(j)),
-        Target::Data(j) => skip_own(i, j, Target::Data(j)),
+        Target::Params(j) | Target::Stdin(j) | Target::Data(j) => skip_own(i, j, target),
+        Target::Begin(_) | Target::Query | Target::Skip => target,
     }
 }
 
@@ -127,20 +108,13 @@ pub fn redirect(i: usize, target: Target) -> Target
 pub fn release(c: Conn, i: usize) -> Conn
     ensures { result ≡ released c i }
 {
-    let table = c.table;
-    let f = c.frame;
-    let position = f.position;
-    let target = f.target;
-    let body = f.body;
     Conn {
-        table: free_request(table, i),
+        table: free_request(c.table, i),
         frame: Frame {
-            position: position,
-            target: redirect(i, target),
-            gathered: f.gathered,
-            body: body,
+            target: redirect(i, c.frame.target),
+            ..c.frame
         },
-        open: c.open,
+        ..c
     }
 }
 
@@ -160,32 +134,26 @@ pub fn finish(c: Conn, store: &mut [u8], id: u16, app_status: u32, out: &mut [u8
     ensures { finished_by result store.new out.new
         ≡ finish c store.old id app_status out.old }
 {
-    let admitted = admit_lent(c, store, id);
-    match admitted {
-        Admitted::Refused(why) => refused(c, why),
-        Admitted::At(i) => {
-            let t = c.table;
-            let r = request_at(t, i);
-            let state = r.state;
-            if out.len() < owed_length(state) {
+    match admit_lent(c, store, id) {
+        Err(why) => refused(c, why),
+        Ok(slot) => {
+            let request = request_at(c.table, slot);
+            if out.len() < owed_length(request.state) {
                 return refused(c, Refusal::NoRoom);
             }
-            let n = write_owed(out, r, app_status);
-            if state.keep {
-                let a = i * AREA;
-                let e = a + AREA;
-                clear(&mut store[a..e]);
-                let conn = release(c, i);
+            let written = write_owed(out, request, app_status);
+            if request.state.keep {
+                let start = slot * AREA;
+                clear(&mut store[start..start + AREA]);
                 return Finished {
-                    result: FinishResult::Open(n),
-                    conn: conn,
+                    result: FinishResult::Open(written),
+                    conn: release(c, slot),
                 };
             }
             clear(store);
-            let conn = closed();
             Finished {
-                result: FinishResult::Closed(n),
-                conn: conn,
+                result: FinishResult::Closed(written),
+                conn: closed(),
             }
         }
     }

@@ -1,15 +1,13 @@
 -- Where the list of a request that a call names lies, and each call that reads as a question to that part of the store.
-use Rattle.std.specs.Prelude.{ℕ, ◌+◌, ◌-◌, ◌*◌, ◌≤◌, ◌<◌, ◌≡◌, refl, true, false, List, [], length, drop, if◌then◌else◌}
+use Rattle.std.specs.Prelude.{ℕ, ◌+◌, ◌-◌, ◌*◌, ◌≤◌, ◌<◌, ◌≡◌, refl, true, false, List, [], length, drop, if◌then◌else◌, Some, None, Ok, Err}
 use Rattle.std.proofs.Common.{sym, subst, take-take, eqb-true, eq-eqb}
 use native.Mathlib.Omega.{arith}
 use Rattle.std.proofs.Math.ListN.{get_or}
 use Rattle.wire.specs.Test.{◌=?◌, by_test}
 use Rattle.pairs.specs.Pair.{value_of}
 use Rattle.pair_list.specs.List.{first_named, pair_number}
-use Rattle.pair_list.specs.declared.Found.{Found}
 use Rattle.connection.specs.declared.answer.Refusal.{Refusal}
 use Rattle.connection.specs.declared.state.Conn.{Conn}
-use Rattle.connection.specs.declared.state.Slot.{Slot}
 use Rattle.connection.specs.Sizes.{SLOTS, AREA, STORE}
 use Rattle.connection.specs.Codes.{refusal_number}
 use Rattle.connection.specs.Request.{list_of}
@@ -19,7 +17,6 @@ use Rattle.connection.specs.RequestCalls as Of
 use Rattle.connection.specs.Calls.{lent_refusal, slot_of, value, source, pair_at_number, walk}
 use Rattle.connection.proofs.Laws.SlotsLaws.{find_at, found_true}
 use Rattle.connection.proofs.Laws.ShapeLaws.{shaped}
-use Rattle.call_admit.specs.declared.Admitted.{Admitted}
 use Rattle.call_admit.specs.Admission.{admitted_by, lent_admission}
 use Rattle.call_admit.proofs.AdmissionLaws.{let_through, refused_by_lem}
 use Rattle.call_list.specs.Listing.{Listing, unlisted, part_of, listing}
@@ -47,7 +44,7 @@ through c store id none =
     (λ t2. let z : ◌≡◌ {A = ℕ} 9 0 = simp (t1, t2) at e in absurd (omega arith)))
     (λ t1. let z : ◌≡◌ {A = ℕ} 2 0 = simp t1 at e in absurd (omega arith))
   where
-    facts : (length store =? STORE) ≡ true → in_shape c ≡ true → (i : ℕ) × (find c.table id ≡ Slot.At i) → Through c store id (slot_of c id)
+    facts : (length store =? STORE) ≡ true → in_shape c ≡ true → (i : ℕ) × (find c.table id ≡ Some i) → Through c store id (slot_of c id)
     facts t1 t2 f =
         let slot : slot_of c id ≡ f.0 = rw f.1 in
         let low : f.0 < SLOTS = (find_at c.table id f.0 f.1).low in
@@ -55,19 +52,19 @@ through c store id none =
         (record { none = none; slot = slot; full = eqb-true (length store) STORE t1; low = low; short = (shaped c t2).table.lengths f.0 low })
 
 -- What the admission of a call says: of one let through, the slot; of a refused one, the row.
-pub admitted_at : (c : Conn) (store : List ℕ) (id i : ℕ) → lent_admission c store id ≡ admitted_by (Admitted.At i) → Through c store id i
+pub admitted_at : (c : Conn) (store : List ℕ) (id i : ℕ) → lent_admission c store id ≡ admitted_by (Ok i) → Through c store id i
 unfolding lent_admission
 admitted_at c store id i e =
     let a = let_through (lent_refusal c store id) (slot_of c id) i (sym e) in
     subst (Through c store id) (sym a.1) (through c store id (eq-eqb (lent_refusal c store id) 0 a.0))
 
-pub refused_at : (c : Conn) (store : List ℕ) (id : ℕ) (r : Refusal) → lent_admission c store id ≡ admitted_by (Admitted.Refused r)
+pub refused_at : (c : Conn) (store : List ℕ) (id : ℕ) (r : Refusal) → lent_admission c store id ≡ admitted_by (Err r)
     → lent_refusal c store id ≡ refusal_number r
 unfolding lent_admission
 refused_at c store id r e = refused_by_lem (lent_refusal c store id) (slot_of c id) r (sym e)
 
 -- In no bytes there is no pair.
-pub first_in_none : (name : List ℕ) → first_named [] name ≡ Found.Nothing
+pub first_in_none : (name : List ℕ) → first_named [] name ≡ None
 unfolding first_named
 first_in_none name = refl
 

@@ -1,5 +1,5 @@
 -- Where the list of the request that a call names lies in the store.
-use Rattle.std.specs.Prelude.{ℕ, ◌+◌, ◌*◌, ◌-◌, Bool, true, List, take, drop, if◌then◌else◌}
+use Rattle.std.specs.Prelude.{ℕ, ◌+◌, ◌*◌, ◌-◌, Bool, true, List, take, drop, if◌then◌else◌, Ok, Err, Result}
 use Rattle.wire.specs.Test.{◌=?◌}
 use Rattle.connection.specs.declared.request.Standing.{Standing}
 use Rattle.connection.specs.declared.state.Conn.{Conn}
@@ -8,7 +8,7 @@ use Rattle.connection.specs.Codes.{refusal_number}
 use Rattle.connection.specs.Slots.{request_at}
 use Rattle.connection.specs.RequestCalls as Of
 use Rattle.connection.specs.Calls.{lent_refusal, slot_of}
-use Rattle.call_list.specs.declared.Listed.{Listed}
+use Rattle.connection.specs.declared.answer.Refusal.{Refusal}
 
 -- row 4 is about the standing alone
 abbrev pub no_list_of : Standing → Bool
@@ -23,9 +23,9 @@ pub record Listing : Type 0 where
 abbrev pub unlisted : ℕ → Listing
 unlisted n = record { refusal = n; from = 0; to = 0 }
 
-abbrev pub listed_by : Listed → Listing
-listed_by (Listed.At a e) = record { refusal = 0; from = a; to = e }
-listed_by (Listed.Refused r) = unlisted (refusal_number r)
+abbrev pub listed_by : Result (ℕ × ℕ) Refusal → Listing
+listed_by (Ok (a, e)) = record { refusal = 0; from = a; to = e }
+listed_by (Err r) = unlisted (refusal_number r)
 
 -- the part of the store that is so listed: of a refused call, no bytes
 abbrev pub part_of : List ℕ → Listing → List ℕ

@@ -1,5 +1,6 @@
 -- What say and the end of a stream come to, said once for both: refused they leave everything as it was, else the
 -- bytes are written and the request is put back.
+use Rattle.connection.specs.Slots.{Slot}
 use Rattle.std.specs.Prelude.{ℕ, ◌+◌, ◌≤◌, ◌<◌, refl, Bool, true, false, not, List, [], take, drop, eqb, if◌then◌else◌}
 use Rattle.std.proofs.Math.Path.{◌≡◌, ap}
 use Rattle.std.proofs.Common.{sym, ◌∙◌, arith, zero-add, take_at, drop_at}
@@ -9,7 +10,6 @@ use Rattle.wire.specs.Test.{◌=?◌, by_test}
 use Rattle.wire.specs.Buffer.{put_at}
 use Rattle.wire.proofs.BufferLaws.{put_length, put_none}
 use Rattle.connection.specs.declared.request.Request.{Request}
-use Rattle.connection.specs.declared.state.Slot.{Slot}
 use Rattle.connection.specs.declared.state.Conn.{Conn}
 use Rattle.connection.specs.declared.answer.Output.{Output}
 use Rattle.connection.specs.Sizes.{SLOTS}

@@ -1,23 +1,22 @@
 // Output of a request: the request that a call names writes, and is put back.
 #![tactic(auto)]
 
-ghost use Rattle.std.specs.Prelude.{◌≡◌};
-ghost use Rattle.connection.specs.declared.answer.Wrote.{Wrote};
+ghost use Rattle.std.specs.Prelude.{◌≡◌, Ok, Err};
 ghost use Rattle.connection.specs.Calls.{puts_request, say, end_stream};
 ghost use Rattle.call_output.specs.Answer.{written_by};
 
-use call_admit::{Admitted, admit};
-use connection::answer::{Output, Refusal, Written, Wrote};
+use call_admit::admit;
+use connection::answer::{Output, Refusal, Written};
 use connection::state::Conn;
 use request_output::{Said, end_in, say_in};
 use slot_table::{put_request, request_at};
 
 // A refused call: nothing is written, nothing changes.
 fn refused(c: Conn, why: Refusal) -> Written
-    ensures { result ≡ record { wrote = Wrote.Refused why; conn = c } }
+    ensures { result ≡ record { wrote = Err why; conn = c } }
 {
     Written {
-        wrote: Wrote::Refused(why),
+        wrote: Err(why),
         conn: c,
     }
 }
@@ -26,16 +25,11 @@ fn refused(c: Conn, why: Refusal) -> Written
 fn put_back(c: Conn, i: usize, said: Said) -> Written
     ensures { result ≡ record { wrote = said.wrote; conn = puts_request c i said.request } }
 {
-    let table = c.table;
-    let frame = c.frame;
-    let wrote = said.wrote;
-    let request = said.request;
     Written {
-        wrote: wrote,
+        wrote: said.wrote,
         conn: Conn {
-            table: put_request(table, i, request),
-            frame: frame,
-            open: c.open,
+            table: put_request(c.table, i, said.request),
+            ..c
         },
     }
 }
@@ -44,13 +38,11 @@ fn put_back(c: Conn, i: usize, said: Said) -> Written
 pub fn write_output(c: Conn, id: u16, output: Output, bytes: &[u8], out: &mut [u8]) -> Written
     ensures { written_by result out.new ≡ say c id output bytes.now out.old }
 {
-    let admitted = admit(c, id);
-    match admitted {
-        Admitted::Refused(why) => refused(c, why),
-        Admitted::At(i) => {
-            let t = c.table;
-            let said = say_in(request_at(t, i), output, bytes, out);
-            put_back(c, i, said)
+    match admit(c, id) {
+        Err(why) => refused(c, why),
+        Ok(slot) => {
+            let said = say_in(request_at(c.table, slot), output, bytes, out);
+            put_back(c, slot, said)
         }
     }
 }
@@ -59,13 +51,11 @@ pub fn write_output(c: Conn, id: u16, output: Output, bytes: &[u8], out: &mut [u
 pub fn end_output(c: Conn, id: u16, output: Output, out: &mut [u8]) -> Written
     ensures { written_by result out.new ≡ end_stream c id output out.old }
 {
-    let admitted = admit(c, id);
-    match admitted {
-        Admitted::Refused(why) => refused(c, why),
-        Admitted::At(i) => {
-            let t = c.table;
-            let said = end_in(request_at(t, i), output, out);
-            put_back(c, i, said)
+    match admit(c, id) {
+        Err(why) => refused(c, why),
+        Ok(slot) => {
+            let said = end_in(request_at(c.table, slot), output, out);
+            put_back(c, slot, said)
         }
     }
 }

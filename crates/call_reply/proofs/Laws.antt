@@ -1,5 +1,5 @@
 -- What holds of a reply as it is written.
-use Rattle.std.specs.Prelude.{ℕ, ◌+◌, ◌-◌, ◌≤◌, refl, Bool, true, List, [], ◌∷◌, ◌++◌, take, drop}
+use Rattle.std.specs.Prelude.{ℕ, ◌+◌, ◌-◌, ◌≤◌, refl, Bool, true, List, [], ◌∷◌, ◌++◌, take, drop, Ok, Err, Result}
 use Rattle.std.proofs.Math.Path.{◌≡◌, ap}
 use Rattle.std.proofs.Common.{sym, ◌∙◌, append-nil, append_assoc, arith, length-append, length-take, length-drop, drop_of_length-le, take_all, take_at, drop-drop}
 use Rattle.std.proofs.Math.Bool.{false}
@@ -14,22 +14,21 @@ use Rattle.record_writer.specs.Written.{record_length, record_bytes, Placed, rec
 use Rattle.record_writer.proofs.WrittenLaws.{record_length_lem, record_fits_lem}
 use Rattle.pairs.specs.Length.{length_bytes}
 use Rattle.pairs.specs.Pair.{pair_bytes}
-use Rattle.pair_writer.specs.declared.PairWrote.{PairWrote}
 use Rattle.pair_writer.specs.Write.{answered, pair_written}
 use Rattle.pair_writer.proofs.WriteLaws.{pair_written_lem, answered_once}
-use Rattle.connection.specs.declared.answer.Wrote.{Wrote}
 use Rattle.connection.specs.declared.answer.Refusal.{Refusal}
 use Rattle.connection.specs.Step.{MAX_CONNS, MAX_REQS, MPXS_CONNS}
 use Rattle.connection.specs.Event.{Event}
 use Rattle.connection.specs.Calls.{values_of, owed, replied}
 use Rattle.call_reply.specs.Answer.{replied_by, filled_by, named_pair}
+use Rattle.pair_writer.specs.declared.PairRefusal.{PairRefusal}
 
 -- ---- one record
 module _ (l : List ℕ) (kind id : ℕ) (x : List ℕ) where
   -- a record that fits is the reply
   pub record_filled : {l' : List ℕ} {n : ℕ} → record_fits (length x) 0 (length l) ≡ true
       → ◌≡◌ {A = Placed} (record { next = n; buffer = l' }) (record_placed l 0 kind id x)
-      → replied_by (Wrote.Bytes n) l' ≡ filled_by (record_bytes kind id x) l
+      → replied_by (Ok n) l' ≡ filled_by (record_bytes kind id x) l
   unfolding record_placed record_length
   record_filled {l'} {n} fits w =
       let f = record_fits_lem (length x) 0 (length l) fits in
@@ -41,7 +40,7 @@ module _ (l : List ℕ) (kind id : ℕ) (x : List ℕ) where
 
   -- one that does not is refused
   pub record_unfilled : length x ≤ 65535 → record_fits (length x) 0 (length l) ≡ false
-      → replied_by (Wrote.Refused Refusal.NoRoom) l ≡ filled_by (record_bytes kind id x) l
+      → replied_by (Err Refusal.NoRoom) l ≡ filled_by (record_bytes kind id x) l
   unfolding record_fits
   record_unfilled h e =
       let t : leb (0 + record_length (length x)) (length l) ≡ false = simp (le-leb (length x) 65535 h) at e in
@@ -60,17 +59,17 @@ put_part l a x h =
     rw (all, rest, none) (append-nil (take a l ++ (x ++ drop (a + length x) l)) ∙ sym (append_assoc (take a l) x (drop (a + length x) l)))
 
 -- a pair that fits is written
-pair_fits : (w : PairWrote) (l l' name value : List ℕ) → length name ≤ 65535 → length value ≤ 65535 → length (pair_bytes name value) ≤ length l
-    → answered w l' ≡ pair_written l name value → (w ≡ PairWrote.Bytes (length (pair_bytes name value))) × (l' ≡ put_at l 0 (pair_bytes name value))
+pair_fits : (w : Result ℕ PairRefusal) (l l' name value : List ℕ) → length name ≤ 65535 → length value ≤ 65535 → length (pair_bytes name value) ≤ length l
+    → answered w l' ≡ pair_written l name value → (w ≡ Ok (length (pair_bytes name value))) × (l' ≡ put_at l 0 (pair_bytes name value))
 pair_fits w l l' name value n v h e =
-    answered_once w (PairWrote.Bytes (length (pair_bytes name value))) l' (put_at l 0 (pair_bytes name value)) (e ∙ sym (pair_written_lem l name value n v refl h refl))
+    answered_once w (Ok (length (pair_bytes name value))) l' (put_at l 0 (pair_bytes name value)) (e ∙ sym (pair_written_lem l name value n v refl h refl))
 
 -- A pair written into the part of a list from a place on: the bytes it took, and the list with it there.
-pub record PairPut (w : PairWrote) (l l' : List ℕ) (at : ℕ) (x : List ℕ) : Type 0 where
+pub record PairPut (w : Result ℕ PairRefusal) (l l' : List ℕ) (at : ℕ) (x : List ℕ) : Type 0 where
   pub count : (answered w []).bytes ≡ length x
   pub put : put_mid at (length l - at) l l' ≡ put_at l at x
 
-pub pair_put : (w : PairWrote) (l l' : List ℕ) (at : ℕ) (name value : List ℕ) → length name ≤ 65535 → length value ≤ 65535
+pub pair_put : (w : Result ℕ PairRefusal) (l l' : List ℕ) (at : ℕ) (name value : List ℕ) → length name ≤ 65535 → length value ≤ 65535
     → at + length (pair_bytes name value) ≤ length l
     → answered w l' ≡ pair_written (take (length l - at) (drop at l)) name value
     → PairPut w l l' at (pair_bytes name value)
@@ -81,7 +80,7 @@ pair_put w l l' at name value n v h e =
     let f = pair_fits w part l' name value n v (omega arith) e in
     let len' : length l' ≡ length l - at = ap length f.1 ∙ put_length part 0 x (omega arith) ∙ len in
     record {
-      count = ap (λ (p : PairWrote). (answered p []).bytes) f.0;
+      count = ap (λ (p : Result ℕ PairRefusal). (answered p []).bytes) f.0;
       put = part_put l at (length l) l' (omega arith) len' ∙ ap (put_at l at) f.1 ∙ put_part l at x h;
     }
 
@@ -134,7 +133,7 @@ values_length conns reqs mpxs = simp length-append (omega (arith, lengths conns 
 pub record Values (values l : List ℕ) (n : ℕ) : Type 0 where
   pub short : n ≤ 52
   pub within : n ≤ length l
-  pub front : take (n - 0) l ≡ values
+  pub front : take n l ≡ values
 
 pub values_put : (conns reqs mpxs : Bool) {l : List ℕ} {n : ℕ} → n ≡ length (values_of conns reqs mpxs) → l ≡ put_at (zeros 52) 0 (values_of conns reqs mpxs)
     → Values (values_of conns reqs mpxs) l n
@@ -145,7 +144,7 @@ values_put conns reqs mpxs {l} {n} en el =
     record {
       short = omega arith;
       within = omega arith;
-      front = ap (take (n - 0)) el ∙ take_at x (drop (0 + length x) (zeros 52)) (n - 0) (omega arith);
+      front = ap (take n) el ∙ take_at x (drop (0 + length x) (zeros 52)) n (omega arith);
     }
 
 -- ---- the event
@@ -155,7 +154,7 @@ unfolding replied
 filled_owed e l = refl
 
 -- nothing is owed, and nothing written
-pub unowed : (e : Event) (l : List ℕ) → owed e ≡ [] → replied_by (Wrote.Bytes 0) l ≡ replied e l
+pub unowed : (e : Event) (l : List ℕ) → owed e ≡ [] → replied_by (Ok 0) l ≡ replied e l
 unowed e l none =
     let h : 0 ≤ length l = omega arith in
     sym (simp (le-ltb (length l) 0 h) (ap (λ (u : List ℕ). record { refusal = 0; written = 0; buffer = u }) (put_none l 0)))

@@ -1,13 +1,13 @@
 -- What the call that writes an owed reply answers, read in the rules' numbers.
-use Rattle.std.specs.Prelude.{Bool, List, [], length, ℕ, if◌then◌else◌}
+use Rattle.std.specs.Prelude.{Bool, List, [], length, ℕ, if◌then◌else◌, Result}
 use Rattle.wire.specs.Test.{◌<?◌}
 use Rattle.wire.specs.Buffer.{put_at}
 use Rattle.pairs.specs.Pair.{pair_bytes}
-use Rattle.connection.specs.declared.answer.Wrote.{Wrote}
 use Rattle.connection.specs.Codes.{wrote_refusal, wrote_bytes}
 use Rattle.connection.specs.Calls.{Replied}
+use Rattle.connection.specs.declared.answer.Refusal.{Refusal}
 
-abbrev pub replied_by : Wrote → List ℕ → Replied
+abbrev pub replied_by : Result ℕ Refusal → List ℕ → Replied
 replied_by r buffer = record { refusal = wrote_refusal r; written = wrote_bytes r; buffer = buffer }
 
 -- those bytes at the buffer's start, or 6 where they do not fit

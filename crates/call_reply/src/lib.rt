@@ -11,34 +11,30 @@ ghost use Rattle.record_writer.specs.Written.{record_bytes};
 ghost use Rattle.call_reply.specs.Answer.{replied_by, filled_by, named_pair};
 
 use codes::status_number;
-use connection::answer::{Refusal, Wrote};
+use connection::answer::Refusal;
 use connection::event::Event;
-use pair_writer::{PairWrote, write_pair};
+use pair_writer::{PairRefusal, write_pair};
 use record::body::{end_body, unknown_type_body};
 use record::names;
 use record_writer::{record_fits, write_record};
 
 // One record at the start of out, if it fits.
-fn one_record(out: &mut [u8], kind: u8, id: u16, content: &[u8]) -> Wrote
+fn one_record(out: &mut [u8], kind: u8, id: u16, content: &[u8]) -> Result<usize, Refusal>
     requires { length content.now ≤ 65535 }
     ensures { replied_by result out.new
         ≡ filled_by (record_bytes kind id content.now) out.old }
 {
-    if record_fits(content.len(), 0, out.len()) {
-        return Wrote::Bytes(write_record(out, 0, kind, id, content));
+    if !record_fits(content.len(), 0, out.len()) {
+        return Err(Refusal::NoRoom);
     }
-    Wrote::Refused(Refusal::NoRoom)
+    Ok(write_record(out, 0, kind, id, content))
 }
 
 // The bytes that a pair took.
-fn count_of(wrote: PairWrote) -> usize
+fn count_of(wrote: Result<usize, PairRefusal>) -> usize
     ensures { result ≡ (answered wrote []).bytes }
 {
-    match wrote {
-        PairWrote::Bytes(n) => n,
-        PairWrote::TooLong => 0,
-        PairWrote::NoRoom => 0,
-    }
+    wrote.unwrap_or(0)
 }
 
 // A pair at a place, if it is asked for; answers the place after it.
@@ -50,11 +46,10 @@ fn put_named(list: &mut [u8], at: usize, asked: bool, name: &[u8], value: &[u8])
         ≡ put_at list.old at (named_pair asked name.now value.now)) }
 {
     if asked {
-        let e = list.len();
-        let wrote = write_pair(&mut list[at..e], name, value);
-        return at + count_of(wrote);
+        at + count_of(write_pair(&mut list[at..], name, value))
+    } else {
+        at
     }
-    at
 }
 
 // The values that a query asks for, in their order: FCGI_MAX_CONNS is 1, FCGI_MAX_REQS is 16, FCGI_MPXS_CONNS is 1.
@@ -70,13 +65,12 @@ fn put_values(list: &mut [u8], conns: bool, reqs: bool, mpxs: bool) -> usize
 
 // The reply that an event owes, at the start of out: an END_REQUEST to a refused opening, the values of a query,
 // an UNKNOWN_TYPE to a type that is not known; nothing to any other. Refused by 6 alone.
-pub fn owed_reply(e: Event, out: &mut [u8]) -> Wrote
+pub fn owed_reply(e: Event, out: &mut [u8]) -> Result<usize, Refusal>
     ensures { replied_by result out.new ≡ replied (event_of e) out.old }
 {
     match e {
         Event::Refuse { id, status } => {
-            let number = status_number(status);
-            let body = end_body(0, number);
+            let body = end_body(0, status_number(status));
             one_record(out, names::END_REQUEST, id, &body)
         }
         Event::Query {
@@ -86,32 +80,12 @@ pub fn owed_reply(e: Event, out: &mut [u8]) -> Wrote
         } => {
             let mut list = [0u8; 52];
             let n = put_values(&mut list, max_conns, max_reqs, mpxs_conns);
-            let z: usize = 0;
-            one_record(out, names::GET_VALUES_RESULT, 0, &list[z..n])
+            one_record(out, names::GET_VALUES_RESULT, 0, &list[..n])
         }
         Event::Unknown { kind } => {
             let body = unknown_type_body(kind);
             one_record(out, names::UNKNOWN_TYPE, 0, &body)
         }
-        Event::Nothing => Wrote::Bytes(0),
-        Event::Open {
-            id: _,
-            role: _,
-            keep: _,
-        } => Wrote::Bytes(0),
-        Event::Ready { id: _, length: _ } => Wrote::Bytes(0),
-        Event::Data {
-            id: _,
-            stream: _,
-            count: _,
-        } => Wrote::Bytes(0),
-        Event::End {
-            id: _,
-            stream: _,
-            measure: _,
-        } => Wrote::Bytes(0),
-        Event::Abort { id: _ } => Wrote::Bytes(0),
-        Event::Fault { id: _, fault: _ } => Wrote::Bytes(0),
-        Event::Closed { cause: _ } => Wrote::Bytes(0),
+        _ => Ok(0),
     }
 }

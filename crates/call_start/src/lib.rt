@@ -6,7 +6,7 @@ ghost use Rattle.connection.specs.Step.{started};
 ghost use Rattle.call_start.specs.Answer.{started_by};
 
 use conn_frame::{closed, no_frame};
-use connection::answer::{Refusal, StartResult, Started};
+use connection::answer::{Refusal, Started};
 use connection::sizes::{QUERY, STORE};
 use connection::state::Conn;
 use slot_table::no_requests;
@@ -18,23 +18,20 @@ pub fn start(store: &mut [u8], gathered: &mut [u8; QUERY]) -> Started
     ensures { started_by result gathered.new store.new
         ≡ started gathered.old store.old }
 {
-    if store.len() == STORE {
-        clear(store);
-        clear(gathered);
-        let t = no_requests();
-        let f = no_frame();
+    if store.len() != STORE {
         return Started {
-            result: StartResult::Open,
-            conn: Conn {
-                table: t,
-                frame: f,
-                open: true,
-            },
+            result: Err(Refusal::StoreSize),
+            conn: closed(),
         };
     }
-    let c = closed();
+    clear(store);
+    clear(gathered);
     Started {
-        result: StartResult::Refused(Refusal::StoreSize),
-        conn: c,
+        result: Ok(()),
+        conn: Conn {
+            table: no_requests(),
+            frame: no_frame(),
+            open: true,
+        },
     }
 }

@@ -1,5 +1,6 @@
 -- A data event shows just the bytes that its step used.
-use Rattle.std.specs.Prelude.{◌≡◌, refl, ℕ, Bool, true, length, take, eqb, ltb}
+use Rattle.connection.specs.Slots.{Slot}
+use Rattle.std.specs.Prelude.{◌≡◌, refl, ℕ, Bool, true, length, take, eqb, ltb, Some, None}
 use Rattle.std.proofs.Common.{sym, ap, ◌∙◌, arith, length-take-le}
 use Rattle.std.proofs.Math.Bool.{false}
 use mathlib.Core.List.{List, []}
@@ -12,7 +13,6 @@ use Rattle.record_reader.specs.declared.Position.{Position}
 use Rattle.record_reader.specs.declared.Phase.{Phase}
 use Rattle.pair_list.specs.List.{well_formed}
 use Rattle.connection.specs.declared.request.Role.{Role}
-use Rattle.connection.specs.declared.state.Slot.{Slot}
 use Rattle.connection.specs.declared.state.Target.{Target}
 use Rattle.connection.specs.declared.state.Frame.{Frame}
 use Rattle.connection.specs.Sizes.{SLOTS, QUERY}
@@ -63,8 +63,8 @@ module _ (st : State) (store : List ℕ) where
       (λ v. simp v)
     where
       placed : (k : Slot) → is_data (on_slot k (on_active st store h) (on_inactive st store h)).event ≡ false
-      placed (Slot.At i) = header_no_data h.kind h.content (held_at st.conn.table store i)
-      placed Slot.Nowhere =
+      placed (Some i) = header_no_data h.kind h.content (held_at st.conn.table store i)
+      placed None =
           by_test (eqb h.kind BEGIN_REQUEST) (λ k. by_test (eqb h.content 8) (λ m. simp (k, m)) (λ m. simp (k, m))) (λ k. simp k)
 
   opens_no_data : (id : ℕ) (b : BeginBody) (role : Role) (f : Frame) → is_data (opens st store id b role f).event ≡ false

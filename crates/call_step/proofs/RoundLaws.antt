@@ -1,7 +1,8 @@
 -- One round of the loop over a piece, and what it leaves of the piece to come to.
-use Rattle.std.specs.Prelude.{◌≡◌, refl, ℕ, suc, ◌+◌, ◌-◌, ◌≤◌, ◌<◌, Bool, true, false, List, length, take, drop, ltb, if◌then◌else◌}
+use Rattle.std.specs.Prelude.{◌≡◌, refl, ℕ, suc, ◌+◌, ◌-◌, ◌≤◌, ◌<◌, Bool, true, false, List, length, take, drop, ltb, if◌then◌else◌, Ok, Result}
 use Rattle.std.proofs.Common.{sym, ap, ◌∙◌, subst, arith, length-drop, drop-drop, take_all, ltb-true, ltb-false, lt-ltb, le-ltb}
 use Rattle.wire.specs.Test.{◌<?◌, by_test}
+use Rattle.connection.specs.declared.event.Event.{Event as CodeEvent}
 use Rattle.connection.specs.Event.{Event}
 use Rattle.record_reader.specs.Position.{advanced}
 use Rattle.connection.specs.declared.state.Table.{Table}
@@ -17,7 +18,6 @@ use Rattle.connection.specs.declared.answer.Refusal.{Refusal}
 use Rattle.connection.specs.Step.{State, Stepped, state_of, stays, advances, stepped}
 use Rattle.connection.proofs.Laws.Progress.{Fits, fits_admitted, step_advances, step_uses_some, step_uses_no_more}
 use Rattle.call_step.specs.Next.{is_none, is_silent, goes_on_from, after, steps_by, is_due, reached}
-use Rattle.connection.specs.declared.answer.StepResult.{StepResult}
 use Rattle.connection.specs.declared.answer.Stepped.{Stepped as Answer}
 use Rattle.connection.specs.Fits.{Aimed}
 use Rattle.connection.proofs.Laws.ShapeLaws.{shaped, in_shape_lem}
@@ -172,9 +172,9 @@ opened_step t t' f f' is_open g store rest used event is same =
     (sym is) same
 
 -- It was taken in a quick way.
-pub quick_took : (used : ℕ) (t : Table) (f : Frame) (is_open : Bool) (g store piece : List ℕ) (r : Passed) {t' : Table} {f' : Frame} {open' : Bool} {g' store' : List ℕ} {result : StepResult} {used' : ℕ}
+pub quick_took : (used : ℕ) (t : Table) (f : Frame) (is_open : Bool) (g store piece : List ℕ) (r : Passed) {t' : Table} {f' : Frame} {open' : Bool} {g' store' : List ℕ} {result : (Result CodeEvent Refusal)} {used' : ℕ}
     → Due (conn_of t f is_open) store used (length piece) → Passes r t f (take (length piece - used) (drop used piece))
-    → store' ≡ store → g' ≡ g → t' ≡ t → f' ≡ r.frame → open' ≡ is_open → result ≡ StepResult.Event r.event → used' ≡ used + r.used
+    → store' ≡ store → g' ≡ g → t' ≡ t → f' ≡ r.frame → open' ≡ is_open → result ≡ Ok r.event → used' ≡ used + r.used
     → (Took used (state_of (conn_of t f is_open) g) store piece (told_number result) (told_event result) used' (state_of (conn_of t' f' open') g') store') × (Kept store (state_of (conn_of t' f' open') g') store')
 quick_took used t f is_open g store piece r due p es eg et ef eo er eu =
     let rest = take (length piece - used) (drop used piece) in
@@ -189,7 +189,7 @@ quick_took used t f is_open g store piece r due p es eg et ef eo er eu =
     )
 
 -- It was taken in the general way.
-pub step_took : (used : ℕ) (t : Table) (f : Frame) (is_open : Bool) (g store piece : List ℕ) (r : Answer) (g₁ store₁ : List ℕ) {t' : Table} {f' : Frame} {open' : Bool} {g' store' : List ℕ} {result : StepResult} {used' : ℕ}
+pub step_took : (used : ℕ) (t : Table) (f : Frame) (is_open : Bool) (g store piece : List ℕ) (r : Answer) (g₁ store₁ : List ℕ) {t' : Table} {f' : Frame} {open' : Bool} {g' store' : List ℕ} {result : (Result CodeEvent Refusal)} {used' : ℕ}
     → (let rest = take (length piece - used) (drop used piece) in stepped_by r g₁ store₁ ≡ advances (state_of (conn_of t f is_open) g) store rest (advanced f.position rest))
     → in_shape r.conn ≡ true → length store₁ ≡ length store
     → store' ≡ store₁ → g' ≡ g₁ → t' ≡ r.conn.table → f' ≡ r.conn.frame → open' ≡ r.conn.«open» → result ≡ r.result → used' ≡ used + r.used

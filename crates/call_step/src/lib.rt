@@ -20,7 +20,7 @@ ghost use Rattle.call_step.specs.Beside.{steps_beside};
 use conn_check::in_shape;
 use conn_quick::{is_shown, pass_header, show_content};
 use conn_step::take_step;
-use connection::answer::{Refusal, StepResult, Stepped};
+use connection::answer::{Refusal, Stepped};
 use connection::event::Event;
 use connection::request::Shown;
 use connection::sizes::{QUERY, SLOTS, STORE};
@@ -29,7 +29,8 @@ use queue::sizes::WAITS;
 use request_state::show_more;
 use wait_numbers::{keep_waits, waits_fit};
 
-// Whether a step goes on: yes; there is nothing to read; or it is refused.
+// Whether a step goes on: yes; there is nothing to read; or it is refused. (The first two are no refusals: a Result of
+// a bool would not say which is which.)
 #[derive(Clone, Copy)]
 enum StepCheck {
     Read,
@@ -56,61 +57,18 @@ fn check_step(size: usize, fits: bool, open: bool, bytes: usize) -> StepCheck
     StepCheck::Read
 }
 
-fn is_nothing(e: Event) -> bool
-    ensures { result ≡ is_none (event_of e) }
-{
-    match e {
-        Event::Nothing => true,
-        Event::Open {
-            id: _,
-            role: _,
-            keep: _,
-        } => false,
-        Event::Ready { id: _, length: _ } => false,
-        Event::Data {
-            id: _,
-            stream: _,
-            count: _,
-        } => false,
-        Event::End {
-            id: _,
-            stream: _,
-            measure: _,
-        } => false,
-        Event::Abort { id: _ } => false,
-        Event::Refuse { id: _, status: _ } => false,
-        Event::Fault { id: _, fault: _ } => false,
-        Event::Query {
-            max_conns: _,
-            max_reqs: _,
-            mpxs_conns: _,
-        } => false,
-        Event::Unknown { kind: _ } => false,
-        Event::Closed { cause: _ } => false,
-    }
-}
-
 // A step that was not refused and told nothing.
-fn is_silent(res: StepResult) -> bool
+fn is_silent(res: Result<Event, Refusal>) -> bool
     ensures { result ≡ is_silent (told_number res) (told_event res) }
 {
-    match res {
-        StepResult::Event(e) => is_nothing(e),
-        StepResult::Refused(_) => false,
-    }
+    matches!(res, Ok(Event::Nothing))
 }
 
 // Another step follows where the call goes on, the last one was silent, and bytes are left.
-fn is_due(on: bool, res: StepResult, used: usize, bytes: usize) -> bool
+fn is_due(on: bool, res: Result<Event, Refusal>, used: usize, bytes: usize) -> bool
     ensures { result ≡ is_due on (told_number res) (told_event res) used bytes }
 {
-    if !on {
-        return false;
-    }
-    if is_silent(res) {
-        return used < bytes;
-    }
-    false
+    on && is_silent(res) && used < bytes
 }
 
 // The state with these ids, lengths and slots taken, and this frame, is in shape, and so is what waits.
@@ -124,10 +82,7 @@ fn both_fit<'a>(
     ensures { result ≡ (waits_fit SLOTS waits.now occupied 0
         and shape_of ids.now lengths.now occupied f) }
 {
-    if !waits_fit(waits, occupied) {
-        return false;
-    }
-    in_shape(ids, lengths, occupied, f)
+    waits_fit(waits, occupied) && in_shape(ids, lengths, occupied, f)
 }
 
 // A step that is no quick one. If it closes the connection, what waits is dropped.
@@ -169,14 +124,14 @@ fn steps(
     let mut t = c.table;
     let mut f = c.frame;
     let mut open = c.open;
-    let mut result = StepResult::Event(Event::Nothing);
+    let mut result = Ok(Event::Nothing);
     let mut used: usize = 0;
     let n = piece.len();
     let fits = both_fit(&t.ids, &t.lengths, t.occupied, f, waits);
     let check = check_step(store.len(), fits, open, n);
     match check {
         StepCheck::Refused(why) => {
-            result = StepResult::Refused(why);
+            result = Err(why);
         }
         StepCheck::Idle => {}
         StepCheck::Read => {
@@ -184,19 +139,18 @@ fn steps(
             while due && !is_shown(f) {
                 let q = pass_header(t, f, &piece[used..n]);
                 if 0 < q.used {
-                    let event = q.event;
-                    used = used + q.used;
+                    used += q.used;
                     f = q.frame;
-                    result = StepResult::Event(event);
+                    result = Ok(q.event);
                 } else {
                     let conn = Conn {
                         table: t,
                         frame: f,
-                        open: open,
+                        open,
                     };
                     let s = take_and_drop(conn, store, gathered, waits, &piece[used..n]);
                     let after = s.conn;
-                    used = used + s.used;
+                    used += s.used;
                     t = after.table;
                     f = after.frame;
                     open = after.open;
@@ -206,29 +160,27 @@ fn steps(
             }
             if due {
                 let s = show_content(&t.ids, f, &piece[used..n]);
-                let event = s.event;
-                let due_to = s.due;
                 let i = s.slot;
                 let before = Shown {
                     stdin: t.stdin_shown[i],
                     data: t.data_shown[i],
                 };
-                let shown = show_more(due_to, s.used, before);
-                used = used + s.used;
+                let shown = show_more(s.due, s.used, before);
+                used += s.used;
                 f = s.frame;
                 t.stdin_shown[i] = shown.stdin;
                 t.data_shown[i] = shown.data;
-                result = StepResult::Event(event);
+                result = Ok(s.event);
             }
         }
     }
     Stepped {
-        used: used,
-        result: result,
+        used,
+        result,
         conn: Conn {
             table: t,
             frame: f,
-            open: open,
+            open,
         },
     }
 }

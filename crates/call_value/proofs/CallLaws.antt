@@ -1,5 +1,5 @@
 -- What holds of the calls that read parameters, for every state, store, id, name, fallback and number.
-use Rattle.std.specs.Prelude.{ℕ, ◌+◌, ◌≤◌, not, ◌↔◌, length, if◌then◌else◌}
+use Rattle.std.specs.Prelude.{ℕ, ◌+◌, ◌≤◌, not, ◌↔◌, length, if◌then◌else◌, Some, None, Option}
 use Rattle.std.proofs.Math.Path.{◌≡◌, refl, subst}
 use Rattle.std.proofs.Common.{sym, ◌∙◌, arith, length-take, ne_eqb}
 use Rattle.std.proofs.Math.Bool.{true, false}
@@ -10,7 +10,6 @@ use Rattle.pairs.specs.Pair.{value_of}
 use Rattle.pair_list.specs.List.{first_named, pair_number}
 use Rattle.pair_list.proofs.ListLaws.{LiesIn, number_within}
 use Rattle.pairs.specs.declared.pair.Pair.{Pair}
-use Rattle.pair_list.specs.declared.Found.{Found}
 use Rattle.connection.specs.declared.state.Conn.{Conn}
 use Rattle.connection.specs.Request.{list_of}
 use Rattle.connection.specs.Sizes.{STORE}
@@ -40,9 +39,9 @@ module _ (c : Conn) (store : List ℕ) (id : ℕ) (name : List ℕ) where
   says : Says (source c store id name)
   says = rw (source_listed c store id name) (by_test ((listing c store id).refusal =? 0) (λ t. rw t (found (first_named part name) refl)) (λ t. rw t (refused t)))
     where
-      found : (f : Found) → first_named part name ≡ f → Says (Of.on_found f (λ p. Of.FromStore) Of.FromFallback)
-      found (Found.At p) e = λ f g. value_listed c store id name f ∙ simp e (sym (value_listed c store id name g ∙ simp e))
-      found Found.Nothing e = λ fallback. value_listed c store id name fallback ∙ simp e
+      found : (f : Option Pair) → first_named part name ≡ f → Says (Of.on_found f (λ p. Of.FromStore) Of.FromFallback)
+      found (Some p) e = λ f g. value_listed c store id name f ∙ simp e (sym (value_listed c store id name g ∙ simp e))
+      found None e = λ fallback. value_listed c store id name fallback ∙ simp e
 
       refused : ((listing c store id).refusal =? 0) ≡ false → (fallback : List ℕ) → value c store id name fallback ≡ fallback
       refused t fallback = value_listed c store id name fallback ∙ simp (refused_empty c store id t, first_in_none)
@@ -67,7 +66,7 @@ module _ (c : Conn) (store : List ℕ) (id : ℕ) (name : List ℕ) where
 
   -- it is then the value of the first pair of that name in the request's list.
   pub found_value : source c store id name ≡ Of.FromStore
-      → (p : Pair) × (first_named (list_in c store id) name ≡ Found.At p) × ((fallback : List ℕ) → value c store id name fallback ≡ value_of (list_in c store id) p)
+      → (p : Pair) × (first_named (list_in c store id) name ≡ Some p) × ((fallback : List ℕ) → value c store id name fallback ≡ value_of (list_in c store id) p)
   unfolding source Of.source_in value Of.value_in
   found_value e =
       by_test (lent_refusal c store id =? 0)
@@ -77,10 +76,10 @@ module _ (c : Conn) (store : List ℕ) (id : ℕ) (name : List ℕ) where
       (λ t. let z : ◌≡◌ {A = ℕ} 0 1 = cc (simp t at e) in absurd (omega arith))
     where
       at_pair : (lent_refusal c store id =? 0) ≡ true → Of.no_list (request_at c.table (slot_of c id)) ≡ false
-          → (f : Found) → first_named (list_in c store id) name ≡ f → Of.on_found f (λ p. Of.FromStore) Of.FromFallback ≡ Of.FromStore
-          → (p : Pair) × (first_named (list_in c store id) name ≡ Found.At p) × ((fallback : List ℕ) → value c store id name fallback ≡ value_of (list_in c store id) p)
-      at_pair t u (Found.At p) h w = (p, h, λ fallback. simp (t, u, h))
-      at_pair t u Found.Nothing h w = let z : ◌≡◌ {A = ℕ} 0 1 = cc in absurd (omega arith)
+          → (f : Option Pair) → first_named (list_in c store id) name ≡ f → Of.on_found f (λ p. Of.FromStore) Of.FromFallback ≡ Of.FromStore
+          → (p : Pair) × (first_named (list_in c store id) name ≡ Some p) × ((fallback : List ℕ) → value c store id name fallback ≡ value_of (list_in c store id) p)
+      at_pair t u (Some p) h w = (p, h, λ fallback. simp (t, u, h))
+      at_pair t u None h w = let z : ◌≡◌ {A = ℕ} 0 1 = cc in absurd (omega arith)
 
   -- where it is the fallback's, value is the fallback, for every one.
   pub fallback_is_value : source c store id name ≡ Of.FromFallback → (fallback : List ℕ) → value c store id name fallback ≡ fallback
@@ -132,9 +131,9 @@ module _ (c : Conn) (store : List ℕ) (id : ℕ) where
   pub sister_refusal : (name : List ℕ) (n : ℕ) → (source c store id name ≡ Of.SourceRefused n) ↔ ((n ≡ read_refusal c store id) × (n ≡ 0 → ⊥))
   sister_refusal name n = (λ e. told (sym (source_listed c store id name) ∙ e), λ r. source_listed c store id name ∙ refuses r.0 r.1)
     where
-      found : (f : Found) → Of.on_found f (λ p. Of.FromStore) Of.FromFallback ≡ Of.SourceRefused n → (n ≡ read_refusal c store id) × (n ≡ 0 → ⊥)
-      found (Found.At p) w = let z : ◌≡◌ {A = ℕ} 0 1 = cc in absurd (omega arith)
-      found Found.Nothing w = let z : ◌≡◌ {A = ℕ} 0 1 = cc in absurd (omega arith)
+      found : (f : Option Pair) → Of.on_found f (λ p. Of.FromStore) Of.FromFallback ≡ Of.SourceRefused n → (n ≡ read_refusal c store id) × (n ≡ 0 → ⊥)
+      found (Some p) w = let z : ◌≡◌ {A = ℕ} 0 1 = cc in absurd (omega arith)
+      found None w = let z : ◌≡◌ {A = ℕ} 0 1 = cc in absurd (omega arith)
 
       told : answer name ≡ Of.SourceRefused n → (n ≡ read_refusal c store id) × (n ≡ 0 → ⊥)
       told q =
@@ -165,9 +164,9 @@ module _ (c : Conn) (store : List ℕ) (id : ℕ) where
       (λ u. found (pair_number (list_in c store id) k) refl (simp (t, u) at e)))
       (λ t. let z : ◌≡◌ {A = ℕ} 0 1 = cc (simp t at e) in absurd (omega arith))
     where
-      found : (f : Found) → pair_number (list_in c store id) k ≡ f → Of.on_found f Of.PairIs (Of.PairRefused 7) ≡ Of.PairIs p → LiesIn (list_in c store id) p
-      found (Found.At q) h w = let z : q ≡ p = cc in subst (LiesIn (list_in c store id)) z (number_within (list_in c store id) k q h)
-      found Found.Nothing h w = let z : ◌≡◌ {A = ℕ} 0 1 = cc in absurd (omega arith)
+      found : (f : Option Pair) → pair_number (list_in c store id) k ≡ f → Of.on_found f Of.PairIs (Of.PairRefused 7) ≡ Of.PairIs p → LiesIn (list_in c store id) p
+      found (Some q) h w = let z : q ≡ p = cc in subst (LiesIn (list_in c store id)) z (number_within (list_in c store id) k q h)
+      found None h w = let z : ◌≡◌ {A = ℕ} 0 1 = cc in absurd (omega arith)
 
   -- In numbers: the value begins where the name ends, and ends within the request's length.
   pub pair_in_length : (k : ℕ) (p : Pair) → pair_at_number c store id k ≡ Of.PairIs p

@@ -1,19 +1,18 @@
 -- Value's answer lies in the store exactly when the sister says Store.
-use Rattle.std.specs.Prelude.{ℕ, ◌+◌, ◌≡◌, refl, Bool, true, false, List}
-use Rattle.std.proofs.Math.Option.{Option, none, some}
+use Rattle.std.specs.Prelude.{ℕ, ◌+◌, ◌≡◌, refl, Bool, true, false, List, Some, None, Option}
 use Rattle.wire.specs.Test.{◌=?◌, by_test}
 use Rattle.pair_list.specs.List.{first_named}
-use Rattle.pair_list.specs.declared.Found.{Found}
 use Rattle.connection.specs.declared.state.Conn.{Conn}
 use Rattle.connection.specs.RequestCalls as Of
 use Rattle.connection.specs.Calls.{source}
 use Rattle.call_list.specs.Listing.{part_of, listing}
 use Rattle.call_list.specs.Part.{value_place}
 use Rattle.call_list.proofs.Laws.{first_in_none, refused_empty, source_listed}
+use Rattle.pairs.specs.declared.pair.Pair.{Pair}
 
 abbrev pub has_place : Option ℕ → Bool
-has_place none = false
-has_place (some k) = true
+has_place None = false
+has_place (Some k) = true
 
 abbrev pub is_store : Of.Source → Bool
 is_store Of.FromStore = true
@@ -27,6 +26,6 @@ place_is_stores c store id name =
     (λ e. rw (source_listed c store id name, e) (by_found (first_named (part_of store (listing c store id)) name)))
     (λ e. rw (source_listed c store id name, e, refused_empty c store id e, first_in_none name) refl)
   where
-    by_found : (f : Found) → has_place (Of.on_found f (λ p. some ((listing c store id).from + p.value)) none) ≡ is_store (Of.on_found f (λ p. Of.FromStore) Of.FromFallback)
-    by_found (Found.At p) = refl
-    by_found Found.Nothing = refl
+    by_found : (f : Option Pair) → has_place (Of.on_found f (λ p. Some ((listing c store id).from + p.value)) None) ≡ is_store (Of.on_found f (λ p. Of.FromStore) Of.FromFallback)
+    by_found (Some p) = refl
+    by_found None = refl

@@ -1,6 +1,6 @@
 -- What holds of reading on: it goes through the pairs that have a number, in their order, and stays where there is
 -- none.
-use Rattle.std.specs.Prelude.{ℕ, zero, suc, ◌-◌, ◌≤◌, ◌<◌, ◌≡◌, refl, List, [], length, if◌then◌else◌}
+use Rattle.std.specs.Prelude.{ℕ, zero, suc, ◌-◌, ◌≤◌, ◌<◌, ◌≡◌, refl, List, [], length, if◌then◌else◌, None}
 use Rattle.std.proofs.Common.{sym, ap, ◌∙◌, arith, ne_eqb}
 use Rattle.wire.specs.Test.{◌=?◌}
 use Rattle.pairs.specs.Pair.{pair_at}
@@ -9,7 +9,6 @@ use Rattle.pair_list.specs.List.{on_read, and_pairs, pairs_from, number_in, pair
 use Rattle.pair_list.proofs.ListLaws.{ended, pairs_step, number_next}
 use Rattle.pairs.specs.declared.pair.Pair.{Pair}
 use Rattle.pairs.specs.declared.pair.Read.{Read}
-use Rattle.pair_list.specs.declared.Found.{Found}
 use Rattle.connection.specs.declared.state.Conn.{Conn}
 use Rattle.connection.specs.RequestCalls as Of
 use Rattle.connection.specs.Calls.{pair_at_number, walk}
@@ -49,7 +48,7 @@ after_from s zero place = rw (pairs_step s place) (go (pair_at s place))
     go (Read.Malformed m) = refl
 after_from s (suc k) place = go (λ next. after_from s k next) (pair_at s place) refl
   where
-    none : (r : Read) → pair_at s place ≡ r → past_at s place ≡ place → found_by r ≡ Found.Nothing → number_in (pairs_from s place).pairs (suc k) ≡ Found.Nothing
+    none : (r : Read) → pair_at s place ≡ r → past_at s place ≡ place → found_by r ≡ None → number_in (pairs_from s place).pairs (suc k) ≡ None
         → found_by (pair_at s (place_after s k (past_at s place))) ≡ number_in (pairs_from s place).pairs (suc k)
     none r e st f n = ap (λ (m : ℕ). found_by (pair_at s (place_after s k m))) st ∙ ap (λ (m : ℕ). found_by (pair_at s m)) (stays s k place st) ∙ ap found_by e ∙ f ∙ sym n
 
@@ -78,10 +77,10 @@ pub walk_number : (w : Walk) (k : ℕ) → w.place ≡ 0 → found_by (pair_at (
 walk_number w k e = rw (past_pairs_lem k w, e) (read_on_number w.list.now k)
 
 -- Of the walk itself: where it reads no pair, at the end or before a malformed one, it stays.
-pub walk_stays : (w : Walk) → found_by (pair_at w.list.now w.place) ≡ Found.Nothing → past_pair w ≡ w
+pub walk_stays : (w : Walk) → found_by (pair_at w.list.now w.place) ≡ None → past_pair w ≡ w
 walk_stays w e = ap (λ (n : ℕ). record { list = w.list; place = n; refusal = w.refusal }) (go (pair_at w.list.now w.place) refl e)
   where
-    go : (r : Read) → pair_at w.list.now w.place ≡ r → found_by r ≡ Found.Nothing → past_at w.list.now w.place ≡ w.place
+    go : (r : Read) → pair_at w.list.now w.place ≡ r → found_by r ≡ None → past_at w.list.now w.place ≡ w.place
     go (Read.Pair p next) q f = let z : ◌≡◌ {A = ℕ} 0 1 = cc in absurd (omega arith)
     go Read.End q f = end_stays w.list.now w.place q
     go (Read.Malformed m) q f = malformed_stays w.list.now w.place m q

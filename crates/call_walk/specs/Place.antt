@@ -1,15 +1,15 @@
 -- A place in a list of pairs, and the place past the pair there.
-use Rattle.std.specs.Prelude.{ℕ, zero, suc, List, if◌then◌else◌}
+use Rattle.std.specs.Prelude.{ℕ, zero, suc, List, if◌then◌else◌, Some, None, Ok, Err, Option, Result}
 use Rattle.pairs.specs.Pair.{pair_at}
 use Rattle.pair_list.specs.List.{on_read}
 use Rattle.pairs.specs.declared.pair.Read.{Read}
-use Rattle.pair_list.specs.declared.Found.{Found}
 use Rattle.wire.specs.Test.{◌=?◌}
 use Rattle.connection.specs.declared.state.Conn.{Conn}
 use Rattle.connection.specs.Codes.{refusal_number}
 use Rattle.connection.specs.Calls.{walk}
 use Rattle.call_walk.specs.declared.Walk.{Walk}
-use Rattle.call_walk.specs.declared.ReadFrom.{ReadFrom}
+use Rattle.connection.specs.declared.answer.Refusal.{Refusal}
+use Rattle.pairs.specs.declared.pair.Pair.{Pair}
 
 -- The place past the pair at a place; the same place at the end and before a malformed pair.
 unfoldable pub past_at : List ℕ → ℕ → ℕ
@@ -21,8 +21,8 @@ place_after s zero place = place
 place_after s (suc k) place = place_after s k (past_at s place)
 
 -- the pair that was read, if one was
-abbrev pub found_by : Read → Found
-found_by r = on_read r (λ p next. Found.At p) (λ e. Found.Nothing)
+abbrev pub found_by : Read → Option Pair
+found_by r = on_read r (λ p next. Some p) (λ e. None)
 
 -- The walk past the pair at its place.
 abbrev pub past_pair : Walk → Walk
@@ -43,8 +43,6 @@ read_from c store id place =
     if (walk c store id).refusal =? 0 then ReadIs (pair_at (walk c store id).list place) else ReadRefused (walk c store id).refusal
 
 -- what the code answers, read in the rules' numbers
-abbrev pub read_by : ReadFrom → ReadAnswer
-read_by (ReadFrom.Pair p next) = ReadIs (Read.Pair p next)
-read_by ReadFrom.End = ReadIs Read.End
-read_by (ReadFrom.Malformed place) = ReadIs (Read.Malformed place)
-read_by (ReadFrom.Refused r) = ReadRefused (refusal_number r)
+abbrev pub read_by : Result Read Refusal → ReadAnswer
+read_by (Ok read) = ReadIs read
+read_by (Err r) = ReadRefused (refusal_number r)

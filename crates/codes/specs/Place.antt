@@ -1,8 +1,7 @@
 -- A cause from its number and its place.
-use Rattle.std.specs.Prelude.{ℕ}
+use Rattle.std.specs.Prelude.{ℕ, Some, None, Option}
 use Rattle.machine.specs.Cause.{Cause, Plain, At}
-use Rattle.codes.specs.declared.Place.{Place}
 
-abbrev pub cause_of : ℕ → Place → Cause
-cause_of n Place.Nowhere = Plain n
-cause_of n (Place.At place) = At n place
+abbrev pub cause_of : ℕ → Option ℕ → Cause
+cause_of n None = Plain n
+cause_of n (Some place) = At n place

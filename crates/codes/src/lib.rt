@@ -57,7 +57,7 @@ pub fn fault_number(fault: Fault) -> u8
         Fault::OutOfTurn => 22,
         Fault::WrongType => 23,
         Fault::TooLong => 24,
-        Fault::Malformed { at: _ } => 25,
+        Fault::Malformed { .. } => 25,
         Fault::Repeated => 26,
     }
 }
@@ -69,38 +69,25 @@ pub fn close_number(close: Close) -> u8
         Close::Version => 11,
         Close::BeginLength => 12,
         Close::QueryLength => 13,
-        Close::QueryMalformed { at: _ } => 14,
+        Close::QueryMalformed { .. } => 14,
     }
 }
 
-// The place that a fault or a close carries, if it does.
-#[derive(Clone, Copy)]
-pub enum Place {
-    Nowhere,
-    At(u16),
-}
-
-pub fn fault_place(fault: Fault) -> Place
+pub fn fault_place(fault: Fault) -> Option<u16>
     ensures { cause_of (fault_number fault) result ≡ fault_cause fault }
 {
     match fault {
-        Fault::BeginAgain => Place::Nowhere,
-        Fault::OutOfTurn => Place::Nowhere,
-        Fault::WrongType => Place::Nowhere,
-        Fault::TooLong => Place::Nowhere,
-        Fault::Malformed { at } => Place::At(at),
-        Fault::Repeated => Place::Nowhere,
+        Fault::Malformed { at } => Some(at),
+        _ => None,
     }
 }
 
-pub fn close_place(close: Close) -> Place
+pub fn close_place(close: Close) -> Option<u16>
     ensures { cause_of (close_number close) result ≡ close_cause close }
 {
     match close {
-        Close::Version => Place::Nowhere,
-        Close::BeginLength => Place::Nowhere,
-        Close::QueryLength => Place::Nowhere,
-        Close::QueryMalformed { at } => Place::At(at),
+        Close::QueryMalformed { at } => Some(at),
+        _ => None,
     }
 }
 

@@ -22,71 +22,61 @@ use request_state::open_request;
 use wire::copy_into;
 
 // A known role: the request is opened in the lowest-numbered free slot, if there is one.
+#[tactic(auto, unfolding(connection::specs::Step::opens))]
 fn open_in(free: usize, id: u16, role: Role, b: BeginBody, f: Frame) -> Decision
     ensures { (t : Table) (fr : Frame) (g s : List ℕ) → free_slot_of t ≡ free → applied result t g s
         ≡ opens (open_state t fr g) s id b role f }
 {
-    let keep = b.keep;
     if free < SLOTS {
-        let request = open_request(id, role, keep);
+        let keep = b.keep;
         return Decision {
-            change: Change::Take(free, request),
+            change: Change::Take(free, open_request(id, role, keep)),
             frame: f,
-            event: Event::Open {
-                id: id,
-                role: role,
-                keep: keep,
-            },
+            event: Event::Open { id, role, keep },
         };
     }
     only_frame(
         f,
         Event::Refuse {
-            id: id,
+            id,
             status: Status::Overloaded,
         },
     )
 }
 
 // A BEGIN_REQUEST body that is whole.
+#[tactic(auto, unfolding(connection::specs::Step::begun))]
 fn begin(free: usize, id: u16, b: BeginBody, f: Frame) -> Decision
     ensures { (t : Table) (fr : Frame) (g s : List ℕ) → free_slot_of t ≡ free → applied result t g s
         ≡ begun (open_state t fr g) s id b f }
 {
-    let role = b.role;
-    if role == names::RESPONDER {
-        return open_in(free, id, Role::Responder, b, f);
+    match b.role {
+        names::RESPONDER => open_in(free, id, Role::Responder, b, f),
+        names::AUTHORIZER => open_in(free, id, Role::Authorizer, b, f),
+        names::FILTER => open_in(free, id, Role::Filter, b, f),
+        _ => only_frame(
+            f,
+            Event::Refuse {
+                id,
+                status: Status::UnknownRole,
+            },
+        ),
     }
-    if role == names::AUTHORIZER {
-        return open_in(free, id, Role::Authorizer, b, f);
-    }
-    if role == names::FILTER {
-        return open_in(free, id, Role::Filter, b, f);
-    }
-    only_frame(
-        f,
-        Event::Refuse {
-            id: id,
-            status: Status::UnknownRole,
-        },
-    )
 }
 
 // Bytes of a BEGIN_REQUEST body.
+#[tactic(auto, unfolding(connection::specs::Step::of_begin))]
 pub fn of_begin(f: Frame, free: usize, id: u16, bytes: &[u8], p: Position) -> Decision
     requires { (f.gathered ≤ QUERY) × (length bytes.now ≤ 65535) }
     ensures { (t : Table) (g s : List ℕ) → free_slot_of t ≡ free → applied result t g s
         ≡ of_begin (open_state t f g) s id bytes.now p }
 {
-    let n = f.gathered;
     let mut body = f.body;
-    copy_into(&mut body, n, bytes);
-    let left = p.content;
-    if left == 0 {
-        let b = read_begin_body(body);
+    copy_into(&mut body, f.gathered, bytes);
+    if p.content == 0 {
         let none = frame_within(f, p, 0, [0; 8]);
-        return begin(free, id, b, none);
+        return begin(free, id, read_begin_body(body), none);
     }
-    let more = frame_within(f, p, n + bytes.len(), body);
+    let more = frame_within(f, p, f.gathered + bytes.len(), body);
     only_frame(more, Event::Nothing)
 }

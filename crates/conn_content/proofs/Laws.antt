@@ -13,7 +13,8 @@ use Rattle.connection.specs.Request.{counts_on}
 use Rattle.connection.specs.Slots.{request_at, put_request}
 use Rattle.connection.proofs.Laws.SlotsLaws.{area_put_same}
 use Rattle.connection.specs.Fits.{Aimed}
-use Rattle.connection.specs.Step.{Left, open_with, frame_within, of_request}
+use Rattle.connection.specs.Sizes.{SLOTS}
+use Rattle.connection.specs.Step.{State, Left, open_with, frame_within, of_request, on_target}
 use Rattle.connection.specs.Decision.{open_state}
 
 -- a part of a list that ends where the list ends
@@ -48,3 +49,12 @@ stream_shown Stream.Data t f g s i bytes p = rw (area_put_same s i)
 -- what the shape says of a target that is known
 pub aimed_at : (target known : Target) (t : Table) (gathered left : ℕ) → Aimed target t gathered left → target ≡ known → Aimed known t gathered left
 aimed_at target known t gathered left a e = subst (λ (w : Target). Aimed w t gathered left) e a
+
+-- PARAMS content is due to one of the slots
+pub params_low : (target : Target) (i : ℕ) (t : Table) (gathered left : ℕ) → Aimed target t gathered left → target ≡ Target.Params i → i < SLOTS
+params_low target i t gathered left a e = (aimed_at target (Target.Params i) t gathered left a e).slot.low
+
+-- what a target that is known does with the bytes
+pub on_known : (target known : Target) (st : State) (store bytes : List ℕ) (p : Position) → target ≡ known
+    → on_target known st store bytes p ≡ on_target target st store bytes p
+on_known target known st store bytes p e = ap (λ (w : Target). on_target w st store bytes p) (sym e)

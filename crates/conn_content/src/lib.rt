@@ -25,42 +25,36 @@ use record_reader::Position;
 use request_input::{count_shown, grow, stream_due};
 use slot_table::request_at;
 use slot_word::lowest_free;
-use wire::{copy_into, least};
+use wire::copy_into;
 
 // Bytes of a query.
+#[tactic(auto, unfolding(connection::specs::Step::of_query))]
 fn of_query(f: Frame, gathered: &mut [u8], bytes: &[u8], p: Position) -> Decision
     requires { (f.gathered ≤ QUERY) × (length bytes.now ≤ 65535) × (length gathered.old ≤ 65535) }
     ensures { (t : Table) (s : List ℕ) → applied result t gathered.new s
         ≡ of_query (open_state t f gathered.old) s bytes.now p }
 {
-    let n = f.gathered;
-    copy_into(gathered, n, bytes);
-    let m = n + bytes.len();
-    let body = f.body;
-    let left = p.content;
-    if left == 0 {
-        let none = frame_within(f, p, 0, body);
-        let z: usize = 0;
-        let e = least(m, gathered.len());
-        return on_query(&gathered[z..e], none);
+    copy_into(gathered, f.gathered, bytes);
+    let length = f.gathered + bytes.len();
+    if p.content == 0 {
+        let none = frame_within(f, p, 0, f.body);
+        return on_query(&gathered[..gathered.len().min(length)], none);
     }
-    let more = frame_within(f, p, m, body);
+    let more = frame_within(f, p, length, f.body);
     only_frame(more, Event::Nothing)
 }
 
 // PARAMS content for the request in slot i; its own area is lent.
+#[tactic(auto, unfolding(connection::specs::Step::of_request))]
 fn of_params(area: &mut [u8], r: Request, i: usize, f: Frame, bytes: &[u8], p: Position) -> Decision
     ensures { (t : Table) (g s : List ℕ) → request_at t i ≡ r → area_at s i ≡ area.old
         → applied result t g (put_area s i area.new)
         ≡ of_request (open_state t f g) s Due.Params i bytes.now p }
 {
     let grown = grow(r, area, bytes);
-    let gathered = f.gathered;
-    let body = f.body;
-    let frame = frame_within(f, p, gathered, body);
     Decision {
         change: Change::Put(i, grown),
-        frame: frame,
+        frame: frame_within(f, p, f.gathered, f.body),
         event: Event::Nothing,
     }
 }
@@ -70,17 +64,13 @@ fn of_stream(r: Request, i: usize, f: Frame, stream: Stream, n: usize, p: Positi
     ensures { (t : Table) (g s bytes : List ℕ) → request_at t i ≡ r → length bytes ≡ n
         → applied result t g s ≡ of_request (open_state t f g) s (stream_due stream) i bytes p }
 {
-    let due = stream_due(stream);
-    let counted = count_shown(r, due, n);
-    let gathered = f.gathered;
-    let body = f.body;
-    let frame = frame_within(f, p, gathered, body);
+    let counted = count_shown(r, stream_due(stream), n);
     Decision {
         change: Change::Put(i, counted),
-        frame: frame,
+        frame: frame_within(f, p, f.gathered, f.body),
         event: Event::Data {
             id: r.id,
-            stream: stream,
+            stream,
             count: n,
         },
     }
@@ -91,10 +81,7 @@ fn skipped(f: Frame, p: Position) -> Decision
     ensures { (t : Table) (g s : List ℕ) → applied result t g s
         ≡ reads (open_state t f g) s (frame_within f p f.gathered f.body) (event_of Event.Nothing) }
 {
-    let gathered = f.gathered;
-    let body = f.body;
-    let frame = frame_within(f, p, gathered, body);
-    only_frame(frame, Event::Nothing)
+    only_frame(frame_within(f, p, f.gathered, f.body), Event::Nothing)
 }
 
 // Content bytes of the record being read; p is the position after them.
@@ -111,8 +98,7 @@ pub fn feed(
     ensures { applied result t gathered.new store.new
         ≡ on_target f.target (open_state t f gathered.old) store.old bytes.now p }
 {
-    let target = f.target;
-    match target {
+    match f.target {
         Target::Skip => skipped(f, p),
         Target::Begin(id) => {
             let free = lowest_free(t.occupied) as usize;
@@ -123,8 +109,7 @@ pub fn feed(
             let slot = i as usize;
             let r = request_at(t, slot);
             let a = slot * AREA;
-            let e = a + AREA;
-            of_params(&mut store[a..e], r, slot, f, bytes, p)
+            of_params(&mut store[a..a + AREA], r, slot, f, bytes, p)
         }
         Target::Stdin(i) => {
             let slot = i as usize;

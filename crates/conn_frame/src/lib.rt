@@ -44,68 +44,59 @@ pub fn frame_after(h: Header, target: Target) -> Frame
     ensures { result ≡ frame_after h target }
 {
     let content = h.content as usize;
-    let t = target_if(content, target);
     Frame {
         position: Position {
-            content: content,
+            content,
             padding: h.padding as usize,
             held: 0,
             header: [0; 8],
         },
-        target: t,
+        target: target_if(content, target),
         gathered: 0,
         body: [0; 8],
     }
 }
 
 // The frame within content, with so many bytes of a body gathered.
-pub fn frame_within(f: Frame, p: Position, n: usize, body: [u8; 8]) -> Frame
-    ensures { result ≡ frame_within f p n body }
+pub fn frame_within(f: Frame, position: Position, gathered: usize, body: [u8; 8]) -> Frame
+    ensures { result ≡ frame_within f position gathered body }
 {
-    let old = f.target;
-    let target = target_if(p.content, old);
     Frame {
-        position: p,
-        target: target,
-        gathered: n,
-        body: body,
+        position,
+        target: target_if(position.content, f.target),
+        gathered,
+        body,
     }
 }
 
 // The frame with another position, all else as it was.
-pub fn frame_at(f: Frame, p: Position) -> Frame
-    ensures { result ≡ frame_at f p }
+pub fn frame_at(f: Frame, position: Position) -> Frame
+    ensures { result ≡ frame_at f position }
 {
-    let target = f.target;
-    let body = f.body;
-    Frame {
-        position: p,
-        target: target,
-        gathered: f.gathered,
-        body: body,
-    }
+    Frame { position, ..f }
 }
 
 // Nothing but the frame changes.
-pub fn only_frame(f: Frame, e: Event) -> Decision
-    ensures { result ≡ only_frame f e }
+pub fn only_frame(frame: Frame, event: Event) -> Decision
+    ensures { result ≡ only_frame frame event }
 {
     Decision {
         change: Change::Keep,
-        frame: f,
-        event: e,
+        frame,
+        event,
     }
 }
 
 // The connection closes.
-pub fn closing(why: Close) -> Decision
+#[tactic(auto, unfolding(connection::specs::Step::closes))]
+pub fn closing(cause: Close) -> Decision
     ensures { (t : Table) (fr : Frame) (g s : List ℕ) → applied result t g s
-        ≡ closes (open_state t fr g) s (close_cause why) }
+        ≡ closes (open_state t fr g) s (close_cause cause) }
 {
     Decision {
         change: Change::Close,
         frame: no_frame(),
-        event: Event::Closed { cause: why },
+        event: Event::Closed { cause },
     }
 }
 

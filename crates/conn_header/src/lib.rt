@@ -15,13 +15,14 @@ use connection::decision::{Change, Decision};
 use connection::event::{Close, Event};
 use connection::request::{Due, Request};
 use connection::sizes::AREA;
-use connection::state::{Slot, Table, Target};
+use connection::state::{Table, Target};
 use record::header::Header;
 use record::names;
 use request_header::on_header;
 use slot_table::{find_from, request_at};
 
 // Rule 4: a header whose id is not active.
+#[tactic(auto, unfolding(connection::specs::Step::on_inactive))]
 fn on_inactive(h: Header) -> Decision
     ensures { (t : Table) (fr : Frame) (g s : List ℕ) → applied result t g s ≡ on_inactive (open_state t fr g) s h }
 {
@@ -48,25 +49,22 @@ fn due_to(due: Due, i: usize) -> Target
 }
 
 // Rules 5 to 10: the request in slot i decides; its own area is lent.
+#[tactic(auto, unfolding(connection::specs::Step::on_active))]
 fn on_active(area: &mut [u8], r: Request, i: usize, h: Header) -> Decision
     requires { i < SLOTS }
     ensures { (t : Table) (fr : Frame) (g s : List ℕ) → request_at t i ≡ r → area_at s i ≡ area.old
         → applied result t g (put_area s i area.new) ≡ on_active (open_state t fr g) s h i }
 {
     let ruling = on_header(r, area, h.kind, h.content);
-    let due = ruling.due;
-    let request = ruling.request;
-    let event = ruling.event;
-    let target = due_to(due, i);
-    let frame = frame_after(h, target);
     Decision {
-        change: Change::Put(i, request),
-        frame: frame,
-        event: event,
+        change: Change::Put(i, ruling.request),
+        frame: frame_after(h, due_to(ruling.due, i)),
+        event: ruling.event,
     }
 }
 
 // Rules 1 to 10.
+#[tactic(auto, unfolding(connection::specs::Step::judged))]
 pub fn judge(t: Table, store: &mut [u8], h: Header) -> Decision
     requires { length store.old ≡ STORE }
     ensures { (fr : Frame) (g : List ℕ) → applied result t g store.new
@@ -78,12 +76,10 @@ pub fn judge(t: Table, store: &mut [u8], h: Header) -> Decision
     if h.id == 0 {
         return on_management(h);
     }
-    let slot = find_from(&t.ids, t.occupied, h.id, 0);
-    let Slot::At(i) = slot else {
+    let Some(i) = find_from(&t.ids, t.occupied, h.id, 0) else {
         return on_inactive(h);
     };
     let r = request_at(t, i);
     let a = i * AREA;
-    let e = a + AREA;
-    on_active(&mut store[a..e], r, i, h)
+    on_active(&mut store[a..a + AREA], r, i, h)
 }

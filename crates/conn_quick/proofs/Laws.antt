@@ -1,5 +1,6 @@
 -- The quick ways are steps.
-use Rattle.std.specs.Prelude.{ℕ, ◌+◌, ◌≤◌, ◌<◌, min, ◌≡◌, refl, true, false, List, length, take, drop, get_or, ltb, eqb}
+use Rattle.connection.specs.Slots.{Slot}
+use Rattle.std.specs.Prelude.{ℕ, ◌+◌, ◌≤◌, ◌<◌, min, ◌≡◌, refl, true, false, List, length, take, drop, get_or, ltb, eqb, Some, None}
 use Rattle.std.proofs.Common.{sym, ap, ◌∙◌, arith, length-take-le, get_or-take, ltb-true, leb-true, eqb-true, ne_eqb, eq-eqb}
 use Rattle.std.proofs.Math.ListN.{get_or-append}
 use Rattle.std.proofs.lemmas.List.{set-get_or}
@@ -15,7 +16,6 @@ use Rattle.connection.specs.declared.event.Stream.{Stream}
 use Rattle.connection.specs.declared.request.Turn.{Turn}
 use Rattle.connection.specs.declared.request.Due.{Due}
 use Rattle.connection.specs.declared.state.Table.{Table}
-use Rattle.connection.specs.declared.state.Slot.{Slot}
 use Rattle.connection.specs.declared.state.Target.{Target}
 use Rattle.connection.specs.declared.state.Frame.{Frame}
 use Rattle.connection.specs.declared.event.Event.{Event as CodeEvent}
@@ -141,7 +141,7 @@ header_read p piece e =
     ∙ ap (λ (a : Header). record { used = 8; phase = Phase.Whole a; position = after_header a }) (header_first p.header piece h.3)
 
 -- where its content goes, its request being in slot i
-pub headed_at : (t : Table) (h : Header) (i : ℕ) → h.version ≡ VERSION → (h.id ≡ 0 → ⊥) → (h.content ≡ 0 → ⊥) → find t h.id ≡ Slot.At i
+pub headed_at : (t : Table) (h : Header) (i : ℕ) → h.version ≡ VERSION → (h.id ≡ 0 → ⊥) → (h.content ≡ 0 → ⊥) → find t h.id ≡ Some i
     → headed_to t h ≡ goes_to (get_or t.standings i no_standing) h.kind i
 unfolding headed_to request_at
 headed_at t h i v d n e = simp (eq-eqb h.version VERSION v, ne_eqb h.id 0 d, ne_eqb h.content 0 n, e)
@@ -158,7 +158,7 @@ record Streams (t : Table) (h : Header) (i : ℕ) : Type 0 where
   version : eqb h.version VERSION ≡ true
   id : eqb h.id 0 ≡ false
   content : eqb h.content 0 ≡ false
-  slot : find t h.id ≡ Slot.At i
+  slot : find t h.id ≡ Some i
   live : is_spent (request_at t i).state.life ≡ false
   kind : h.kind ≡ turn_type (request_at t i).state.turn
   turn : is_stream (stream_to (request_at t i).state.turn i) ≡ true
@@ -179,8 +179,8 @@ streams t h e =
     found : eqb h.version VERSION ≡ true → eqb h.id 0 ≡ false → eqb h.content 0 ≡ false
         → (w : Slot) → find t h.id ≡ w → is_stream (on_slot w (λ i. goes_to (standing_of (request_at t i).state) h.kind i) Target.Skip) ≡ true
         → (i : ℕ) × Streams t h i
-    found a b c Slot.Nowhere s e' = let z : ◌≡◌ {A = ℕ} 0 1 = cc in absurd (omega arith)
-    found a b c (Slot.At i) s e' =
+    found a b c None s e' = let z : ◌≡◌ {A = ℕ} 0 1 = cc in absurd (omega arith)
+    found a b c (Some i) s e' =
         let m = (request_at t i).state in
         by_test (is_spent m.life)
         (λ l. let z : ◌≡◌ {A = ℕ} 0 1 = cc (simp l at e') in absurd (omega arith))

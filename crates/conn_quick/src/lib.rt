@@ -17,7 +17,7 @@ use conn_frame::{frame_after, frame_within};
 use connection::event::{Event, Stream};
 use connection::request::{Due, Standing, Turn};
 use connection::sizes::SLOTS;
-use connection::state::{Frame, Slot, Table, Target};
+use connection::state::{Frame, Table, Target};
 use record::header::{Header, read_header};
 use record::names;
 use record_reader::{Position, advance};
@@ -48,26 +48,14 @@ pub struct Showing {
 fn is_stream(target: Target) -> bool
     ensures { result ≡ is_stream target }
 {
-    match target {
-        Target::Skip => false,
-        Target::Begin(_) => false,
-        Target::Query => false,
-        Target::Params(_) => false,
-        Target::Stdin(_) => true,
-        Target::Data(_) => true,
-    }
+    matches!(target, Target::Stdin(_) | Target::Data(_))
 }
 
 // Content of STDIN or DATA is left.
 pub fn is_shown(f: Frame) -> bool
     ensures { result ≡ is_shown f.position.content f.target }
 {
-    let p = f.position;
-    let target = f.target;
-    if 0 < p.content {
-        return is_stream(target);
-    }
-    false
+    0 < f.position.content && is_stream(f.target)
 }
 
 // The slot that it is for.
@@ -75,12 +63,8 @@ fn slot_of(target: Target) -> usize
     ensures { result ≡ slot_of target }
 {
     match target {
-        Target::Skip => 0,
-        Target::Begin(_) => 0,
-        Target::Query => 0,
-        Target::Params(_) => 0,
-        Target::Stdin(i) => i as usize,
-        Target::Data(i) => i as usize,
+        Target::Stdin(i) | Target::Data(i) => i as usize,
+        _ => 0,
     }
 }
 
@@ -89,12 +73,8 @@ fn stream_of(target: Target) -> Stream
     ensures { result ≡ stream_of target }
 {
     match target {
-        Target::Skip => Stream::Stdin,
-        Target::Begin(_) => Stream::Stdin,
-        Target::Query => Stream::Stdin,
-        Target::Params(_) => Stream::Stdin,
-        Target::Stdin(_) => Stream::Stdin,
         Target::Data(_) => Stream::Data,
+        _ => Stream::Stdin,
     }
 }
 
@@ -105,27 +85,19 @@ pub fn show_content(ids: &[u16; SLOTS], f: Frame, piece: &[u8]) -> Showing
         → shows result t g s
         ≡ advances (open_state t f g) s piece.now (advanced f.position piece.now)) }
 {
-    let position = f.position;
-    let target = f.target;
-    let gathered = f.gathered;
-    let body = f.body;
-    let a = advance(position, piece);
-    let n = a.used;
-    let p = a.position;
-    let i = slot_of(target);
-    let stream = stream_of(target);
-    let due = stream_due(stream);
-    let frame = frame_within(f, p, gathered, body);
+    let a = advance(f.position, piece);
+    let slot = slot_of(f.target);
+    let stream = stream_of(f.target);
     Showing {
-        used: n,
+        used: a.used,
         event: Event::Data {
-            id: ids[i],
-            stream: stream,
-            count: n,
+            id: ids[slot],
+            stream,
+            count: a.used,
         },
-        frame: frame,
-        slot: i,
-        due: due,
+        frame: frame_within(f, a.position, f.gathered, f.body),
+        slot,
+        due: stream_due(stream),
     }
 }
 
@@ -135,66 +107,45 @@ fn stream_to(turn: Turn, i: usize) -> Target
     ensures { result ≡ stream_to turn i }
 {
     match turn {
-        Turn::Params => Target::Skip,
         Turn::Stdin => Target::Stdin(i as u8),
         Turn::Data => Target::Data(i as u8),
-        Turn::Done => Target::Skip,
+        Turn::Params | Turn::Done => Target::Skip,
     }
 }
 
-fn goes_to(s: Standing, kind: u8, i: usize) -> Target
+fn goes_to(standing: Standing, kind: u8, i: usize) -> Target
     requires { i < SLOTS }
-    ensures { result ≡ goes_to s kind i }
+    ensures { result ≡ goes_to standing kind i }
 {
-    let life = s.life;
-    let turn = s.turn;
-    if is_spent(life) {
+    if is_spent(standing.life) || kind != turn_type(standing.turn) {
         return Target::Skip;
     }
-    if kind == turn_type(turn) {
-        return stream_to(turn, i);
-    }
-    Target::Skip
+    stream_to(standing.turn, i)
 }
 
 // Where a record's content goes if it goes on with STDIN or DATA.
+#[tactic(auto, unfolding(crate::specs::Quick::headed_to))]
 fn headed_to(t: Table, h: Header) -> Target
     ensures { result ≡ headed_to t h }
 {
-    if h.version != names::VERSION {
+    if h.version != names::VERSION || h.id == 0 || h.content == 0 {
         return Target::Skip;
     }
-    if h.id == 0 {
-        return Target::Skip;
-    }
-    if h.content == 0 {
-        return Target::Skip;
-    }
-    let slot = find_from(&t.ids, t.occupied, h.id, 0);
-    let Slot::At(i) = slot else {
+    let Some(i) = find_from(&t.ids, t.occupied, h.id, 0) else {
         return Target::Skip;
     };
-    let s = t.standings[i];
-    goes_to(s, h.kind, i)
+    goes_to(t.standings[i], h.kind, i)
 }
 
 // A piece that begins with a whole header.
 fn is_headed(p: Position, bytes: usize) -> bool
     ensures { result ≡ is_headed p bytes }
 {
-    if p.content != 0 {
-        return false;
-    }
-    if p.padding != 0 {
-        return false;
-    }
-    if p.held != 0 {
-        return false;
-    }
-    8 <= bytes
+    p.content == 0 && p.padding == 0 && p.held == 0 && 8 <= bytes
 }
 
 // The header at the start of a piece.
+#[tactic(auto, unfolding(record::specs::Header::header_of))]
 fn header_at(piece: &[u8]) -> Header
     requires { 8 ≤ length piece.now }
     ensures { result ≡ header_of piece.now }
@@ -219,8 +170,7 @@ fn none_passed(f: Frame) -> Passed
 pub fn pass_header(t: Table, f: Frame, piece: &[u8]) -> Passed
     ensures { 0 < result.used → Passes result t f piece.now }
 {
-    let position = f.position;
-    if !is_headed(position, piece.len()) {
+    if !is_headed(f.position, piece.len()) {
         return none_passed(f);
     }
     let h = header_at(piece);

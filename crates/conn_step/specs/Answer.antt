@@ -1,19 +1,20 @@
 -- What step answers, read in the rules' numbers and values.
-use Rattle.std.specs.Prelude.{ℕ, List}
-use Rattle.connection.specs.declared.answer.StepResult.{StepResult}
+use Rattle.std.specs.Prelude.{ℕ, List, Ok, Err, Result}
 use Rattle.connection.specs.declared.answer.Stepped.{Stepped as Step}
+use Rattle.connection.specs.declared.event.Event.{Event as CodeEvent}
 use Rattle.connection.specs.Event.{Event}
 use Rattle.connection.specs.Codes.{event_of, refusal_number}
 use Rattle.connection.specs.Step.{state_of, Stepped}
+use Rattle.connection.specs.declared.answer.Refusal.{Refusal}
 
 -- a step's refusal, 0 for none, and its event
-abbrev pub told_number : StepResult → ℕ
-told_number (StepResult.Event e) = 0
-told_number (StepResult.Refused r) = refusal_number r
+abbrev pub told_number : Result CodeEvent Refusal → ℕ
+told_number (Ok e) = 0
+told_number (Err r) = refusal_number r
 
-abbrev pub told_event : StepResult → Event
-told_event (StepResult.Event e) = event_of e
-told_event (StepResult.Refused r) = Event.None
+abbrev pub told_event : Result CodeEvent Refusal → Event
+told_event (Ok e) = event_of e
+told_event (Err r) = Event.None
 
 abbrev pub stepped_by : Step → List ℕ → List ℕ → Stepped
 stepped_by r gathered store =

@@ -18,7 +18,7 @@ ghost use Rattle.conn_step.specs.Outcome.{outcome_of};
 use conn_content::feed;
 use conn_frame::{closed, frame_at, only_frame};
 use conn_header::judge;
-use connection::answer::{StepResult, Stepped};
+use connection::answer::{Refusal, Stepped};
 use connection::decision::{Change, Decision};
 use connection::event::Event;
 use connection::sizes::QUERY;
@@ -45,8 +45,7 @@ fn decide(
 {
     match phase {
         Phase::Content => feed(t, f, store, gathered, bytes, p),
-        Phase::Padding => only_frame(frame_at(f, p), Event::Nothing),
-        Phase::Part => only_frame(frame_at(f, p), Event::Nothing),
+        Phase::Padding | Phase::Part => only_frame(frame_at(f, p), Event::Nothing),
         Phase::Whole(h) => judge(t, store, h),
     }
 }
@@ -55,7 +54,7 @@ fn decide(
 #[derive(Clone, Copy)]
 struct Outcome {
     used: usize,
-    result: StepResult,
+    result: Result<Event, Refusal>,
     change: Change,
     frame: Frame,
 }
@@ -67,21 +66,13 @@ fn go_on(t: Table, f: Frame, store: &mut [u8], gathered: &mut [u8; QUERY], piece
         ≡ advances (open_state t f gathered.old) store.old piece.now
         (advanced f.position piece.now)) × (in_shape (conn_after result.change t result.frame) ≡ true) }
 {
-    let position = f.position;
-    let a = advance(position, piece);
-    let used = a.used;
-    let phase = a.phase;
-    let p = a.position;
-    let z: usize = 0;
-    let m = decide(t, f, store, gathered, &piece[z..used], phase, p);
-    let change = m.change;
-    let frame = m.frame;
-    let event = m.event;
+    let a = advance(f.position, piece);
+    let m = decide(t, f, store, gathered, &piece[..a.used], a.phase, a.position);
     Outcome {
-        used: used,
-        result: StepResult::Event(event),
-        change: change,
-        frame: frame,
+        used: a.used,
+        result: Ok(m.event),
+        change: m.change,
+        frame: m.frame,
     }
 }
 
@@ -95,13 +86,10 @@ pub fn take_step(c: Conn, store: &mut [u8], gathered: &mut [u8; QUERY], piece: &
         (advanced c.frame.position piece.now)) × (in_shape result.conn ≡ true) }
 {
     let mut t = c.table;
-    let f = c.frame;
     let mut open = true;
-    let o = go_on(t, f, store, gathered, piece);
-    let change = o.change;
+    let o = go_on(t, c.frame, store, gathered, piece);
     let mut frame = o.frame;
-    let result = o.result;
-    match change {
+    match o.change {
         Change::Keep => {}
         Change::Put(i, r) => {
             t = put_request(t, i, r);
@@ -119,11 +107,11 @@ pub fn take_step(c: Conn, store: &mut [u8], gathered: &mut [u8; QUERY], piece: &
     }
     Stepped {
         used: o.used,
-        result: result,
+        result: o.result,
         conn: Conn {
             table: t,
-            frame: frame,
-            open: open,
+            frame,
+            open,
         },
     }
 }

@@ -1,5 +1,5 @@
 -- What each case of the code's enums is in the rules' numbers and values.
-use Rattle.std.specs.Prelude.{ℕ}
+use Rattle.std.specs.Prelude.{ℕ, Ok, Err, Result}
 use Rattle.record.specs.Names.{RESPONDER, AUTHORIZER, FILTER, STDIN, STDOUT, STDERR, DATA, OVERLOADED, UNKNOWN_ROLE}
 use Rattle.machine.specs.Cause.{Cause, Plain, At, cause_number}
 use Rattle.connection.specs.declared.request.Role.{Role}
@@ -11,7 +11,6 @@ use Rattle.connection.specs.declared.event.Close.{Close}
 use Rattle.connection.specs.declared.event.Event.{Event as CodeEvent}
 use Rattle.connection.specs.declared.answer.Refusal.{Refusal}
 use Rattle.connection.specs.declared.answer.Output.{Output}
-use Rattle.connection.specs.declared.answer.Wrote.{Wrote}
 use Rattle.connection.specs.Event.{Event}
 
 -- the numbers of roles and streams
@@ -87,10 +86,10 @@ refusal_number Refusal.OutOfShape = 9
 refusal_number Refusal.Waiting = 10
 
 -- what a call wrote: the number of its refusal, 0 for none, and the bytes
-abbrev pub wrote_refusal : Wrote → ℕ
-wrote_refusal (Wrote.Bytes n) = 0
-wrote_refusal (Wrote.Refused r) = refusal_number r
+abbrev pub wrote_refusal : Result ℕ Refusal → ℕ
+wrote_refusal (Ok n) = 0
+wrote_refusal (Err r) = refusal_number r
 
-abbrev pub wrote_bytes : Wrote → ℕ
-wrote_bytes (Wrote.Bytes n) = n
-wrote_bytes (Wrote.Refused r) = 0
+abbrev pub wrote_bytes : Result ℕ Refusal → ℕ
+wrote_bytes (Ok n) = n
+wrote_bytes (Err r) = 0

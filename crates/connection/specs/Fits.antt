@@ -1,9 +1,8 @@
 -- What contracts ask of a header, and of what content is for.
-use Rattle.std.specs.Prelude.{◌≡◌, ℕ, ◌+◌, ◌≤◌, ◌<◌, true, get_or}
+use Rattle.std.specs.Prelude.{◌≡◌, ℕ, ◌+◌, ◌≤◌, ◌<◌, true, get_or, None}
 use Rattle.slot_word.specs.Word.{taken}
 use Rattle.record.specs.declared.header.Header.{Header}
 use Rattle.connection.specs.declared.state.Table.{Table}
-use Rattle.connection.specs.declared.state.Slot.{Slot}
 use Rattle.connection.specs.declared.state.Target.{Target}
 use Rattle.connection.specs.Sizes.{SLOTS, AREA, QUERY}
 use Rattle.connection.specs.Slots.{find}
@@ -22,7 +21,7 @@ pub record InUse (t : Table) (i : ℕ) : Type 0 where
 pub record Begins (t : Table) (id gathered left : ℕ) : Type 0 where
   pub eight : gathered + left ≡ 8
   pub some : id ≡ 0 → ⊥
-  pub inactive : find t id ≡ Slot.Nowhere
+  pub inactive : find t id ≡ None
 
 -- PARAMS content: its slot is not free, and its list with what is left does not pass AREA.
 pub record Grows (t : Table) (i left : ℕ) : Type 0 where

@@ -1,7 +1,6 @@
 -- The rules for one request. They see the request's record and its own area, and nothing else: no slot, no other
 -- request.
-use Rattle.std.specs.Prelude.{ℕ, ◌+◌, Bool, true, false, not, List, [], ◌∷◌, length, take, if◌then◌else◌}
-use Rattle.std.proofs.Math.Option.{Option, none, some}
+use Rattle.std.specs.Prelude.{ℕ, ◌+◌, Bool, true, false, not, List, [], ◌∷◌, length, take, if◌then◌else◌, Some, None, Option}
 use Rattle.wire.specs.Test.{◌<?◌, ◌≤?◌, ◌=?◌}
 use Rattle.wire.specs.Buffer.{copied, zeros}
 use Rattle.record.specs.Names.{BEGIN_REQUEST, ABORT_REQUEST, PARAMS, STDIN, DATA}
@@ -72,8 +71,8 @@ shown_more Due.Data n c = record { stdin = c.stdin; «data» = counted c.«data�
 
 -- A count against the length that a list states.
 unfoldable pub measured : ℕ → Option ℕ → Measure
-measured count none = Measure.Unstated
-measured count (some n) =
+measured count None = Measure.Unstated
+measured count (Some n) =
     if count <? n then Measure.Short
     else if n <? count then Measure.Over
     else Measure.Exact
@@ -147,13 +146,13 @@ turned h t e =
 -- of the same name is fault 26 (house rule).
 unfoldable pub params_fault : List ℕ → Option Cause
 params_fault list =
-    if not (well_formed list) then some (At 25 (broken_at list))
-    else if repeats list then some (Plain 26)
-    else none
+    if not (well_formed list) then Some (At 25 (broken_at list))
+    else if repeats list then Some (Plain 26)
+    else None
 
 abbrev pub ends_by : Option Cause → Held → Ruled
-ends_by none h = turned h (after_params h.request.state.role) (Event.Ready h.request.id h.request.length)
-ends_by (some cause) h = faulted h cause
+ends_by None h = turned h (after_params h.request.state.role) (Event.Ready h.request.id h.request.length)
+ends_by (Some cause) h = faulted h cause
 
 unfoldable pub params_ended : Held → Ruled
 params_ended h = ends_by (params_fault (list_of h)) h

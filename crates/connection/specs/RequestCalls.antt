@@ -1,5 +1,5 @@
 -- What a call answers for one request: from its record, its own area and the call's arguments, and nothing else.
-use Rattle.std.specs.Prelude.{ℕ, Bool, true, false, not, List, [], ◌∷◌, ◌++◌, length, if◌then◌else◌}
+use Rattle.std.specs.Prelude.{ℕ, Bool, true, false, not, List, [], ◌∷◌, ◌++◌, length, if◌then◌else◌, Some, None, Option}
 use Rattle.wire.specs.Test.{◌<?◌, ◌=?◌}
 use Rattle.wire.specs.Buffer.{put_at}
 use Rattle.record.specs.Names.{STDOUT, STDERR, END_REQUEST, REQUEST_COMPLETE}
@@ -8,7 +8,6 @@ use Rattle.record_writer.specs.Written.{record_bytes, stream_bytes}
 use Rattle.pairs.specs.Pair.{value_of}
 use Rattle.pair_list.specs.List.{first_named, pair_number}
 use Rattle.pairs.specs.declared.pair.Pair.{Pair}
-use Rattle.pair_list.specs.declared.Found.{Found}
 use Rattle.connection.specs.declared.request.Turn.{Turn}
 use Rattle.connection.specs.declared.request.Life.{Life}
 use Rattle.connection.specs.declared.request.RequestState.{RequestState}
@@ -36,9 +35,9 @@ abbrev pub no_list : Request → Bool
 no_list r = if in_params r.state.turn then true else is_faulted r.state.life
 
 -- with the pair found, or else
-abbrev pub on_found {ℓ} : {A : Type ℓ} → Found → (Pair → A) → A → A
-on_found (Found.At p) f other = f p
-on_found Found.Nothing f other = other
+abbrev pub on_found {ℓ} : {A : Type ℓ} → Option Pair → (Pair → A) → A → A
+on_found (Some p) f other = f p
+on_found None f other = other
 
 -- Value by name: the first matching pair's value, or else the fallback, also when refused.
 unfoldable pub value_in : Held → List ℕ → List ℕ → List ℕ

@@ -1,5 +1,5 @@
 -- The slots: the request and the area of each, the slot of an id, the slots that are taken.
-use Rattle.std.specs.Prelude.{ℕ, zero, suc, ◌+◌, ◌*◌, Bool, true, false, List, ◌++◌, take, drop, get_or, set, replicate, if◌then◌else◌}
+use Rattle.std.specs.Prelude.{ℕ, zero, suc, ◌+◌, ◌*◌, Bool, true, false, List, ◌++◌, take, drop, get_or, set, replicate, if◌then◌else◌, Option, Some, None}
 use Rattle.wire.specs.Test.{◌=?◌}
 use Rattle.slot_word.specs.Word.{taken, lowest_free, with_slot, without_slot, marked}
 use Rattle.connection.specs.declared.request.Role.{Role}
@@ -10,9 +10,12 @@ use Rattle.connection.specs.declared.request.Shown.{Shown}
 use Rattle.connection.specs.declared.request.RequestState.{RequestState}
 use Rattle.connection.specs.declared.request.Request.{Request}
 use Rattle.connection.specs.declared.state.Table.{Table}
-use Rattle.connection.specs.declared.state.Slot.{Slot}
 use Rattle.connection.specs.Sizes.{SLOTS, AREA}
 use Rattle.connection.specs.Request.{Held, unshown}
+
+-- a slot that was looked for, or none
+abbrev pub Slot : Type 0
+Slot = Option ℕ
 
 -- what a free slot holds
 abbrev pub no_standing : Standing
@@ -120,16 +123,16 @@ holds_id ids occupied id i = if taken i occupied then get_or ids i 0 =? id else 
 
 -- among n slots from i on
 unfoldable pub find_from : ℕ → List ℕ → ℕ → ℕ → ℕ → Slot
-find_from zero ids occupied id i = Slot.Nowhere
-find_from (suc n) ids occupied id i = if holds_id ids occupied id i then Slot.At i else find_from n ids occupied id (i + 1)
+find_from zero ids occupied id i = None
+find_from (suc n) ids occupied id i = if holds_id ids occupied id i then Some i else find_from n ids occupied id (i + 1)
 
 abbrev pub find : Table → ℕ → Slot
 find t id = find_from SLOTS t.ids t.occupied id 0
 
 abbrev pub on_slot {ℓ} : {A : Type ℓ} → Slot → (ℕ → A) → A → A
-on_slot (Slot.At i) f other = f i
-on_slot Slot.Nowhere f other = other
+on_slot (Some i) f other = f i
+on_slot None f other = other
 
 abbrev pub is_found : Slot → Bool
-is_found (Slot.At i) = true
-is_found Slot.Nowhere = false
+is_found (Some i) = true
+is_found None = false

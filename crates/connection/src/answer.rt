@@ -3,7 +3,7 @@ use crate::event::Event;
 use crate::state::Conn;
 
 // Why a call is refused, in the order of the table of refusals: 1 to 10. The last is for calls with a queue.
-#[derive(Clone, Copy)]
+#[derive(Clone, Copy, Debug, PartialEq, Eq)]
 pub enum Refusal {
     Closed,
     StoreSize,
@@ -18,49 +18,28 @@ pub enum Refusal {
 }
 
 // An output stream.
-#[derive(Clone, Copy)]
+#[derive(Clone, Copy, Debug, PartialEq, Eq)]
 pub enum Output {
     Stdout,
     Stderr,
 }
 
-// An open connection, or why the start is refused.
-#[derive(Clone, Copy)]
-pub enum StartResult {
-    Open,
-    Refused(Refusal),
-}
-
 #[derive(Clone, Copy)]
 pub struct Started {
-    pub result: StartResult,
+    pub result: Result<(), Refusal>,
     pub conn: Conn,
-}
-
-// The event that a step tells, or why the step is refused.
-#[derive(Clone, Copy)]
-pub enum StepResult {
-    Event(Event),
-    Refused(Refusal),
 }
 
 // The bytes of the piece that a step used, what it tells, and the connection afterwards.
 #[derive(Clone, Copy)]
 pub struct Stepped {
     pub used: usize,
-    pub result: StepResult,
+    pub result: Result<Event, Refusal>,
     pub conn: Conn,
-}
-
-// The bytes that a call wrote at the start of the lent buffer, or why it wrote none.
-#[derive(Clone, Copy)]
-pub enum Wrote {
-    Bytes(usize),
-    Refused(Refusal),
 }
 
 #[derive(Clone, Copy)]
 pub struct Written {
-    pub wrote: Wrote,
+    pub wrote: Result<usize, Refusal>,
     pub conn: Conn,
 }

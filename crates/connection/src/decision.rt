@@ -4,7 +4,7 @@ use crate::request::Request;
 use crate::state::Frame;
 
 // What becomes of the table: nothing, a slot's request changed, a free slot taken, or all of it freed.
-#[derive(Clone, Copy)]
+#[derive(Clone, Copy, Debug, PartialEq, Eq)]
 pub enum Change {
     Keep,
     Put(usize, Request),

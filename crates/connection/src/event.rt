@@ -2,14 +2,14 @@
 use crate::request::Role;
 
 // An input stream whose content is shown.
-#[derive(Clone, Copy)]
+#[derive(Clone, Copy, Debug, PartialEq, Eq)]
 pub enum Stream {
     Stdin,
     Data,
 }
 
 // What was shown of a stream against the length that the request's list states for it.
-#[derive(Clone, Copy)]
+#[derive(Clone, Copy, Debug, PartialEq, Eq)]
 pub enum Measure {
     Short,
     Exact,
@@ -18,7 +18,7 @@ pub enum Measure {
 }
 
 // Why an opening is refused: the protocol status of its END_REQUEST, 2 or 3.
-#[derive(Clone, Copy)]
+#[derive(Clone, Copy, Debug, PartialEq, Eq)]
 pub enum Status {
     Overloaded,
     UnknownRole,
@@ -26,7 +26,7 @@ pub enum Status {
 
 // What a request did wrong, 21 to 26: a second BEGIN_REQUEST, a stream out of turn, a type that no request has, more
 // parameters than its area holds, a malformed list of parameters, a list in which a name comes twice.
-#[derive(Clone, Copy)]
+#[derive(Clone, Copy, Debug, PartialEq, Eq)]
 pub enum Fault {
     BeginAgain,
     OutOfTurn,
@@ -39,7 +39,7 @@ pub enum Fault {
 
 // Why a connection closes, 11 to 14: a version other than 1, a BEGIN_REQUEST that has not 8 bytes, a query that is too
 // long or malformed.
-#[derive(Clone, Copy)]
+#[derive(Clone, Copy, Debug, PartialEq, Eq)]
 pub enum Close {
     Version,
     BeginLength,
@@ -49,7 +49,7 @@ pub enum Close {
 }
 
 // `id` is the request that an event is about; the last three are about none.
-#[derive(Clone, Copy)]
+#[derive(Clone, Copy, Debug, PartialEq, Eq)]
 pub enum Event {
     // The step has nothing to tell.
     Nothing,

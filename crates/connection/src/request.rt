@@ -1,6 +1,6 @@
 // One request.
 
-#[derive(Clone, Copy)]
+#[derive(Clone, Copy, Debug, PartialEq, Eq)]
 pub enum Role {
     Responder,
     Authorizer,
@@ -8,7 +8,7 @@ pub enum Role {
 }
 
 // The input stream whose turn it is. Once all have ended it is nobody's.
-#[derive(Clone, Copy)]
+#[derive(Clone, Copy, Debug, PartialEq, Eq)]
 pub enum Turn {
     Params,
     Stdin,
@@ -18,7 +18,7 @@ pub enum Turn {
 
 // A request lives until it is spent, by a fault or an abort. A spent one hears no more of its records, and stays active
 // until it is finished.
-#[derive(Clone, Copy)]
+#[derive(Clone, Copy, Debug, PartialEq, Eq)]
 pub enum Life {
     Live,
     Faulted,
@@ -27,14 +27,14 @@ pub enum Life {
 
 // How many bytes of its STDIN and of its DATA were shown since the request was opened; none after a fault. A count that
 // comes to its largest number stays there.
-#[derive(Clone, Copy)]
+#[derive(Clone, Copy, Debug, PartialEq, Eq)]
 pub struct Shown {
     pub stdin: u32,
     pub data: u32,
 }
 
 // How a request stands: its role, its turn and its life.
-#[derive(Clone, Copy)]
+#[derive(Clone, Copy, Debug, PartialEq, Eq)]
 pub struct Standing {
     // What the web server asks the application to be.
     pub role: Role,
@@ -45,7 +45,7 @@ pub struct Standing {
 }
 
 // The state of a request, apart from its id and its parameters.
-#[derive(Clone, Copy)]
+#[derive(Clone, Copy, Debug, PartialEq, Eq)]
 pub struct RequestState {
     // What the web server asks the application to be.
     pub role: Role,
@@ -66,7 +66,7 @@ pub struct RequestState {
 }
 
 // A request's id, the length of its list (the bytes of PARAMS that its area holds), and its state.
-#[derive(Clone, Copy)]
+#[derive(Clone, Copy, Debug, PartialEq, Eq)]
 pub struct Request {
     pub id: u16,
     pub length: u16,
@@ -75,7 +75,7 @@ pub struct Request {
 
 // What the content of a request's record is due to: nobody, its list of parameters, or the station program, as STDIN or
 // as DATA.
-#[derive(Clone, Copy)]
+#[derive(Clone, Copy, Debug, PartialEq, Eq)]
 pub enum Due {
     Skip,
     Params,

@@ -4,7 +4,7 @@ use crate::sizes::SLOTS;
 use record_reader::Position;
 
 // The requests, slot by slot. Of the words bit i is for slot i: the marks of its request, and whether it is taken.
-#[derive(Clone, Copy)]
+#[derive(Clone, Copy, Debug, PartialEq, Eq)]
 pub struct Table {
     pub ids: [u16; SLOTS],
     pub lengths: [u16; SLOTS],
@@ -19,7 +19,7 @@ pub struct Table {
 }
 
 // What the content of the record being read is for: nothing, a request to be opened, a query, or the slot of a request.
-#[derive(Clone, Copy)]
+#[derive(Clone, Copy, Debug, PartialEq, Eq)]
 pub enum Target {
     Skip,
     Begin(u16),
@@ -31,7 +31,7 @@ pub enum Target {
 
 // The record being read: where the reader stands, what its content is for, and how many bytes of a body are
 // gathered. A BEGIN_REQUEST body is held here; a query lies in the 512 bytes that are lent beside the state.
-#[derive(Clone, Copy)]
+#[derive(Clone, Copy, Debug, PartialEq, Eq)]
 pub struct Frame {
     pub position: Position,
     pub target: Target,
@@ -39,16 +39,9 @@ pub struct Frame {
     pub body: [u8; 8],
 }
 
-#[derive(Clone, Copy)]
+#[derive(Clone, Copy, Debug, PartialEq, Eq)]
 pub struct Conn {
     pub table: Table,
     pub frame: Frame,
     pub open: bool,
-}
-
-// A slot found, or none.
-#[derive(Clone, Copy)]
-pub enum Slot {
-    At(usize),
-    Nowhere,
 }

@@ -1,262 +1,255 @@
 // A line answered.
 use crate::ask::ask;
-use crate::command::{
-    BODY, FEED, LEND, LEND_QUEUE, NEXT, READ, START, STEP, end_of, is_onward, is_question, room_of,
-    size_of,
-};
-use crate::feeding::feed;
-use crate::poke::{poke_bytes, poked};
-use crate::readings::{body_turn, read_body};
-use crate::state::{State, with_conn, with_reader};
-use crate::write::{Called, kept_call, put_effect};
-use console_queue::calls::queue_command;
-use console_queue::command::QUEUE_SAY;
-use console_queue::poke::poke_waits;
-use fastcgi_queue::{Event, QUERY, QUEUE, StartResult, WAITS, refusal_number, start};
-use script::fields::POKE;
-use script::form::Form;
-use script::page::{end_line, put};
-use script::said::put_refused;
-use script::words::part;
+use crate::command::{Command, Field, Writing};
+use crate::readings::{finish_body, read_body};
+use crate::told::{put_event, shown_by};
+use crate::write::{Written, fill_and_write};
+use connection::state::Frame;
+use console_queue::calls::{call_queue, fill_and_pump, tell_pumped, tell_queued};
+use console_queue::memory::{Memory, fresh};
+use fastcgi::{Reader, new_reader};
+use fastcgi_queue::{Conn, Event, PumpResult, QUERY, refusal_number};
+use script::feeding::{End, Source, Step, Tale, feed, feed_once};
+use script::page::Page;
+use script::words::BYTES;
 use std::io;
-use wire::least;
 
-// An answer of words alone.
-fn tell(rt: &HostRuntime, page: &mut [u8], text: &[u8]) -> io::Result<()> {
-    let at = put(rt, page, 0, text)?;
-    end_line(rt, page, at)
+// What the console keeps from line to line: the memory, a copy of it from before the last call, the event of the last
+// step that was not refused, the reader of a body, and the buffer from which rooms are lent. Steps go `onward` to the
+// next event, or are single ones.
+#[derive(Drop)]
+pub struct Console {
+    memory: Memory,
+    kept: Memory,
+    event: Event,
+    onward: bool,
+    reader: Reader,
+    buffer: [u8; BYTES],
 }
 
-// What a start came to.
-fn tell_start(rt: &HostRuntime, page: &mut [u8], started: StartResult) -> io::Result<()> {
-    match started {
-        StartResult::Open => tell(rt, page, b"open"),
-        StartResult::Refused(why) => {
-            let at = put_refused(rt, page, 0, refusal_number(why))?;
-            end_line(rt, page, at)
+// Before the first line.
+pub fn new_console() -> Console {
+    let memory = fresh();
+    Console {
+        memory,
+        kept: memory,
+        event: Event::Nothing,
+        onward: false,
+        reader: new_reader(),
+        buffer: [0; BYTES],
+    }
+}
+
+impl End for Console {
+    type Event = Event;
+
+    fn step(&mut self, piece: &[u8]) -> Step<Event> {
+        self.kept = self.memory;
+        let stepped = if self.onward {
+            self.memory.next_event(piece)
+        } else {
+            self.memory.step(piece)
+        };
+        Step {
+            used: stepped.used,
+            told: stepped.result.map_err(refusal_number),
         }
     }
-}
 
-// Starts anew over the lent part of the store.
-fn start_anew(
-    rt: &HostRuntime,
-    s: State,
-    lent: &mut [u8],
-    gathered: &mut [u8; QUERY],
-    waits: &mut [u16; WAITS],
-    page: &mut [u8],
-) -> io::Result<State> {
-    let started = start(lent, gathered, waits);
-    let told = started.result;
-    let conn = started.conn;
-    let reader = s.reader;
-    tell_start(rt, page, told)?;
-    Ok(State {
-        conn: conn,
-        event: Event::Nothing,
-        lent: s.lent,
-        lent_queue: s.lent_queue,
-        reader: reader,
-    })
-}
+    fn is_changed(&self) -> bool {
+        self.memory != self.kept
+    }
 
-// Lends the first n bytes of the store and the first k of the queue from now on.
-fn lend(rt: &HostRuntime, s: State, n: usize, k: usize, page: &mut [u8]) -> io::Result<State> {
-    let c = s.conn;
-    let e = s.event;
-    let reader = s.reader;
-    tell(rt, page, b"ok")?;
-    Ok(State {
-        conn: c,
-        event: e,
-        lent: n,
-        lent_queue: k,
-        reader: reader,
-    })
-}
+    fn nothing() -> Event {
+        Event::Nothing
+    }
 
-// A call that writes into the lent room, and its line.
-fn call_and_tell(
-    rt: &HostRuntime,
-    s: State,
-    f: Form,
-    lent: &mut [u8],
-    gathered: &[u8; QUERY],
-    waits: &mut [u16; WAITS],
-    kept: &mut [u8],
-    bytes: &[u8],
-    room: &mut [u8],
-    page: &mut [u8],
-) -> io::Result<Called> {
-    let called = kept_call(s, f, lent, gathered, waits, kept, bytes, room);
-    put_effect(rt, page, called, kept, lent, gathered, waits, room)?;
-    Ok(called)
-}
+    fn is_nothing(e: Event) -> bool {
+        matches!(e, Event::Nothing)
+    }
 
-// The state after such a call.
-fn write_on(
-    rt: &HostRuntime,
-    s: State,
-    f: Form,
-    lent: &mut [u8],
-    gathered: &[u8; QUERY],
-    waits: &mut [u16; WAITS],
-    kept: &mut [u8],
-    bytes: &[u8],
-    room: &mut [u8],
-    page: &mut [u8],
-) -> io::Result<State> {
-    let called = call_and_tell(rt, s, f, lent, gathered, waits, kept, bytes, room, page)?;
-    Ok(with_conn(s, called.conn))
-}
+    fn is_close(e: Event) -> bool {
+        matches!(e, Event::Closed { .. })
+    }
 
-// What a command does that is not lent the queue, over the lent part of the store and into so much of the buffer as its
-// room.
-fn perform(
-    rt: &HostRuntime,
-    s: State,
-    f: Form,
-    lent: &mut [u8],
-    gathered: &mut [u8; QUERY],
-    waits: &mut [u16; WAITS],
-    kept: &mut [u8],
-    bytes: &[u8],
-    room: &mut [u8],
-    page: &mut [u8],
-) -> io::Result<State> {
-    let values = f.values;
-    let n = values[0] as usize;
-    let kind = f.kind;
-    match kind {
-        START => start_anew(rt, s, lent, gathered, waits, page),
-        LEND => lend(rt, s, n, s.lent_queue, page),
-        LEND_QUEUE => lend(rt, s, s.lent, n, page),
-        STEP | NEXT | FEED => feed(
-            rt,
-            s,
-            size_of(f),
-            is_onward(f),
-            part(bytes, 0, end_of(f)),
-            lent,
-            gathered,
-            waits,
-            kept,
-            page,
-        ),
-        READ => Ok(with_reader(s, read_body(rt, s.reader, part(bytes, 0, n), page)?)),
-        BODY => Ok(with_reader(s, body_turn(rt, s.reader, n, page)?)),
-        _ => write_on(rt, s, f, lent, gathered, waits, kept, bytes, room, page),
+    fn shown(e: Event) -> Option<(Source, usize)> {
+        shown_by(e)
+    }
+
+    fn put_event(&self, page: &mut Page, e: Event, used: &[u8]) -> io::Result<()> {
+        put_event(page, e, used)
     }
 }
 
-// What any command does, over the lent parts of the store and of the queue.
-fn perform_any(
-    rt: &HostRuntime,
-    s: State,
-    f: Form,
-    lent: &mut [u8],
-    gathered: &mut [u8; QUERY],
-    waits: &mut [u16; WAITS],
-    marks: &mut [u8; QUEUE],
-    queue: &mut [u8],
-    kept: &mut [u8],
-    bytes: &[u8],
-    room: &mut [u8],
-    page: &mut [u8],
-) -> io::Result<State> {
-    if QUEUE_SAY <= f.kind {
-        return Ok(with_conn(
-            s,
-            queue_command(
-                rt, s.conn, f, lent, gathered, waits, marks, queue, kept, bytes, room, page,
-            )?,
-        ));
-    }
-    perform(rt, s, f, lent, gathered, waits, kept, bytes, room, page)
+// The first n bytes of the buffer as the room of a call.
+fn write_over(
+    m: &mut Memory,
+    e: Event,
+    call: Writing,
+    buffer: &mut [u8; BYTES],
+    n: usize,
+) -> Written {
+    fill_and_write(m, e, call, &mut buffer[..n.min(BYTES)])
 }
 
-// What a field sets beside the connection, and the answer.
-fn poke_beside(
-    rt: &HostRuntime,
-    f: Form,
-    store: &mut [u8],
-    gathered: &mut [u8; QUERY],
-    waits: &mut [u16; WAITS],
-    marks: &mut [u8; QUEUE],
-    queue: &mut [u8],
-    bytes: &[u8],
-    page: &mut [u8],
-) -> io::Result<()> {
-    let values = f.values;
-    let a = values[0];
-    let b = values[1];
-    poke_bytes(f.kind, a, b, store, gathered, bytes);
-    poke_waits(f.kind, a, b, waits, marks, queue);
-    tell(rt, page, b"ok")
+fn pump_over(m: &mut Memory, allowance: usize, buffer: &mut [u8; BYTES], n: usize) -> PumpResult {
+    fill_and_pump(m, allowance, &mut buffer[..n.min(BYTES)])
+}
+
+// The first eight bytes, with zeros where there are fewer.
+fn first_eight(bytes: &[u8]) -> [u8; 8] {
+    let mut eight = [0; 8];
+    for (to, b) in eight.iter_mut().zip(bytes) {
+        *to = *b;
+    }
+    eight
+}
+
+// All gathered bytes, with zeros where there are fewer.
+fn all_gathered(bytes: &[u8]) -> [u8; QUERY] {
+    let mut gathered = [0; QUERY];
+    for (to, b) in gathered.iter_mut().zip(bytes) {
+        *to = *b;
+    }
+    gathered
+}
+
+// The record being read with a field set.
+fn with_frame(c: Conn, frame: Frame) -> Conn {
+    Conn { frame, ..c }
 }
 
 // Sets a field.
-fn poke(
-    rt: &HostRuntime,
-    s: State,
-    f: Form,
-    store: &mut [u8],
-    gathered: &mut [u8; QUERY],
-    waits: &mut [u16; WAITS],
-    marks: &mut [u8; QUEUE],
-    queue: &mut [u8],
-    bytes: &[u8],
-    page: &mut [u8],
-) -> io::Result<State> {
-    let values = f.values;
-    poke_beside(rt, f, store, gathered, waits, marks, queue, bytes, page)?;
-    Ok(with_conn(
-        s,
-        poked(s.conn, f.kind, values[0], values[1], values[2], bytes),
-    ))
+fn poke(memory: &mut Memory, field: Field) {
+    let c = memory.conn;
+    let f = c.frame;
+    match field {
+        Field::Open(open) => memory.conn = Conn { open, ..c },
+        Field::Table(field) => {
+            memory.conn = Conn {
+                table: field.set(c.table),
+                ..c
+            }
+        }
+        Field::Position(field) => {
+            memory.conn = with_frame(
+                c,
+                Frame {
+                    position: field.set(f.position),
+                    ..f
+                },
+            )
+        }
+        Field::Target(target) => memory.conn = with_frame(c, Frame { target, ..f }),
+        Field::Gathered(gathered) => memory.conn = with_frame(c, Frame { gathered, ..f }),
+        Field::Body(bytes) => {
+            memory.conn = with_frame(
+                c,
+                Frame {
+                    body: first_eight(bytes),
+                    ..f
+                },
+            );
+            memory.gathered = all_gathered(bytes);
+        }
+        Field::Byte(i, b) => {
+            if i < memory.store.len() {
+                memory.store[i] = b;
+            }
+        }
+        Field::Waits(field) => field.set(memory),
+    }
 }
 
-// Answers a line that was read.
-pub fn answer(
-    rt: &HostRuntime,
-    s: State,
-    f: Form,
-    store: &mut [u8],
-    gathered: &mut [u8; QUERY],
-    waits: &mut [u16; WAITS],
-    marks: &mut [u8; QUEUE],
-    queue: &mut [u8],
-    kept: &mut [u8],
-    bytes: &[u8],
-    out: &mut [u8],
-    page: &mut [u8],
-) -> io::Result<State> {
-    if is_question(f.kind) {
-        ask(
-            rt, page, s.conn, f, store, s.lent, waits, marks, queue, bytes,
-        )?;
-        return Ok(s);
+impl Console {
+    // The event that is the last one now: as it was where the first step was refused.
+    fn heard(&mut self, tale: Tale<Event>) {
+        if tale.used > 0 || tale.refusal.is_none() {
+            self.event = tale.event;
+        }
     }
-    if POKE <= f.kind {
-        return poke(rt, s, f, store, gathered, waits, marks, queue, bytes, page);
+
+    // Starts anew over the lent part of the store.
+    fn start(&mut self, page: &mut Page) -> io::Result<()> {
+        let started = self.memory.start();
+        self.event = Event::Nothing;
+        match started {
+            Ok(()) => page.tell(b"open"),
+            Err(why) => page.tell_refused(refusal_number(why)),
+        }
     }
-    let z: usize = 0;
-    let e = least(s.lent, store.len());
-    let q = least(s.lent_queue, queue.len());
-    let r = least(room_of(f), out.len());
-    perform_any(
-        rt,
-        s,
-        f,
-        &mut store[z..e],
-        gathered,
-        waits,
-        marks,
-        &mut queue[z..q],
-        kept,
-        bytes,
-        &mut out[z..r],
-        page,
-    )
+
+    // A single step, or a single call that goes on to the next event.
+    fn step_once(&mut self, page: &mut Page, onward: bool, bytes: &[u8]) -> io::Result<()> {
+        self.onward = onward;
+        let tale = feed_once(self, page, bytes)?;
+        self.heard(tale);
+        Ok(())
+    }
+
+    // Calls in pieces of that size.
+    fn feed(&mut self, page: &mut Page, size: usize, bytes: &[u8]) -> io::Result<()> {
+        self.onward = true;
+        let tale = feed(self, page, size, bytes)?;
+        self.heard(tale);
+        Ok(())
+    }
+
+    // A call that writes into so much of the buffer.
+    fn write(&mut self, page: &mut Page, call: Writing, n: usize) -> io::Result<()> {
+        self.kept = self.memory;
+        let written = write_over(&mut self.memory, self.event, call, &mut self.buffer, n);
+        let changed = self.is_changed();
+        page.tell_written(written, changed, &self.buffer[..n.min(BYTES)])
+    }
+
+    // A turn of the pump, into so much of the buffer.
+    fn pump(&mut self, page: &mut Page, allowance: usize, n: usize) -> io::Result<()> {
+        self.kept = self.memory;
+        let pumped = pump_over(&mut self.memory, allowance, &mut self.buffer, n);
+        let changed = self.is_changed();
+        tell_pumped(page, pumped, changed, &self.buffer[..n.min(BYTES)])
+    }
+
+    // Does what a command says, and answers it.
+    pub fn answer(&mut self, page: &mut Page, command: Command) -> io::Result<()> {
+        match command {
+            Command::Ask(question) => ask(page, &self.memory, question),
+            Command::Start => self.start(page),
+            Command::Lend(n) => {
+                self.memory.lent = n;
+                page.tell(b"ok")
+            }
+            Command::LendQueue(n) => {
+                self.memory.lent_queue = n;
+                page.tell(b"ok")
+            }
+            Command::Step(bytes) => self.step_once(page, false, bytes),
+            Command::Next(bytes) => self.step_once(page, true, bytes),
+            Command::Feed(size, bytes) => self.feed(page, size, bytes),
+            Command::Read(bytes) => {
+                self.reader = read_body(page, self.reader, bytes)?;
+                Ok(())
+            }
+            Command::EndBody => {
+                self.reader = finish_body(page, self.reader)?;
+                Ok(())
+            }
+            Command::NewBody => {
+                self.reader = new_reader();
+                page.tell(b"ok")
+            }
+            Command::Write(call, room) => self.write(page, call, room),
+            Command::Queue(call) => {
+                self.kept = self.memory;
+                let queued = call_queue(&mut self.memory, call);
+                tell_queued(page, queued, self.is_changed())
+            }
+            Command::Pump { allowance, room } => self.pump(page, allowance, room),
+            Command::Poke(field) => {
+                poke(&mut self.memory, field);
+                page.tell(b"ok")
+            }
+        }
+    }
 }

@@ -1,388 +1,157 @@
 // The questions: they change nothing.
-use crate::command::{
-    ACTIVE, AREA_OF, CORRECT, COUNTS, NUMBERS, PAIR, STORE, VALUE, WAITS_OF, WALK,
-};
-use crate::correction::ask_correct;
-use connection::request::Shown;
-use connection::state::{Slot, Table};
-use console_queue::waiting::{ask_numbers, ask_waits};
+use crate::command::Question;
+use crate::correction::tell_correct;
+use connection::answer::Refusal;
+use console_queue::memory::Memory;
+use console_queue::waiting::{tell_numbers, tell_waits};
 use fastcgi_queue::{
-    AREA, Conn, Count, Numbered, Pair, QUEUE, ReadFrom, SLOTS, Source, WAITS, active_count,
-    pair_at, pair_from, refusal_number, value, value_source,
+    AREA, Pair, Source, active_count, pair_at, pair_from, refusal_number, value, value_source,
 };
+use pairs::pair::Read;
 use queue_list::{list_of, list_refusal};
-use reading::tenths_of;
-use script::form::Form;
-use script::lines::LONG;
-use script::number::{low16, low32};
-use script::page::{end_line, put, put_hex, put_number};
-use script::said::put_refused;
-use script::words::{count_of, part};
-use slot_table::request_at;
-use slot_word::is_taken;
+use script::page::Page;
+use slot_table::{find_from, request_at};
 use std::io;
-use wire::least;
 
-// Where a value comes from.
-fn put_source(rt: &HostRuntime, page: &mut [u8], at: usize, source: Source) -> io::Result<usize> {
-    match source {
-        Source::Store => put(rt, page, at, b"store"),
-        Source::Fallback => put(rt, page, at, b"fallback"),
-        Source::Refused(why) => put_refused(rt, page, at, refusal_number(why)),
-    }
-}
-
-// Where value finds its answer, and the value.
-fn ask_value<'a>(
-    rt: &HostRuntime,
-    page: &mut [u8],
-    c: Conn,
-    waits: &[u16; WAITS],
-    lent: &'a [u8],
+// Where `value` finds its answer, and the value.
+fn tell_value(
+    page: &mut Page,
+    m: &Memory,
     id: u16,
     name: &[u8],
-    fallback: &'a [u8],
-) -> io::Result<usize> {
-    let source = value_source(c, waits, lent, id, name);
-    let place = put_source(rt, page, 0, source)?;
-    let found = value(c, waits, lent, id, name, fallback);
-    put_hex(rt, page, place, found)
+    fallback: &[u8],
+) -> io::Result<()> {
+    match value_source(m.conn, &m.waits, m.lent_store(), id, name) {
+        Ok(Source::Store) => page.put(b"store")?,
+        Ok(Source::Fallback) => page.put(b"fallback")?,
+        Err(why) => page.put_refused(refusal_number(why))?,
+    }
+    page.put_hex(value(m.conn, &m.waits, m.lent_store(), id, name, fallback))?;
+    page.end_line()
 }
 
 // The places and lengths of a pair, with a mark between them.
-fn put_pair(
-    rt: &HostRuntime,
-    page: &mut [u8],
-    at: usize,
-    p: Pair,
-    mark: &[u8],
-) -> io::Result<usize> {
-    let a = put_number(rt, page, at, b" ", p.name as u64)?;
-    let b = put_number(rt, page, a, mark, p.name_len as u64)?;
-    let d = put_number(rt, page, b, mark, p.value as u64)?;
-    put_number(rt, page, d, mark, p.value_len as u64)
+fn put_pair(page: &mut Page, p: Pair, mark: &[u8]) -> io::Result<()> {
+    page.put_number(b" ", p.name as u64)?;
+    page.put_number(mark, p.name_len as u64)?;
+    page.put_number(mark, p.value as u64)?;
+    page.put_number(mark, p.value_len as u64)
 }
 
 // A pair by its number.
-fn ask_pair(
-    rt: &HostRuntime,
-    page: &mut [u8],
-    c: Conn,
-    waits: &[u16; WAITS],
-    lent: &[u8],
-    id: u16,
-    k: usize,
-) -> io::Result<usize> {
-    let found = pair_at(c, waits, lent, id, k);
-    match found {
-        Numbered::Pair(p) => {
-            let a = put(rt, page, 0, b"pair")?;
-            put_pair(rt, page, a, p, b" ")
+fn tell_pair(page: &mut Page, m: &Memory, id: u16, k: usize) -> io::Result<()> {
+    match pair_at(m.conn, &m.waits, m.lent_store(), id, k) {
+        Ok(p) => {
+            page.put(b"pair")?;
+            put_pair(page, p, b" ")?;
         }
-        Numbered::Refused(why) => put_refused(rt, page, 0, refusal_number(why)),
+        Err(why) => page.put_refused(refusal_number(why))?,
     }
+    page.end_line()
 }
 
-// A word, and a place.
-fn put_place(
-    rt: &HostRuntime,
-    page: &mut [u8],
-    at: usize,
-    word: &[u8],
-    place: usize,
-) -> io::Result<usize> {
-    let a = put(rt, page, at, word)?;
-    put_number(rt, page, a, b" ", place as u64)
-}
-
-// How a walk stops at its place: at the end, or before a malformed pair.
-fn put_stop(
-    rt: &HostRuntime,
-    page: &mut [u8],
-    at: usize,
-    read: ReadFrom,
-    place: usize,
-) -> io::Result<usize> {
-    match read {
-        ReadFrom::Pair(_, _) => put_place(rt, page, at, b" end", place),
-        ReadFrom::End => put_place(rt, page, at, b" end", place),
-        ReadFrom::Malformed(broken) => put_place(rt, page, at, b" malformed at", broken),
-        ReadFrom::Refused(_) => put_place(rt, page, at, b" end", place),
-    }
-}
-
-// The pairs that reading on gives, and the place where it gives none. A proved loop has to end: so it counts its turns
-// down, from a number that no list uses up.
-fn put_walk(
-    rt: &HostRuntime,
-    page: &mut [u8],
-    at: usize,
-    c: Conn,
-    waits: &[u16; WAITS],
-    lent: &[u8],
-    id: u16,
-) -> io::Result<usize> {
-    let mut next = at;
+// The pairs that reading on gives, and the place where it gives none. A proved loop has to end: so this one counts to a
+// number of turns that no list uses up.
+fn put_walk(page: &mut Page, m: &Memory, id: u16) -> io::Result<()> {
     let mut place: usize = 0;
-    let mut turns = u64::MAX;
-    while turns > 0 {
-        let read = pair_from(c, waits, lent, id, place);
-        let ReadFrom::Pair(p, after) = read else {
-            return put_stop(rt, page, next, read, place);
-        };
-        next = put_pair(rt, page, next, p, b",")?;
-        place = after;
-        turns -= 1;
+    for _ in 0..u64::MAX {
+        match pair_from(m.conn, &m.waits, m.lent_store(), id, place) {
+            Ok(Read::Pair(p, after)) => {
+                put_pair(page, p, b",")?;
+                place = after;
+            }
+            Ok(Read::Malformed(broken)) => {
+                return page.put_number(b" malformed at ", broken as u64);
+            }
+            Ok(Read::End) | Err(_) => break,
+        }
     }
-    put_stop(rt, page, next, ReadFrom::End, place)
+    page.put_number(b" end ", place as u64)
 }
 
-// A refused walk holds no bytes: one that did would be told as a change.
-fn put_no_walk(rt: &HostRuntime, page: &mut [u8], why: u8, length: usize) -> io::Result<usize> {
-    let a = put_refused(rt, page, 0, why)?;
-    if 0 < length {
-        return put(rt, page, a, b" changed");
+// The list's length and its pairs. A refused walk holds no bytes: one that did would be told as a change.
+fn tell_walk(page: &mut Page, m: &Memory, id: u16) -> io::Result<()> {
+    let why = list_refusal(m.conn, &m.waits, m.lent_store(), id);
+    let length = list_of(m.conn, &m.waits, m.lent_store(), id).len();
+    if why > 0 {
+        page.put_refusal(why, length > 0)?;
+    } else {
+        page.put_number(b"walk ", length as u64)?;
+        put_walk(page, m, id)?;
     }
-    Ok(a)
-}
-
-// The list's length and its pairs.
-fn ask_walk(
-    rt: &HostRuntime,
-    page: &mut [u8],
-    c: Conn,
-    waits: &[u16; WAITS],
-    lent: &[u8],
-    id: u16,
-) -> io::Result<usize> {
-    let why = list_refusal(c, waits, lent, id);
-    let list = list_of(c, waits, lent, id);
-    let length = list.len();
-    if 0 < why {
-        return put_no_walk(rt, page, why, length);
-    }
-    let a = put(rt, page, 0, b"walk")?;
-    let b = put_number(rt, page, a, b" ", length as u64)?;
-    put_walk(rt, page, b, c, waits, lent, id)
+    page.end_line()
 }
 
 // How many requests are active.
-fn ask_active(
-    rt: &HostRuntime,
-    page: &mut [u8],
-    c: Conn,
-    waits: &[u16; WAITS],
-) -> io::Result<usize> {
-    let count = active_count(c, waits);
+fn tell_active(page: &mut Page, count: Result<u32, Refusal>) -> io::Result<()> {
     match count {
-        Count::Active(n) => {
-            let a = put(rt, page, 0, b"active")?;
-            put_number(rt, page, a, b" ", n as u64)
-        }
-        Count::Refused(why) => put_refused(rt, page, 0, refusal_number(why)),
+        Ok(n) => page.put_number(b"active ", u64::from(n))?,
+        Err(why) => page.put_refused(refusal_number(why))?,
     }
+    page.end_line()
 }
 
-// Whether slot i is taken and has that id.
-fn has(t: Table, i: usize, id: u16) -> bool {
-    if i < SLOTS {
-        if is_taken(t.occupied, i) {
-            return t.ids[i] == id;
-        }
-    }
-    false
+// What the area of a slot holds: its bytes up to the request's length, or all of them.
+fn tell_area(page: &mut Page, m: &Memory, slot: usize) -> io::Result<()> {
+    let length = usize::from(request_at(m.conn.table, slot).length);
+    let from = slot.saturating_mul(AREA);
+    let to = from.saturating_add(length.min(AREA));
+    page.put(b"area")?;
+    page.put_hex(m.store.get(from..to).unwrap_or(&[]))?;
+    page.end_line()
 }
 
-// The first taken slot that has that id.
-fn first_with(t: Table, id: u16) -> Slot {
-    let mut i: usize = 0;
-    while i < SLOTS {
-        if has(t, i, id) {
-            return Slot::At(i);
-        }
-        i += 1;
-    }
-    Slot::Nowhere
-}
-
-// The bytes of slot i's area up to its length, or all of them.
-fn area_of<'a>(t: Table, store: &'a [u8], i: usize) -> &'a [u8] {
-    let z: usize = 0;
-    if i < SLOTS {
-        let from = i * AREA;
-        let n = least(t.lengths[i] as usize, AREA);
-        return part(store, from, from + n);
-    }
-    &store[z..z]
-}
-
-// What the area of the first taken slot with that id holds.
-fn ask_area(
-    rt: &HostRuntime,
-    page: &mut [u8],
-    c: Conn,
-    store: &[u8],
-    id: u16,
-) -> io::Result<usize> {
-    let t = c.table;
-    let slot = first_with(t, id);
-    let Slot::At(i) = slot else {
-        return put(rt, page, 0, b"none");
-    };
-    let a = put(rt, page, 0, b"area")?;
-    put_hex(rt, page, a, area_of(t, store, i))
-}
-
-// The counts of slot i.
-fn put_counts(rt: &HostRuntime, page: &mut [u8], at: usize, shown: Shown) -> io::Result<usize> {
-    let a = put_number(rt, page, at, b" ", shown.stdin as u64)?;
-    put_number(rt, page, a, b" ", shown.data as u64)
-}
-
-// How much of its input was shown, of the first taken slot with that id.
-fn ask_counts(rt: &HostRuntime, page: &mut [u8], c: Conn, id: u16) -> io::Result<usize> {
-    let t = c.table;
-    let slot = first_with(t, id);
-    let Slot::At(i) = slot else {
-        return put(rt, page, 0, b"none");
-    };
-    let r = request_at(t, i);
-    let m = r.state;
-    let a = put(rt, page, 0, b"counts")?;
-    put_counts(rt, page, a, m.shown)
-}
-
-// What waits in the first taken slot with that id.
-fn ask_queue(
-    rt: &HostRuntime,
-    page: &mut [u8],
-    c: Conn,
-    id: u16,
-    waits: &[u16; WAITS],
-    marks: &[u8; QUEUE],
-    queue: &[u8],
-) -> io::Result<usize> {
-    let slot = first_with(c.table, id);
-    let Slot::At(i) = slot else {
-        return put(rt, page, 0, b"none");
-    };
-    ask_waits(rt, page, i, waits, marks, queue)
-}
-
-// The place of the first byte that is not zero; 0 where all are.
-fn first_set(store: &[u8]) -> usize {
-    let mut i: usize = 0;
-    while i < store.len() {
-        if store[i] != 0 {
-            return i;
-        }
-        i += 1;
-    }
-    0
-}
-
-// The place of the last byte that is not zero; 0 where all are.
-fn last_set(store: &[u8]) -> usize {
-    let mut i = store.len();
-    while 0 < i {
-        i -= 1;
-        if store[i] != 0 {
-            return i;
-        }
-    }
-    0
+// How much was shown of the input of a slot's request.
+fn tell_counts(page: &mut Page, m: &Memory, slot: usize) -> io::Result<()> {
+    let shown = request_at(m.conn.table, slot).state.shown;
+    page.put_number(b"counts ", u64::from(shown.stdin))?;
+    page.put_number(b" ", u64::from(shown.data))?;
+    page.end_line()
 }
 
 // How many bytes of the store are not zero, and where the first and the last of them lie.
-fn ask_store(rt: &HostRuntime, page: &mut [u8], store: &[u8]) -> io::Result<usize> {
-    let zeros = count_of(store, 0);
-    let set = store.len() - zeros;
-    let a = put(rt, page, 0, b"store")?;
-    let b = put_number(rt, page, a, b" ", set as u64)?;
-    if set == 0 {
-        return Ok(b);
+fn tell_store(page: &mut Page, store: &[u8]) -> io::Result<()> {
+    let set = store.iter().filter(|b| **b != 0).count();
+    page.put_number(b"store ", set as u64)?;
+    if let Some(first) = store.iter().position(|b| *b != 0) {
+        page.put_number(b" ", first as u64)?;
     }
-    let d = put_number(rt, page, b, b" ", first_set(store) as u64)?;
-    put_number(rt, page, d, b" ", last_set(store) as u64)
+    if let Some(last) = store.iter().rposition(|b| *b != 0) {
+        page.put_number(b" ", last as u64)?;
+    }
+    page.end_line()
 }
 
-// A raw count corrected by two cards.
-fn ask_cards(
-    rt: &HostRuntime,
-    page: &mut [u8],
-    values: [u64; 4],
-    bytes: &[u8],
-) -> io::Result<usize> {
-    let k = values[0] as usize;
-    let n = values[1] as usize;
-    ask_correct(
-        rt,
-        page,
-        part(bytes, 0, k),
-        part(bytes, k, n),
-        tenths_of(low32(values[2])),
-        low32(values[3]),
-    )
-}
-
-// What a question is answered, over the store and as much of it as is lent.
-fn put_answer<'a>(
-    rt: &HostRuntime,
-    page: &mut [u8],
-    c: Conn,
-    f: Form,
-    store: &'a [u8],
-    seen: &'a [u8],
-    waits: &[u16; WAITS],
-    bytes: &'a [u8],
-) -> io::Result<usize> {
-    let values = f.values;
-    let id = low16(values[0]);
-    let n = values[1] as usize;
-    let m = values[2] as usize;
-    let kind = f.kind;
-    match kind {
-        ACTIVE => ask_active(rt, page, c, waits),
-        STORE => ask_store(rt, page, store),
-        NUMBERS => ask_numbers(rt, page, waits),
-        WALK => ask_walk(rt, page, c, waits, seen, id),
-        AREA_OF => ask_area(rt, page, c, store, id),
-        COUNTS => ask_counts(rt, page, c, id),
-        PAIR => ask_pair(rt, page, c, waits, seen, id, n),
-        VALUE => ask_value(
-            rt,
-            page,
-            c,
-            waits,
-            seen,
-            id,
-            part(bytes, 0, n),
-            part(bytes, n, m),
-        ),
-        CORRECT => ask_cards(rt, page, values, bytes),
-        LONG => put(rt, page, 0, b"long"),
-        _ => put(rt, page, 0, b"what"),
+// A question about the first taken slot with that id.
+fn tell_of_slot(page: &mut Page, m: &Memory, question: Question, id: u16) -> io::Result<()> {
+    let table = m.conn.table;
+    let Some(slot) = find_from(&table.ids, table.occupied, id, 0) else {
+        return page.tell(b"none");
+    };
+    match question {
+        Question::Area(_) => tell_area(page, m, slot),
+        Question::Counts(_) => tell_counts(page, m, slot),
+        _ => tell_waits(page, m, slot),
     }
 }
 
 // Answers a question.
-pub fn ask<'a>(
-    rt: &HostRuntime,
-    page: &mut [u8],
-    c: Conn,
-    f: Form,
-    store: &'a [u8],
-    lent: usize,
-    waits: &[u16; WAITS],
-    marks: &[u8; QUEUE],
-    queue: &[u8],
-    bytes: &'a [u8],
-) -> io::Result<()> {
-    if f.kind == WAITS_OF {
-        let values = f.values;
-        let at = ask_queue(rt, page, c, low16(values[0]), waits, marks, queue)?;
-        return end_line(rt, page, at);
+pub fn ask(page: &mut Page, m: &Memory, question: Question) -> io::Result<()> {
+    match question {
+        Question::Active => tell_active(page, active_count(m.conn, &m.waits)),
+        Question::Store => tell_store(page, &m.store),
+        Question::Numbers => tell_numbers(page, &m.waits),
+        Question::Walk(id) => tell_walk(page, m, id),
+        Question::Area(id) | Question::Counts(id) | Question::Waits(id) => {
+            tell_of_slot(page, m, question, id)
+        }
+        Question::Pair(id, k) => tell_pair(page, m, id, k),
+        Question::Value { id, name, fallback } => tell_value(page, m, id, name, fallback),
+        Question::Correct {
+            thawed,
+            frozen,
+            tenths,
+            raw,
+        } => tell_correct(page, thawed, frozen, tenths, raw),
     }
-    let at = put_answer(rt, page, c, f, store, part(store, 0, lent), waits, bytes)?;
-    end_line(rt, page, at)
 }

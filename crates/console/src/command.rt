@@ -1,155 +1,217 @@
-// The tables of commands, fields and targets. A command has the number of its name in the first table.
-use console_queue::command::{PUMP, is_queue, read_queue};
-use script::form::{Form, read_form};
-use script::lines::{LONG, is_long, is_poke, read_from, read_poke, too_long};
-use script::words::{part, rest, word};
-use wire::same;
+// A line as a command, with its arguments.
+use connection::answer::Output;
+use connection::state::Target;
+use console_queue::command::{Queued, WaitField, read_queued, read_wait_field};
+use console_queue::memory::{WHOLE, WHOLE_QUEUE};
+use fastcgi_queue::{QUERY, STORE};
+use script::fields::{
+    PositionField, RequestField, TableField, read_position_field, read_slot, read_table_field,
+};
+use script::number::number_of;
+use script::words::{BYTES, Words};
 
-// Questions.
-pub const ACTIVE: u64 = 0;
+// A question changes nothing. Of those about a request the first number is its id.
+#[derive(Clone, Copy)]
+pub enum Question<'a> {
+    Active,
+    Store,
+    Numbers,
+    Walk(u16),
+    Area(u16),
+    Counts(u16),
+    Waits(u16),
+    Pair(u16, usize),
+    Value {
+        id: u16,
+        name: &'a [u8],
+        fallback: &'a [u8],
+    },
+    Correct {
+        thawed: &'a [u8],
+        frozen: &'a [u8],
+        tenths: i32,
+        raw: u32,
+    },
+}
 
-pub const STORE: u64 = 1;
+// A call that writes into a lent room.
+#[derive(Clone, Copy)]
+pub enum Writing<'a> {
+    Owed,
+    End(u16, Output),
+    Pair(&'a [u8], &'a [u8]),
+    Finish(u16, u32),
+    Output(u16, Output, &'a [u8]),
+    Reading { log: u32, tenths: i32, raw: u32 },
+}
 
-pub const NUMBERS: u64 = 2;
+// A field of the state or of what is lent beside it, and what it is set to.
+#[derive(Clone, Copy)]
+pub enum Field<'a> {
+    Open(bool),
+    Table(TableField),
+    Position(PositionField),
+    Target(Target),
+    Gathered(usize),
+    Body(&'a [u8]),
+    Byte(usize, u8),
+    Waits(WaitField),
+}
 
-pub const WALK: u64 = 3;
+// Of a call that writes the number is the size of its room.
+#[derive(Clone, Copy)]
+pub enum Command<'a> {
+    Ask(Question<'a>),
+    Start,
+    Lend(usize),
+    LendQueue(usize),
+    Step(&'a [u8]),
+    Next(&'a [u8]),
+    Feed(usize, &'a [u8]),
+    Read(&'a [u8]),
+    EndBody,
+    NewBody,
+    Write(Writing<'a>, usize),
+    Queue(Queued<'a>),
+    Pump { allowance: usize, room: usize },
+    Poke(Field<'a>),
+}
 
-pub const AREA_OF: u64 = 4;
-
-pub const COUNTS: u64 = 5;
-
-pub const WAITS_OF: u64 = 6;
-
-pub const PAIR: u64 = 7;
-
-pub const VALUE: u64 = 8;
-
-pub const CORRECT: u64 = 9;
-
-// Commands that change the state.
-pub const START: u64 = 10;
-
-pub const LEND: u64 = 11;
-
-pub const STEP: u64 = 12;
-
-pub const NEXT: u64 = 13;
-
-pub const FEED: u64 = 14;
-
-// Bytes of a body, and its end.
-pub const READ: u64 = 15;
-
-pub const BODY: u64 = 16;
-
-// Commands that write into a lent room.
-pub const OWED: u64 = 17;
-
-pub const END: u64 = 18;
-
-pub const PUT: u64 = 19;
-
-pub const FINISH: u64 = 20;
-
-pub const SAY: u64 = 21;
-
-pub const READING: u64 = 22;
-
-// `lend queue`, which is in no table; after it come the commands of the queue.
-pub const LEND_QUEUE: u64 = 39;
-
-// Whether a line asks without changing anything; so does one that is too long or no command.
-pub fn is_question(kind: u64) -> bool {
-    if kind < START {
-        return true;
+// What the content of the record being read is for.
+fn read_target(words: &mut Words) -> Option<Target> {
+    match words.next()? {
+        b"skip" => Some(Target::Skip),
+        b"begin" => Some(Target::Begin(words.short()?)),
+        b"query" => Some(Target::Query),
+        b"params" => Some(Target::Params(words.byte()?)),
+        b"stdin" => Some(Target::Stdin(words.byte()?)),
+        b"data" => Some(Target::Data(words.byte()?)),
+        _ => None,
     }
-    LONG <= kind
 }
 
-// The size of the pieces that bytes are fed in; 0 for a single call.
-pub fn size_of(f: Form) -> usize {
-    let values = f.values;
-    if f.kind == FEED {
-        return values[0] as usize;
-    }
-    0
-}
-
-// Whether a call goes on to the next event.
-pub fn is_onward(f: Form) -> bool {
-    f.kind != STEP
-}
-
-// Where the bytes of a call or a feed end.
-pub fn end_of(f: Form) -> usize {
-    let values = f.values;
-    if f.kind == FEED {
-        return values[1] as usize;
-    }
-    values[0] as usize
-}
-
-// The room of a command that writes: its last argument.
-pub fn room_of(f: Form) -> usize {
-    let kind = f.kind;
-    let values = f.values;
-    match kind {
-        OWED => values[0] as usize,
-        PUMP => values[1] as usize,
-        SAY | READING => values[3] as usize,
-        _ => values[2] as usize,
+// A field of a request that only this end has.
+fn read_own_field(name: &[u8], words: &mut Words) -> Option<TableField> {
+    let slot = read_slot(words)?;
+    match name {
+        b"err_used" => Some(TableField::Slot(slot, RequestField::ErrUsed(words.flag()?))),
+        b"shown" => Some(TableField::Slot(
+            slot,
+            RequestField::Shown(words.stream()?, words.long()?),
+        )),
+        _ => None,
     }
 }
 
 // What stands after the word `poke`.
-fn read_field(line: &[u8], bytes: &mut [u8]) -> Form {
-    read_poke(
-        line,
-        b"open occupied id length role keep turn spent out_ended err_used err_ended held header content padding gathered body byte shown number mark queue",
-        b"f i si si sr sf st sv sf sf sf k 8 k k k 5 pb sdu wi yb yb",
-        b"skip begin query params stdin data",
-        b"- i - b b b",
-        bytes,
-    )
+fn read_field<'a>(words: &mut Words<'a>) -> Option<Field<'a>> {
+    let name = words.next()?;
+    match name {
+        b"target" => Some(Field::Target(read_target(words)?)),
+        b"open" => Some(Field::Open(words.flag()?)),
+        b"gathered" => Some(Field::Gathered(words.size()?)),
+        b"body" => Some(Field::Body(words.bytes(QUERY)?)),
+        b"byte" => Some(Field::Byte(words.up_to(STORE - 1)?, words.byte()?)),
+        b"number" | b"mark" | b"queue" => Some(Field::Waits(read_wait_field(name, words)?)),
+        b"err_used" | b"shown" => Some(Field::Table(read_own_field(name, words)?)),
+        b"held" | b"header" | b"content" | b"padding" => {
+            Some(Field::Position(read_position_field(name, words)?))
+        }
+        _ => Some(Field::Table(read_table_field(name, words)?)),
+    }
 }
 
-// A line that begins with the name of a command.
-fn read_command(line: &[u8], bytes: &mut [u8]) -> Form {
-    read_form(
-        line,
-        b"active store numbers walk area counts waits pair value correct start lend step next feed read body owed end put finish say reading",
-        b"- - - i i i i ik ihh hhzu - l h h nh h e m iom hhm ium iohm uzum",
-        bytes,
-    )
+// What stands after the word `lend`.
+fn read_lend<'a>(words: &mut Words<'a>) -> Option<Command<'a>> {
+    match words.next()? {
+        b"queue" => Some(Command::LendQueue(words.up_to(WHOLE_QUEUE)?)),
+        word => {
+            let n = usize::try_from(number_of(word)?).ok()?;
+            if n > WHOLE {
+                return None;
+            }
+            Some(Command::Lend(n))
+        }
+    }
 }
 
-// Whether a line lends from the queue.
-fn is_lend_queue(line: &[u8]) -> bool {
-    if same(word(line, 0), b"lend") {
-        return same(word(line, 1), b"queue");
+// The body that is read ends, or a new one begins.
+fn read_body<'a>(words: &mut Words<'a>) -> Option<Command<'a>> {
+    match words.next()? {
+        b"end" => Some(Command::EndBody),
+        b"new" => Some(Command::NewBody),
+        _ => None,
     }
-    false
 }
 
-// A line that is neither too long nor a poke.
-fn read_other(line: &[u8], bytes: &mut [u8]) -> Form {
-    if is_queue(line) {
-        return read_queue(line, bytes);
+fn read_question<'a>(name: &[u8], words: &mut Words<'a>) -> Option<Question<'a>> {
+    match name {
+        b"active" => Some(Question::Active),
+        b"store" => Some(Question::Store),
+        b"numbers" => Some(Question::Numbers),
+        b"walk" => Some(Question::Walk(words.short()?)),
+        b"area" => Some(Question::Area(words.short()?)),
+        b"counts" => Some(Question::Counts(words.short()?)),
+        b"waits" => Some(Question::Waits(words.short()?)),
+        b"pair" => Some(Question::Pair(words.short()?, words.size()?)),
+        b"value" => Some(Question::Value {
+            id: words.short()?,
+            name: words.bytes(BYTES)?,
+            fallback: words.bytes(BYTES)?,
+        }),
+        b"correct" => Some(Question::Correct {
+            thawed: words.bytes(BYTES)?,
+            frozen: words.bytes(BYTES)?,
+            tenths: words.signed()?,
+            raw: words.long()?,
+        }),
+        _ => None,
     }
-    if is_lend_queue(line) {
-        return read_from(LEND_QUEUE, rest(line), b"queue", b"j", bytes);
-    }
-    read_command(line, bytes)
 }
 
-// A line of so many characters.
-pub fn read_line(line: &[u8], held: usize, bytes: &mut [u8]) -> Form {
-    if is_long(line, held) {
-        return too_long();
+// A call that writes. Its room is the last word.
+fn read_writing<'a>(name: &[u8], words: &mut Words<'a>) -> Option<Writing<'a>> {
+    match name {
+        b"owed" => Some(Writing::Owed),
+        b"end" => Some(Writing::End(words.short()?, words.output()?)),
+        b"put" => Some(Writing::Pair(words.bytes(BYTES)?, words.bytes(BYTES)?)),
+        b"finish" => Some(Writing::Finish(words.short()?, words.long()?)),
+        b"say" => Some(Writing::Output(words.short()?, words.output()?, words.bytes(BYTES)?)),
+        b"reading" => Some(Writing::Reading {
+            log: words.long()?,
+            tenths: words.signed()?,
+            raw: words.long()?,
+        }),
+        _ => None,
     }
-    let text = part(line, 0, held);
-    if is_poke(text) {
-        return read_field(rest(text), bytes);
+}
+
+// A command by its name.
+fn read_command<'a>(name: &[u8], words: &mut Words<'a>) -> Option<Command<'a>> {
+    match name {
+        b"start" => Some(Command::Start),
+        b"lend" => read_lend(words),
+        b"step" => Some(Command::Step(words.bytes(BYTES)?)),
+        b"next" => Some(Command::Next(words.bytes(BYTES)?)),
+        b"feed" => Some(Command::Feed(words.piece()?, words.bytes(BYTES)?)),
+        b"read" => Some(Command::Read(words.bytes(BYTES)?)),
+        b"body" => read_body(words),
+        b"queue" => Some(Command::Queue(read_queued(words, BYTES)?)),
+        b"pump" => Some(Command::Pump {
+            allowance: words.size()?,
+            room: words.room()?,
+        }),
+        b"poke" => Some(Command::Poke(read_field(words)?)),
+        b"owed" | b"end" | b"put" | b"finish" | b"say" | b"reading" => {
+            Some(Command::Write(read_writing(name, words)?, words.room()?))
+        }
+        _ => Some(Command::Ask(read_question(name, words)?)),
     }
-    read_other(text, bytes)
+}
+
+// A line as a command; none where it has too few words or too many, or one that is none of those that may stand there.
+pub fn read_line<'a>(line: &'a [u8], room: &'a mut [u8]) -> Option<Command<'a>> {
+    let mut words = Words::new(line, room);
+    let command = read_command(words.next()?, &mut words)?;
+    if words.is_over() { Some(command) } else { None }
 }

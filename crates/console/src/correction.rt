@@ -1,122 +1,55 @@
 // Ice correction by hand. A card is a byte for its kind and then its floats, eight bytes each.
-use fastcgi::{Calibration, Card, Corrected, Curve, correct, correction_fault_number};
+use fastcgi::{Calibration, Card, Curve, correct, correction_fault_number};
 use float_bits::{bits_of_float, float_of_bits};
-use script::number::low8;
-use script::page::{put, put_hex};
-use script::said::put_refused;
+use script::page::Page;
 use std::io;
-use wire::number_of_four;
 
-// A card, or bytes that are none.
-#[derive(Clone, Copy)]
-enum CardWord {
-    Is(Card),
-    Not,
+// The float whose bits are eight bytes; none where there are fewer or more.
+fn float_of(bytes: &[u8]) -> Option<f64> {
+    let eight = bytes.as_array::<8>()?;
+    Some(float_of_bits(u64::from_be_bytes(*eight)))
 }
 
-// The byte at a place; 0 past the last.
-fn byte_at(bytes: &[u8], at: usize) -> u8 {
-    if at < bytes.len() {
-        return bytes[at];
-    }
-    0
+// The offset and the slope of a frozen card.
+fn frozen_of(bytes: &[u8]) -> Option<Curve> {
+    let (slope, offset) = bytes.split_at_checked(8)?;
+    Some(Curve::Frozen(float_of(slope)?, float_of(offset)?))
 }
 
-// The float whose bits are eight bytes, with what comes before them cut off.
-fn first_float(bytes: &[u8]) -> f64 {
-    let high = number_of_four(
-        byte_at(bytes, 0),
-        byte_at(bytes, 1),
-        byte_at(bytes, 2),
-        byte_at(bytes, 3),
-    );
-    let low = number_of_four(
-        byte_at(bytes, 4),
-        byte_at(bytes, 5),
-        byte_at(bytes, 6),
-        byte_at(bytes, 7),
-    );
-    float_of_bits(high as u64 * 4294967296 + low as u64)
+// A card, without a serial number.
+fn card_of(bytes: &[u8]) -> Option<Card> {
+    let curve = match bytes {
+        [0, offset @ ..] => Curve::Thawed(float_of(offset)?),
+        [1, rest @ ..] => frozen_of(rest)?,
+        _ => return None,
+    };
+    Some(Card { serial: 0, curve })
 }
 
-fn float_from(bytes: &[u8], at: usize) -> f64 {
-    let end = bytes.len();
-    if at <= end {
-        return first_float(&bytes[at..end]);
-    }
-    0.0
-}
-
-// A card has no serial number here.
-fn with_curve(curve: Curve) -> CardWord {
-    CardWord::Is(Card {
-        serial: 0,
-        curve: curve,
+fn calibration_of(thawed: &[u8], frozen: &[u8]) -> Option<Calibration> {
+    Some(Calibration {
+        thawed: card_of(thawed)?,
+        frozen: card_of(frozen)?,
     })
 }
 
-fn card_of(bytes: &[u8]) -> CardWord {
-    let kind = byte_at(bytes, 0);
-    let n = bytes.len();
-    if n == 9 {
-        if kind == 0 {
-            return with_curve(Curve::Thawed(float_from(bytes, 1)));
-        }
-    }
-    if n == 17 {
-        if kind == 1 {
-            return with_curve(Curve::Frozen(float_from(bytes, 1), float_from(bytes, 9)));
-        }
-    }
-    CardWord::Not
-}
-
-// ` ` and the eight bytes of a float's bits.
-fn put_float(rt: &HostRuntime, page: &mut [u8], at: usize, x: f64) -> io::Result<usize> {
-    let bits = bits_of_float(x);
-    let bytes = [
-        low8(bits / 72057594037927936),
-        low8(bits / 281474976710656),
-        low8(bits / 1099511627776),
-        low8(bits / 4294967296),
-        low8(bits / 16777216),
-        low8(bits / 65536),
-        low8(bits / 256),
-        low8(bits),
-    ];
-    put_hex(rt, page, at, &bytes)
-}
-
-fn put_corrected(rt: &HostRuntime, page: &mut [u8], corrected: Corrected) -> io::Result<usize> {
-    match corrected {
-        Corrected::Count(x) => {
-            let at = put(rt, page, 0, b"count")?;
-            put_float(rt, page, at, x)
-        }
-        Corrected::Refused(fault) => put_refused(rt, page, 0, correction_fault_number(fault)),
-    }
-}
-
 // A raw count corrected by two cards.
-pub fn ask_correct(
-    rt: &HostRuntime,
-    page: &mut [u8],
+pub fn tell_correct(
+    page: &mut Page,
     thawed: &[u8],
     frozen: &[u8],
     tenths: i32,
     raw: u32,
-) -> io::Result<usize> {
-    let first = card_of(thawed);
-    let CardWord::Is(t) = first else {
-        return put(rt, page, 0, b"what");
+) -> io::Result<()> {
+    let Some(calibration) = calibration_of(thawed, frozen) else {
+        return page.tell(b"what");
     };
-    let second = card_of(frozen);
-    let CardWord::Is(f) = second else {
-        return put(rt, page, 0, b"what");
-    };
-    let calibration = Calibration {
-        thawed: t,
-        frozen: f,
-    };
-    put_corrected(rt, page, correct(calibration, tenths, raw))
+    match correct(calibration, tenths, raw) {
+        Ok(count) => {
+            page.put(b"count")?;
+            page.put_hex(&bits_of_float(count).to_be_bytes())?;
+            page.end_line()
+        }
+        Err(fault) => page.tell_refused(correction_fault_number(fault)),
+    }
 }

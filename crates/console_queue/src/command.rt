@@ -1,36 +1,52 @@
-// The commands of the queue, as forms.
-use script::form::Form;
-use script::lines::read_from;
-use script::words::{rest, word};
-use wire::same;
+// The commands of the queue, and the fields of what waits.
+use crate::memory::Memory;
+use connection::answer::Output;
+use fastcgi_queue::{QUEUE, WAITS};
+use script::words::Words;
 
-// Their numbers, above those of the console's other commands.
-pub const QUEUE_SAY: u64 = 40;
-
-pub const QUEUE_END: u64 = 41;
-
-pub const QUEUE_FINISH: u64 = 42;
-
-pub const PUMP: u64 = 43;
-
-// Whether a line begins with the word `queue` or `pump`.
-pub fn is_queue(line: &[u8]) -> bool {
-    if same(word(line, 0), b"queue") {
-        return true;
-    }
-    same(word(line, 0), b"pump")
+// A call by which something comes to wait.
+#[derive(Clone, Copy)]
+pub enum Queued<'a> {
+    Output(u16, Output, &'a [u8]),
+    End(u16, Output),
+    Finish(u16, u32),
 }
 
-// A line that begins with one of these words.
-pub fn read_queue(line: &[u8], bytes: &mut [u8]) -> Form {
-    if same(word(line, 0), b"pump") {
-        return read_from(PUMP, line, b"pump", b"km", bytes);
+// A number, a mark or a byte of the queue, and what it is set to.
+#[derive(Clone, Copy)]
+pub enum WaitField {
+    Number(usize, u16),
+    Mark(usize, u8),
+    Byte(usize, u8),
+}
+
+// What stands after the word `queue`.
+pub fn read_queued<'a>(words: &mut Words<'a>, most: usize) -> Option<Queued<'a>> {
+    match words.next()? {
+        b"say" => Some(Queued::Output(words.short()?, words.output()?, words.bytes(most)?)),
+        b"end" => Some(Queued::End(words.short()?, words.output()?)),
+        b"finish" => Some(Queued::Finish(words.short()?, words.long()?)),
+        _ => None,
     }
-    read_from(
-        QUEUE_SAY,
-        rest(line),
-        b"say end finish",
-        b"ioh io iu",
-        bytes,
-    )
+}
+
+// A field of what waits by its name.
+pub fn read_wait_field(name: &[u8], words: &mut Words) -> Option<WaitField> {
+    match name {
+        b"number" => Some(WaitField::Number(words.up_to(WAITS - 1)?, words.short()?)),
+        b"mark" => Some(WaitField::Mark(words.up_to(QUEUE - 1)?, words.byte()?)),
+        b"queue" => Some(WaitField::Byte(words.up_to(QUEUE - 1)?, words.byte()?)),
+        _ => None,
+    }
+}
+
+impl WaitField {
+    pub fn set(self, memory: &mut Memory) {
+        match self {
+            WaitField::Number(i, n) if i < WAITS => memory.waits[i] = n,
+            WaitField::Mark(i, n) if i < QUEUE => memory.marks[i] = n,
+            WaitField::Byte(i, n) if i < QUEUE => memory.queue[i] = n,
+            _ => {}
+        }
+    }
 }

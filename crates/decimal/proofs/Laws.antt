@@ -1,9 +1,8 @@
 -- What the loop over the digits keeps: the value of all digits is that of the ones left, after those read.
-use Rattle.std.specs.Prelude.{ℕ, zero, suc, ◌+◌, ◌*◌, ◌≤◌, ◌<◌, ◌≡◌, refl, true, false, List, length, drop, get_or, ltb}
-use Rattle.std.proofs.Common.{arith, drop_of_length-le, drop-cons, ltb-false, leb-true}
-use Rattle.std.proofs.Math.Option.{none, some}
+use Rattle.std.specs.Prelude.{ℕ, zero, suc, ◌+◌, ◌*◌, ◌≤◌, ◌<◌, ◌≡◌, refl, true, false, List, length, drop, get_or, ltb, Some, None}
+use Rattle.std.proofs.Common.{arith, drop_of_length-le, drop-cons, ltb-false, leb-true, le-ltb, ne_eqb}
 use Rattle.wire.specs.Test.{by_test}
-use Rattle.decimal.specs.Decimal.{is_digit, digit_value, digits_after}
+use Rattle.decimal.specs.Decimal.{is_digit, digit_value, digits_after, decimal_of}
 
 -- A digit's byte.
 pub digit_byte : (byte : ℕ) → is_digit byte ≡ true → (48 ≤ byte) × (byte ≤ 57)
@@ -21,7 +20,7 @@ digit_more n text i h d =
     rw (drop-cons text i 0, one) (simp d)
 
 -- Something else.
-pub digit_none : (n : ℕ) (text : List ℕ) (i : ℕ) → i < length text → is_digit (get_or text i 0) ≡ false → digits_after n (drop i text) ≡ none
+pub digit_none : (n : ℕ) (text : List ℕ) (i : ℕ) → i < length text → is_digit (get_or text i 0) ≡ false → digits_after n (drop i text) ≡ None
 unfolding digits_after
 digit_none n text i h d = rw (drop-cons text i 0) (simp d)
 
@@ -54,6 +53,11 @@ ten_small (suc (suc (suc (suc (suc (suc (suc (suc (suc zero))))))))) h = omega a
 ten_small (suc (suc (suc (suc (suc (suc (suc (suc (suc (suc i)))))))))) h = absurd (omega arith)
 
 -- The end of the digits.
-pub digits_end : (n : ℕ) (text : List ℕ) (i : ℕ) → length text ≤ i → digits_after n (drop i text) ≡ some n
+pub digits_end : (n : ℕ) (text : List ℕ) (i : ℕ) → length text ≤ i → digits_after n (drop i text) ≡ Some n
 unfolding digits_after
 digits_end n text i h = rw (drop_of_length-le text h)
+
+-- A text of one to ten bytes is read as its digits.
+pub whole : (text : List ℕ) → 0 < length text → length text ≤ 10 → decimal_of text ≡ digits_after 0 text
+unfolding decimal_of
+whole text some few = simp (ne_eqb (length text) 0 (omega arith), le-ltb 10 (length text) few)

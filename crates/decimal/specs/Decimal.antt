@@ -1,8 +1,6 @@
 -- Numbers written in decimal digits, as the text of a parameter has them.
-use Rattle.std.specs.Prelude.{ℕ, ◌+◌, ◌*◌, ◌-◌, Bool, false, List, [], ◌∷◌, length, if◌then◌else◌}
-use Rattle.std.proofs.Math.Option.{Option, none, some}
+use Rattle.std.specs.Prelude.{ℕ, ◌+◌, ◌*◌, ◌-◌, Bool, false, List, [], ◌∷◌, length, if◌then◌else◌, Some, None, Option}
 use Rattle.wire.specs.Test.{◌<?◌, ◌≤?◌, ◌=?◌}
-use Rattle.decimal.specs.declared.Decimal.{Decimal}
 
 -- the bytes 30 to 39 (hex)
 abbrev pub is_digit : ℕ → Bool
@@ -13,16 +11,12 @@ digit_value byte = byte - 48
 
 -- digits after a number that was read before them, the highest first
 unfoldable pub digits_after : ℕ → List ℕ → Option ℕ
-digits_after n [] = some n
-digits_after n (byte ∷ text) = if is_digit byte then digits_after (n * 10 + digit_value byte) text else none
+digits_after n [] = Some n
+digits_after n (byte ∷ text) = if is_digit byte then digits_after (n * 10 + digit_value byte) text else None
 
 -- One to ten digits, and nothing else: no sign, no blank. Leading zeros are allowed.
 unfoldable pub decimal_of : List ℕ → Option ℕ
 decimal_of text =
-    if length text =? 0 then none
-    else if 10 <? length text then none
+    if length text =? 0 then None
+    else if 10 <? length text then None
     else digits_after 0 text
-
-abbrev pub read_as : Decimal → Option ℕ
-read_as (Decimal.Number n) = some n
-read_as Decimal.NoNumber = none

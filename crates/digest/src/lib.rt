@@ -6,50 +6,40 @@ ghost use Rattle.std.specs.Prelude.{◌≡◌, ℕ, ◌≤◌, ◌<◌};
 ghost use Rattle.connection.specs.Codes.{event_of, fault_number, fault_cause, close_number, close_cause};
 ghost use Rattle.codes.specs.Place.{cause_of};
 ghost use Rattle.conn_step.specs.Answer.{told_number, told_event};
-ghost use Rattle.digest.specs.Digest.{flag_number, measure_number, packed, place_of, weight, told_weight, mixed};
+ghost use Rattle.digest.specs.Digest.{measure_number, packed, place_of, weight, told_weight, mixed};
 ghost use Rattle.digest.specs.Digest.{next_end};
 
-use codes::{Place, close_place, fault_place};
+use codes::{close_place, fault_place};
+use connection::answer::Refusal;
 use fastcgi::{
-    Close, Event, Fault, Measure, StepResult, close_number, fault_number, refusal_number,
-    role_number, status_number, stream_type,
+    Close, Event, Fault, Measure, close_number, fault_number, refusal_number, role_number,
+    status_number, stream_type,
 };
-
-fn flag(b: bool) -> u8
-    ensures { result ≡ flag_number b }
-{
-    if b { 1 } else { 0 }
-}
 
 // A kind, an id, a small number and a length in one number.
 fn pack(kind: u8, id: u16, what: u8, n: u16) -> u64
     ensures { (result ≡ packed kind id what n) × (result < 281474976710656) }
 {
-    kind as u64 + id as u64 * 256 + what as u64 * 16777216 + n as u64 * 4294967296
+    u64::from(kind) + u64::from(id) * 256 + u64::from(what) * 16777216 + u64::from(n) * 4294967296
 }
 
 // The place, or 0 for none.
-fn place_number(place: Place) -> u16
+fn place_number(place: Option<u16>) -> u16
     ensures { (n : ℕ) → result ≡ place_of (cause_of n place) }
 {
-    match place {
-        Place::Nowhere => 0,
-        Place::At(at) => at,
-    }
+    place.unwrap_or(0)
 }
 
 fn fault_weight(id: u16, fault: Fault) -> u64
     ensures { (result ≡ packed 7 id (fault_number fault) (place_of (fault_cause fault))) × (result < 281474976710656) }
 {
-    let at = place_number(fault_place(fault));
-    pack(7, id, fault_number(fault), at)
+    pack(7, id, fault_number(fault), place_number(fault_place(fault)))
 }
 
 fn closed_weight(cause: Close) -> u64
     ensures { (result ≡ packed 10 0 (close_number cause) (place_of (close_cause cause))) × (result < 281474976710656) }
 {
-    let at = place_number(close_place(cause));
-    pack(10, 0, close_number(cause), at)
+    pack(10, 0, close_number(cause), place_number(close_place(cause)))
 }
 
 // The number of a word at a stream's end.
@@ -70,7 +60,7 @@ fn event_weight(e: Event) -> u64
 {
     match e {
         Event::Nothing => pack(0, 0, 0, 0),
-        Event::Open { id, role, keep } => pack(1, id, role_number(role), flag(keep) as u16),
+        Event::Open { id, role, keep } => pack(1, id, role_number(role), u16::from(keep)),
         Event::Ready { id, length } => pack(2, id, 0, length),
         Event::Data { id, stream, count } => pack(
             3,
@@ -92,31 +82,30 @@ fn event_weight(e: Event) -> u64
             mpxs_conns,
         } => pack(
             8,
-            flag(max_conns) as u16,
-            flag(max_reqs),
-            flag(mpxs_conns) as u16,
+            u16::from(max_conns),
+            u8::from(max_reqs),
+            u16::from(mpxs_conns),
         ),
         Event::Unknown { kind } => pack(9, 0, kind, 0),
         Event::Closed { cause } => closed_weight(cause),
     }
 }
 
-fn told_weight(told: StepResult) -> u64
+fn told_weight(told: Result<Event, Refusal>) -> u64
     ensures { (result ≡ told_weight (told_number told) (told_event told)) × (result < 281474976710656) }
 {
     match told {
-        StepResult::Event(e) => event_weight(e),
-        StepResult::Refused(why) => pack(11, 0, refusal_number(why), 0),
+        Ok(e) => event_weight(e),
+        Err(why) => pack(11, 0, refusal_number(why), 0),
     }
 }
 
 // What was told, mixed into a digest.
-pub fn mix(sum: u64, told: StepResult) -> u64
+pub fn mix(sum: u64, told: Result<Event, Refusal>) -> u64
     requires { sum < 72057594037927936 }
     ensures { (result ≡ mixed sum (told_number told) (told_event told)) × (result < 72057594037927936) }
 {
-    let x = told_weight(told);
-    (sum * 33 + x) % 72057594037927936
+    (sum * 33 + told_weight(told)) % 72057594037927936
 }
 
 // Where the piece ends that the byte at place `at` lies in, and after which `end` was the last.

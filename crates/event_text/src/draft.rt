@@ -6,7 +6,6 @@ ghost use Rattle.event_text.specs.Line.{LONGEST, decimal, cause_text, hex_digit,
 ghost use Rattle.event_text.specs.Line.{measure_word};
 ghost use Rattle.event_text.specs.Draft.{Says, Adds};
 
-use codes::Place;
 use connection::event::{Measure, Stream};
 use connection::request::Role;
 use wire::copy_into;
@@ -35,12 +34,11 @@ pub fn add(d: Draft, text: &[u8]) -> Draft
     requires { d.n + length text.now ≤ LONGEST }
     ensures { Adds d result text.now (length text.now) }
 {
-    let n = d.n;
     let mut bytes = d.bytes;
-    copy_into(&mut bytes, n, text);
+    copy_into(&mut bytes, d.n, text);
     Draft {
         bytes,
-        n: n + text.len(),
+        n: d.n + text.len(),
     }
 }
 
@@ -63,8 +61,7 @@ fn add_digit(d: Draft, digit: u8) -> Draft
     requires { (digit < 10) × (d.n + 1 ≤ LONGEST) }
     ensures { Adds d result ((48 + digit) ∷ []) 1 }
 {
-    let one = [48 + digit];
-    add(d, &one)
+    add(d, &[b'0' + digit])
 }
 
 // Adds a number in decimal.
@@ -88,30 +85,30 @@ pub fn add_number(d: Draft, n: u16) -> Draft
 }
 
 // Adds a space and a cause: its number and, where it has one, its place.
-pub fn add_cause(d: Draft, n: u16, place: Place) -> Draft
+pub fn add_cause(d: Draft, n: u16, place: Option<u16>) -> Draft
     requires { d.n + 15 ≤ LONGEST }
     ensures { Adds d result (32 ∷ cause_text (cause_of n place)) 15 }
 {
     let numbered = add_number(d, n);
     match place {
-        Place::Nowhere => numbered,
-        Place::At(at) => add_number(add(numbered, b" at"), at),
+        None => numbered,
+        Some(at) => add_number(add(numbered, b" at"), at),
     }
 }
 
+#[tactic(auto, unfolding(crate::specs::Line::hex_digit))]
 fn hex_digit(d: u8) -> u8
     requires { d < 16 }
     ensures { result ≡ hex_digit d }
 {
-    if d < 10 { 48 + d } else { 97 + (d - 10) }
+    if d < 10 { b'0' + d } else { b'a' + (d - 10) }
 }
 
 pub fn add_hex(d: Draft, byte: u8) -> Draft
     requires { d.n + 3 ≤ LONGEST }
     ensures { Adds d result (32 ∷ hex byte) 3 }
 {
-    let text = [32, hex_digit(byte / 16), hex_digit(byte % 16)];
-    add(d, &text)
+    add(d, &[b' ', hex_digit(byte / 16), hex_digit(byte % 16)])
 }
 
 pub fn add_role(d: Draft, role: Role) -> Draft

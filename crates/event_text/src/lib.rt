@@ -14,15 +14,13 @@ pub use crate::draft::LONGEST;
 use connection::event::{Event, Stream};
 use wire::copy_into;
 
-// Puts text into out at place `at`, if there is room for all of it.
-fn put_text(out: &mut [u8], at: usize, text: &[u8]) -> usize
+// Puts text into out at place `at`, if there is room for all of it, and answers the place after it.
+// Where there is not, nothing is written and the answer is `at`.
+pub fn put_text(out: &mut [u8], at: usize, text: &[u8]) -> usize
     ensures { record { next = result; buffer = out.new }
         ≡ line_placed out.old at text.now }
 {
-    if out.len() < at {
-        return at;
-    }
-    if out.len() - at < text.len() {
+    if out.len() < at || out.len() - at < text.len() {
         return at;
     }
     copy_into(out, at, text);
@@ -33,9 +31,7 @@ fn put_draft(out: &mut [u8], at: usize, d: Draft) -> usize
     requires { d.n ≤ LONGEST }
     ensures { record { next = result; buffer = out.new } ≡ line_placed out.old at (text_of d) }
 {
-    let n = d.n;
-    let bytes = d.bytes;
-    put_text(out, at, &bytes[..n])
+    put_text(out, at, &d.bytes[..d.n])
 }
 
 // Writes the line of an event into out at place `at`, and answers the place after it.

@@ -61,52 +61,49 @@ fn abort_line(id: u16) -> Draft
 fn refuse_line(id: u16, status: Status) -> Draft
     ensures { Says result (line refuse_word (decimal id ∷ decimal (status_number status) ∷ [])) LONGEST }
 {
-    line_of_two(b"refuse", id, status_number(status) as u16)
+    line_of_two(b"refuse", id, u16::from(status_number(status)))
 }
 
 fn fault_line(id: u16, fault: Fault) -> Draft
     ensures { Says result (line fault_word (decimal id ∷ cause_text (fault_cause fault) ∷ [])) LONGEST }
 {
     let begun = add_number(begin(b"fault"), id);
-    let n = fault_number(fault) as u16;
-    let place = fault_place(fault);
-    finish(add_cause(begun, n, place))
+    finish(add_cause(begun, u16::from(fault_number(fault)), fault_place(fault)))
 }
 
 fn flag_digit(named: bool) -> u8
     ensures { result ≡ flag named }
 {
-    if named { 49 } else { 48 }
+    if named { b'1' } else { b'0' }
 }
 
 fn query_line(conns: bool, reqs: bool, mpxs: bool) -> Draft
     ensures { Says result (line query_word ((flag conns ∷ flag reqs ∷ flag mpxs ∷ []) ∷ [])) LONGEST }
 {
-    let text = [
-        32,
+    let flags = [
+        b' ',
         flag_digit(conns),
         flag_digit(reqs),
         flag_digit(mpxs),
-        10,
+        b'\n',
     ];
-    add(begin(b"query"), &text)
+    add(begin(b"query"), &flags)
 }
 
 fn unknown_line(kind: u8) -> Draft
     ensures { Says result (line unknown_word (decimal kind ∷ [])) LONGEST }
 {
-    line_of_one(b"unknown", kind as u16)
+    line_of_one(b"unknown", u16::from(kind))
 }
 
 fn closed_line(close: Close) -> Draft
     ensures { Says result (line closed_word (cause_text (close_cause close) ∷ [])) LONGEST }
 {
-    let begun = begin(b"closed");
-    let n = close_number(close) as u16;
-    let place = close_place(close);
-    finish(add_cause(begun, n, place))
+    let number = u16::from(close_number(close));
+    finish(add_cause(begin(b"closed"), number, close_place(close)))
 }
 
+#[tactic(auto, unfolding(crate::specs::Line::event_line))]
 pub(crate) fn event_line(e: Event) -> Draft
     ensures { Says result (event_line (event_of e)) LONGEST }
 {
@@ -114,11 +111,7 @@ pub(crate) fn event_line(e: Event) -> Draft
         Event::Nothing => blank(),
         Event::Open { id, role, keep } => open_line(id, role, keep),
         Event::Ready { id, length } => ready_line(id, length),
-        Event::Data {
-            id: _,
-            stream: _,
-            count: _,
-        } => blank(),
+        Event::Data { .. } => blank(),
         Event::End {
             id,
             stream,
@@ -137,6 +130,7 @@ pub(crate) fn event_line(e: Event) -> Draft
     }
 }
 
+#[tactic(auto, using(crate::proofs::DraftLaws::line_of_3), unfolding(crate::specs::Line::byte_line))]
 pub(crate) fn byte_line(id: u16, stream: Stream, byte: u8) -> Draft
     ensures { Says result (byte_line id (stream_type stream) byte) LONGEST }
 {

@@ -1,5 +1,5 @@
 -- The cases marked P: one table, and one theorem, computed by the checker.
-use Rattle.std.specs.Prelude.{ℕ, refl, true, false, List, [], ◌∷◌, ◌++◌, length}
+use Rattle.std.specs.Prelude.{ℕ, refl, true, false, List, [], ◌∷◌, ◌++◌, length, Some, None, Option}
 use Rattle.record.specs.Names.{PARAMS, STDIN, DATA}
 use Rattle.wire.specs.Number.{number4}
 use Rattle.wire.specs.Buffer.{copied}
@@ -21,10 +21,8 @@ use Rattle.connection.specs.Shape.{id_fits, slots_fit, position_fits, in_shape}
 use Rattle.connection.specs.Step.{on_inactive, on_active, judged, opens, begun, of_begin, of_request, advances, step_refusal, stepped, started}
 use Rattle.connection.specs.Bytewise.{Note, showing, fed}
 use Rattle.examples.specs.Fed.{told, last_of, begin, empty, begins}
-use Rattle.pairs.specs.declared.length.Length.{Length}
 use Rattle.pairs.specs.declared.pair.Read.{Read}
 use Rattle.pair_list.specs.declared.Ending.{Ending}
-use Rattle.std.proofs.Math.Option.{Option, none, some}
 use Rattle.machine.specs.Cause.{Cause, Plain, At}
 use Rattle.connection.specs.Event.{Event}
 use Rattle.examples.specs.Row.{Row, ◌gives◌, Holds}
@@ -50,14 +48,14 @@ abbrev nameless : List ℕ
 nameless = 0x00 ∷ 0x00 ∷ []
 
 abbrev no_fault : Option Cause
-no_fault = none
+no_fault = None
 
 -- CONTENT_LENGTH with that value
 abbrev stating : List ℕ → List ℕ
 stating value = 14 ∷ length value ∷ (CONTENT_LENGTH ++ value)
 
 abbrev no_length : Option ℕ
-no_length = none
+no_length = None
 
 -- A filter whose list, written out, states CONTENT_LENGTH 3 and FCGI_DATA_LENGTH 1; then two bytes of STDIN and its end,
 -- and one byte of DATA and its end.
@@ -75,24 +73,24 @@ bodies =
 abbrev pub table : List Row
 table =
     (header_of (0x01 ∷ 0x05 ∷ 0x00 ∷ 0x01 ∷ 0x00 ∷ 0x03 ∷ 0x05 ∷ 0x00 ∷ []) gives record { version = 1; kind = STDIN; id = 1; content = 3; padding = 5 })
-    ∷ (length_at (0x7F ∷ []) 0 gives Length.Is 127 1)
-    ∷ (length_at (0x80 ∷ 0x00 ∷ 0x00 ∷ 0x80 ∷ []) 0 gives Length.Is 128 4)
-    ∷ (length_at (0x80 ∷ 0x00 ∷ 0x00 ∷ 0xC8 ∷ []) 0 gives Length.Is 200 4)
-    ∷ (length_at (0x80 ∷ 0x00 ∷ 0x00 ∷ 0x7F ∷ []) 0 gives Length.Is 127 4)
-    ∷ (length_at (0x80 ∷ 0x00 ∷ 0x00 ∷ 0x00 ∷ []) 0 gives Length.Is 0 4)
-    ∷ (length_at (0x80 ∷ 0x00 ∷ 0x00 ∷ []) 0 gives Length.Malformed)
+    ∷ (length_at (0x7F ∷ []) 0 gives Some (127, 1))
+    ∷ (length_at (0x80 ∷ 0x00 ∷ 0x00 ∷ 0x80 ∷ []) 0 gives Some (128, 4))
+    ∷ (length_at (0x80 ∷ 0x00 ∷ 0x00 ∷ 0xC8 ∷ []) 0 gives Some (200, 4))
+    ∷ (length_at (0x80 ∷ 0x00 ∷ 0x00 ∷ 0x7F ∷ []) 0 gives Some (127, 4))
+    ∷ (length_at (0x80 ∷ 0x00 ∷ 0x00 ∷ 0x00 ∷ []) 0 gives Some (0, 4))
+    ∷ (length_at (0x80 ∷ 0x00 ∷ 0x00 ∷ []) 0 gives None)
     ∷ (pairs_from port 0 gives record { pairs = record { name = 2; name_len = 11; value = 13; value_len = 2 } ∷ []; ending = Ending.End })
     ∷ (pair_at port 0 gives Read.Pair (record { name = 2; name_len = 11; value = 13; value_len = 2 }) 15)
     ∷ (pair_at port_cut 0 gives Read.Malformed 0)
     ∷ (well_formed port_cut gives false)
-    ∷ (params_fault (temp ++ temp_again) gives some (Plain 26))
-    ∷ (params_fault (temp ++ port ++ temps ++ temp_again) gives some (Plain 26))
+    ∷ (params_fault (temp ++ temp_again) gives Some (Plain 26))
+    ∷ (params_fault (temp ++ port ++ temps ++ temp_again) gives Some (Plain 26))
     ∷ (params_fault (temp ++ temps) gives no_fault)
-    ∷ (params_fault (nameless ++ temp ++ nameless) gives some (Plain 26))
+    ∷ (params_fault (nameless ++ temp ++ nameless) gives Some (Plain 26))
     ∷ (params_fault (nameless ++ temp) gives no_fault)
-    ∷ (params_fault (temp ++ temp_again ++ port_cut) gives some (At 25 13))
-    ∷ (params_fault port_cut gives some (At 25 0))
-    ∷ (params_fault (port ++ port_cut) gives some (At 25 15))
+    ∷ (params_fault (temp ++ temp_again ++ port_cut) gives Some (At 25 13))
+    ∷ (params_fault port_cut gives Some (At 25 0))
+    ∷ (params_fault (port ++ port_cut) gives Some (At 25 15))
     ∷ (compared (84 ∷ 69 ∷ []) (84 ∷ 69 ∷ 83 ∷ []) gives record { equal = false; places = 0 })
     ∷ (compared (84 ∷ 69 ∷ 77 ∷ []) (84 ∷ 73 ∷ 77 ∷ []) gives record { equal = false; places = 2 })
     ∷ (compared (84 ∷ 69 ∷ []) (84 ∷ 69 ∷ []) gives record { equal = true; places = 2 })
@@ -100,8 +98,8 @@ table =
     ∷ (last_of (told 34 (begins 16 ++ begin 17 4)) gives Note.Told (Event.Refuse 17 3))
     ∷ (last_of (told 34 (begins 16 ++ begin 17 1)) gives Note.Told (Event.Refuse 17 2))
     ∷ (last_of (told 3 (begin 1 1 ++ empty STDIN 1)) gives Note.Told (Event.Fault 1 (Plain 22)))
-    ∷ (stated_in (stating (48 ∷ 48 ∷ 55 ∷ [])) CONTENT_LENGTH gives some 7)
-    ∷ (stated_in (stating (52 ∷ 50 ∷ 57 ∷ 52 ∷ 57 ∷ 54 ∷ 55 ∷ 50 ∷ 57 ∷ 52 ∷ [])) CONTENT_LENGTH gives some 4294967294)
+    ∷ (stated_in (stating (48 ∷ 48 ∷ 55 ∷ [])) CONTENT_LENGTH gives Some 7)
+    ∷ (stated_in (stating (52 ∷ 50 ∷ 57 ∷ 52 ∷ 57 ∷ 54 ∷ 55 ∷ 50 ∷ 57 ∷ 52 ∷ [])) CONTENT_LENGTH gives Some 4294967294)
     ∷ (stated_in (stating (52 ∷ 50 ∷ 57 ∷ 52 ∷ 57 ∷ 54 ∷ 55 ∷ 50 ∷ 57 ∷ 53 ∷ [])) CONTENT_LENGTH gives no_length)
     ∷ (stated_in (stating (57 ∷ 57 ∷ 57 ∷ 57 ∷ 57 ∷ 57 ∷ 57 ∷ 57 ∷ 57 ∷ 57 ∷ [])) CONTENT_LENGTH gives no_length)
     ∷ (stated_in (stating (43 ∷ 55 ∷ [])) CONTENT_LENGTH gives no_length)
@@ -110,10 +108,10 @@ table =
     ∷ (stated_in (stating ([])) CONTENT_LENGTH gives no_length)
     ∷ (stated_in port CONTENT_LENGTH gives no_length)
     ∷ (stated_in (stating (55 ∷ [])) DATA_LENGTH gives no_length)
-    ∷ (measured 2 (some 3) gives Measure.Short)
-    ∷ (measured 3 (some 3) gives Measure.Exact)
-    ∷ (measured 4 (some 3) gives Measure.Over)
-    ∷ (measured 4294967295 (some 4294967294) gives Measure.Over)
+    ∷ (measured 2 (Some 3) gives Measure.Short)
+    ∷ (measured 3 (Some 3) gives Measure.Exact)
+    ∷ (measured 4 (Some 3) gives Measure.Over)
+    ∷ (measured 4294967295 (Some 4294967294) gives Measure.Over)
     ∷ (measured 3 no_length gives Measure.Unstated)
     ∷ (told 11 bodies
     gives Note.Told (Event.Open 1 3 true) ∷ Note.Told (Event.Ready 1 36) ∷ Note.Shown 1 STDIN 45 ∷ Note.Shown 1 STDIN 49 ∷ Note.Told (Event.End 1 STDIN Measure.Short)

@@ -1,6 +1,7 @@
 -- A worked instance of any shuffle of requests: the same records and calls of the requests 1, 2 and 3, shuffled in two
 -- ways, with all that is observed of each written out.
-use Rattle.std.specs.Prelude.{◌≡◌, refl, Bool, true, false, ℕ, ◌-◌, ◌<◌, eqb, replicate}
+use Rattle.connection.specs.Slots.{Slot}
+use Rattle.std.specs.Prelude.{◌≡◌, refl, Bool, true, false, ℕ, ◌-◌, ◌<◌, eqb, replicate, Some}
 use Rattle.std.proofs.Common.{ap, sym, ◌∙◌, subst, eqb-true}
 use mathlib.Core.List.{List, [], ◌∷◌, ◌++◌, flatten}
 use Rattle.std.proofs.Math.Option.{Option, none, some}
@@ -28,7 +29,6 @@ use Rattle.connection.specs.declared.request.Role.{Role}
 use Rattle.connection.specs.declared.request.Turn.{Turn}
 use Rattle.connection.specs.declared.request.Life.{Life}
 use Rattle.connection.specs.declared.request.RequestState.{RequestState}
-use Rattle.connection.specs.declared.state.Slot.{Slot}
 use Rattle.connection.specs.Sizes.{STORE, QUERY, AREA}
 use Rattle.connection.specs.Event.{Event}
 use Rattle.connection.specs.Request.{Held, counted, with_turn, with_life, faulted, aborted, turned, params_fault, params_ended, on_params, on_stdin, on_data, on_input, on_live, on_header, grown, opened}
@@ -330,11 +330,11 @@ unfolding all_items refused_in copied taken lowest_free with_bit with_slot witho
 computing = tt
 
 -- In A, 1 ends in slot 0 and 3 in slot 1, where 2 was; in B, 3 ends in slot 0 and 1 in slot 1.
-pub outcome_of_a : outcome A ≡ expected parts_a (Slot.At 0) (Slot.At 1)
+pub outcome_of_a : outcome A ≡ expected parts_a (Some 0) (Some 1)
 unfolding computing
 outcome_of_a = refl
 
-pub outcome_of_b : outcome B ≡ expected parts_b (Slot.At 1) (Slot.At 0)
+pub outcome_of_b : outcome B ≡ expected parts_b (Some 1) (Some 0)
 unfolding computing
 outcome_of_b = refl
 

@@ -28,29 +28,20 @@ fn feed_all(
         ≡ fed_all (state_of c gathered.old) store.old input.now piece }
 {
     let mut conn = c;
-    let mut sum: u64 = 0;
-    let mut at: usize = 0;
-    let mut end: usize = 0;
+    let mut sum = 0;
+    let mut at = 0;
+    let mut end = 0;
     while at < input.len() {
         end = next_end(at, end, piece, input.len());
-        let s = step(conn, store, gathered, &input[at..end]);
-        let used = s.used;
-        let told = s.result;
-        let next = s.conn;
-        conn = next;
-        if used == 0 {
-            return Fed {
-                conn: conn,
-                sum: sum,
-            };
+        let stepped = step(conn, store, gathered, &input[at..end]);
+        conn = stepped.conn;
+        if stepped.used == 0 {
+            return Fed { conn, sum };
         }
-        sum = mix(sum, told);
-        at = at + used;
+        sum = mix(sum, stepped.result);
+        at += stepped.used;
     }
-    Fed {
-        conn: conn,
-        sum: sum,
-    }
+    Fed { conn, sum }
 }
 
 // The digest of an input that a fresh connection is fed in pieces of `piece` bytes.
@@ -59,8 +50,6 @@ pub extern "C" fn fastcgi_digest(store: &mut [u8], input: &[u8], piece: usize) -
     ensures { digest_by result store.new ≡ digest store.old input.now piece }
 {
     let mut gathered = [0u8; QUERY];
-    let s = start(store, &mut gathered);
-    let c = s.conn;
-    let fed = feed_all(c, store, &mut gathered, input, piece);
-    fed.sum
+    let started = start(store, &mut gathered);
+    feed_all(started.conn, store, &mut gathered, input, piece).sum
 }

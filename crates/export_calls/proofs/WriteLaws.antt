@@ -1,10 +1,8 @@
 -- What the code of a call that writes leaves is what its definition leaves, by the equation of that call.
-use Rattle.std.specs.Prelude.{ℕ, ◌≡◌, refl, List, []}
+use Rattle.std.specs.Prelude.{ℕ, ◌≡◌, refl, List, [], Ok, Err, Result}
 use Rattle.std.proofs.Common.{ap, ◌∙◌}
-use Rattle.pair_writer.specs.declared.PairWrote.{PairWrote}
 use Rattle.pair_writer.specs.Write as Pair
 use Rattle.connection.specs.declared.state.Conn.{Conn}
-use Rattle.connection.specs.declared.answer.Wrote.{Wrote}
 use Rattle.connection.specs.declared.answer.Written.{Written as WriteCall}
 use Rattle.connection.specs.Calls.{Written, Finished, Replied}
 use Rattle.call_output.specs.Answer.{written_by}
@@ -24,10 +22,12 @@ use Rattle.flat_answer.specs.declared.answer.FlatWrote.{FlatWrote}
 use Rattle.flat_answer.specs.WriteAnswers.{flat_queued, flat_pumped, flat_written, flat_finished}
 use Rattle.flat_answer.specs.WriteAnswers.{flat_replied, flat_pair_written}
 use Rattle.export_calls.specs.Wait.{DataWaits, data_left, EndWaits, end_left, AfterTurn, turn_left}
-use Rattle.reading_writer.specs.declared.ReadingWrote.{ReadingWrote}
 use Rattle.reading_writer.specs.Written as Reading
 use Rattle.export_calls.specs.Body.{reading_left}
 use Rattle.export_calls.specs.Say.{Filled, output_left, AfterFinish, finish_left, reply_left, pair_left}
+use Rattle.connection.specs.declared.answer.Refusal.{Refusal}
+use Rattle.pair_writer.specs.declared.PairRefusal.{PairRefusal}
+use Rattle.reading_writer.specs.declared.ReadingRefusal.{ReadingRefusal}
 
 -- ---- what comes to wait
 pub leaves_data : (r : QueueCall) {q : Queueing} {waits marks queue : List ℕ} {answer : FlatQueued}
@@ -68,35 +68,35 @@ unfolding flat_finished
 leaves_finish c before r e w a = rw (a, w) (ap (finish_left c before) e)
 
 -- ---- replies and pairs
-pub leaves_reply : (r : Wrote) {x : Replied} {out : List ℕ} {answer : FlatWrote}
+pub leaves_reply : (r : Result ℕ Refusal) {x : Replied} {out : List ℕ} {answer : FlatWrote}
     → replied_by r out ≡ x → answer ≡ flat_replied (replied_by r [])
     → ◌≡◌ {A = Filled FlatWrote} (record { answer = answer; out = out }) (reply_left x)
 unfolding flat_replied
 leaves_reply r e a = rw a (ap reply_left e)
 
-pair_answer : (r : PairWrote) (out : List ℕ)
+pair_answer : (r : Result ℕ PairRefusal) (out : List ℕ)
     → ◌≡◌ {A = Filled FlatWrote} (record { answer = flat_pair_written (Pair.answered r []); out = out })
     (pair_left (Pair.answered r out))
 unfolding flat_pair_written
-pair_answer (PairWrote.Bytes n) out = refl
-pair_answer PairWrote.TooLong out = refl
-pair_answer PairWrote.NoRoom out = refl
+pair_answer (Ok n) out = refl
+pair_answer (Err PairRefusal.TooLong) out = refl
+pair_answer (Err PairRefusal.NoRoom) out = refl
 
-pub leaves_pair : (r : PairWrote) {w : Pair.Written} {out : List ℕ} {answer : FlatWrote}
+pub leaves_pair : (r : Result ℕ PairRefusal) {w : Pair.Written} {out : List ℕ} {answer : FlatWrote}
     → Pair.answered r out ≡ w → answer ≡ flat_pair_written (Pair.answered r [])
     → ◌≡◌ {A = Filled FlatWrote} (record { answer = answer; out = out }) (pair_left w)
 leaves_pair r {out = out} e a = rw a (pair_answer r out ∙ ap pair_left e)
 
 -- ---- readings
-reading_answer : (r : ReadingWrote) (out : List ℕ)
+reading_answer : (r : Result ℕ ReadingRefusal) (out : List ℕ)
     → let w = Reading.written_by r [] in
     ◌≡◌ {A = Filled FlatWrote} (record { answer = record { written = w.bytes; refusal = w.refusal }; out = out })
     (reading_left (Reading.written_by r out))
-reading_answer (ReadingWrote.Bytes n) out = refl
-reading_answer ReadingWrote.OutOfRange out = refl
-reading_answer ReadingWrote.NoRoom out = refl
+reading_answer (Ok n) out = refl
+reading_answer (Err ReadingRefusal.OutOfRange) out = refl
+reading_answer (Err ReadingRefusal.NoRoom) out = refl
 
-pub leaves_reading : (r : ReadingWrote) {w : Reading.Written} {out : List ℕ} {written refusal : ℕ}
+pub leaves_reading : (r : Result ℕ ReadingRefusal) {w : Reading.Written} {out : List ℕ} {written refusal : ℕ}
     → Reading.written_by r out ≡ w → written ≡ (Reading.written_by r []).bytes → refusal ≡ (Reading.written_by r []).refusal
     → ◌≡◌ {A = Filled FlatWrote} (record { answer = record { written = written; refusal = refusal }; out = out })
     (reading_left w)

@@ -27,8 +27,7 @@ pub extern "C" fn yot_value(
         return no_place(Refusal::OutOfShape);
     }
     let c = from_flat(state);
-    let place = value_place(c, waits, store, id, name);
-    flat_place(place)
+    flat_place(value_place(c, waits, store, id, name))
 }
 
 // Where a request's list lies in the store. The same refusals.
@@ -45,8 +44,7 @@ pub extern "C" fn yot_list(
         return no_place(Refusal::OutOfShape);
     }
     let c = from_flat(state);
-    let place = list_place(c, waits, store, id);
-    flat_place(place)
+    flat_place(list_place(c, waits, store, id))
 }
 
 // The pair of number k, counted from 0. Refusals 9 of an unknown code, 2, 9, 1, 3, 4, 7.
@@ -64,8 +62,7 @@ pub extern "C" fn yot_pair_at(
         return refused_pair(Refusal::OutOfShape);
     }
     let c = from_flat(state);
-    let n = pair_at(c, waits, store, id, k);
-    flat_numbered(n)
+    flat_numbered(pair_at(c, waits, store, id, k))
 }
 
 // What is read at a place of a request's list. Refusals 9 of an unknown code, 2, 9, 1, 3, 4.
@@ -83,8 +80,7 @@ pub extern "C" fn yot_pair_from(
         return refused_pair(Refusal::OutOfShape);
     }
     let c = from_flat(state);
-    let r = pair_from(c, waits, store, id, place);
-    flat_read_from(r)
+    flat_read_from(pair_from(c, waits, store, id, place))
 }
 
 // What a request is. Refusals 9 of an unknown code, 9, 1, 3.
@@ -96,8 +92,7 @@ pub extern "C" fn yot_request(state: FlatState, waits: &[u16; WAITS], id: u16) -
         return no_request(Refusal::OutOfShape);
     }
     let c = from_flat(state);
-    let a = request_of(c, waits, id);
-    flat_request(a)
+    flat_request(request_of(c, waits, id))
 }
 
 // How many requests are active. Refusals 9 of an unknown code, 9, 1.
@@ -109,6 +104,5 @@ pub extern "C" fn yot_active_count(state: FlatState, waits: &[u16; WAITS]) -> Fl
         return no_count(Refusal::OutOfShape);
     }
     let c = from_flat(state);
-    let n = active_count(c, waits);
-    flat_count(n)
+    flat_count(active_count(c, waits))
 }

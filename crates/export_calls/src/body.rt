@@ -16,8 +16,7 @@ use flat_reading::{
 pub extern "C" fn yot_new_reader() -> FlatReader
     ensures { result ≡ exported_new_reader }
 {
-    let r = new_reader();
-    to_flat_reader(r)
+    to_flat_reader(new_reader())
 }
 
 // Reads on in a body. Refusals 9 of an unknown code, 31, 32, 33, or the one that stands.
@@ -28,9 +27,7 @@ pub extern "C" fn yot_read_reading(reader: FlatReader, bytes: &[u8]) -> FlatRead
     if !is_known_reader(reader) {
         return unread(reader);
     }
-    let r = from_flat_reader(reader);
-    let q = read_reading(r, bytes);
-    flat_read(q)
+    flat_read(read_reading(from_flat_reader(reader), bytes))
 }
 
 // The body ends. Refusals 9 of an unknown code, 34, or the one that stands.
@@ -41,9 +38,7 @@ pub extern "C" fn yot_end_body(reader: FlatReader) -> FlatEnded
     if !is_known_reader(reader) {
         return unended(reader);
     }
-    let r = from_flat_reader(reader);
-    let e = end_body(r);
-    flat_ended(e)
+    flat_ended(end_body(from_flat_reader(reader)))
 }
 
 // Writes a reading. Refusals 33, 6.
@@ -52,11 +47,7 @@ pub extern "C" fn yot_write_reading(out: &mut [u8], log: u32, tenths: i32, raw: 
     ensures { record { answer = result; out = out.new }
         ≡ exported_reading out.old log tenths raw }
 {
-    let reading = Reading {
-        log: log,
-        tenths: tenths,
-        raw: raw,
-    };
+    let reading = Reading { log, tenths, raw };
     let w = write_reading(out, reading);
     FlatWrote {
         written: reading_bytes(w),
@@ -75,6 +66,5 @@ pub extern "C" fn yot_correct(
     ensures { result ≡ exported_correct thawed frozen tenths raw }
 {
     let calibration = calibration_of(thawed, frozen);
-    let c = correct(calibration, tenths, raw);
-    flat_corrected(c)
+    flat_corrected(correct(calibration, tenths, raw))
 }

@@ -22,8 +22,7 @@ pub extern "C" fn yot_start(
     }
         ≡ exported_start store.old gathered.old waits.old }
 {
-    let s = start(store, gathered, waits);
-    flat_started(s)
+    flat_started(start(store, gathered, waits))
 }
 
 // One step over a piece. Refusals 9 of an unknown code, 2, 9, 1.
@@ -48,8 +47,7 @@ pub extern "C" fn yot_step(
         return no_step(state, Refusal::OutOfShape);
     }
     let c = from_flat(state);
-    let s = step(c, store, gathered, waits, piece);
-    flat_stepped(s)
+    flat_stepped(step(c, store, gathered, waits, piece))
 }
 
 // As many steps as it takes to come to an event or to the end of the piece. The same refusals.
@@ -74,6 +72,5 @@ pub extern "C" fn yot_next_event(
         return no_step(state, Refusal::OutOfShape);
     }
     let c = from_flat(state);
-    let s = next_event(c, store, gathered, waits, piece);
-    flat_stepped(s)
+    flat_stepped(next_event(c, store, gathered, waits, piece))
 }

@@ -29,9 +29,7 @@ pub extern "C" fn yot_write_output(
         return unwritten(state, Refusal::OutOfShape);
     }
     let c = from_flat(state);
-    let output = output_of(stream);
-    let w = write_output(c, waits, id, output, bytes, out);
-    flat_written(w)
+    flat_written(write_output(c, waits, id, output_of(stream), bytes, out))
 }
 
 // The end of an output stream, straight out. The same refusals.
@@ -50,9 +48,7 @@ pub extern "C" fn yot_end_output(
         return unwritten(state, Refusal::OutOfShape);
     }
     let c = from_flat(state);
-    let output = output_of(stream);
-    let w = end_output(c, waits, id, output, out);
-    flat_written(w)
+    flat_written(end_output(c, waits, id, output_of(stream), out))
 }
 
 // The end of a request, straight out. Refusals 9 of an unknown code, 2, 9, 1, 3, 5, 6, 10.
@@ -72,8 +68,7 @@ pub extern "C" fn yot_finish(
         return unfinished(state, Refusal::OutOfShape);
     }
     let c = from_flat(state);
-    let f = finish(c, waits, store, id, status, out);
-    flat_finished(f)
+    flat_finished(finish(c, waits, store, id, status, out))
 }
 
 // The reply that an event owes. Refusals 9 of an unknown code, 6.
@@ -84,9 +79,7 @@ pub extern "C" fn yot_owed_reply(event: FlatEvent, out: &mut [u8]) -> FlatWrote
     if !is_known_event(event) {
         return wrote_nothing(Refusal::OutOfShape);
     }
-    let e = from_flat_event(event);
-    let w = owed_reply(e, out);
-    flat_wrote(w)
+    flat_wrote(owed_reply(from_flat_event(event), out))
 }
 
 // A name-value pair. Refusals 8, 6.
@@ -95,6 +88,5 @@ pub extern "C" fn yot_write_pair(out: &mut [u8], name: &[u8], value: &[u8]) -> F
     ensures { record { answer = result; out = out.new }
         ≡ exported_pair out.old name.now value.now }
 {
-    let w = write_pair(out, name, value);
-    flat_pair_wrote(w)
+    flat_pair_wrote(write_pair(out, name, value))
 }

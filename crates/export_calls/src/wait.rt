@@ -39,9 +39,7 @@ pub extern "C" fn yot_queue_output(
         return unqueued(state, Refusal::OutOfShape);
     }
     let c = from_flat(state);
-    let output = output_of(stream);
-    let q = queue_output(c, waits, marks, queue, id, output, bytes);
-    flat_queued(q)
+    flat_queued(queue_output(c, waits, marks, queue, id, output_of(stream), bytes))
 }
 
 // The end of an output stream comes to wait. Refusals 9 of an unknown code, 9, 1, 3, 4, 5.
@@ -60,9 +58,7 @@ pub extern "C" fn yot_queue_end(
         return unqueued(state, Refusal::OutOfShape);
     }
     let c = from_flat(state);
-    let output = output_of(stream);
-    let q = queue_end(c, waits, marks, id, output);
-    flat_queued(q)
+    flat_queued(queue_end(c, waits, marks, id, output_of(stream)))
 }
 
 // The end of a request comes to wait. Refusals 9 of an unknown code, 9, 1, 3, 5.
@@ -81,8 +77,7 @@ pub extern "C" fn yot_queue_finish(
         return unqueued(state, Refusal::OutOfShape);
     }
     let c = from_flat(state);
-    let q = queue_finish(c, waits, marks, id, status);
-    flat_queued(q)
+    flat_queued(queue_finish(c, waits, marks, id, status))
 }
 
 // A turn of the pump. Refusals 9 of an unknown code, 2, 9, 1, 6.
@@ -111,6 +106,5 @@ pub extern "C" fn yot_pump(
         return unpumped(state, Refusal::OutOfShape);
     }
     let c = from_flat(state);
-    let p = pump(c, store, waits, marks, queue, allowance, out);
-    flat_pumped(p)
+    flat_pumped(pump(c, store, waits, marks, queue, allowance, out))
 }

@@ -1,32 +1,28 @@
 // Ice correction linked from another language: the cards come as kinds and floats, one by one.
 #![tactic(auto)]
 
-use fastcgi::{Calibration, Card, Corrected, Curve, correct, correction_fault_number};
+use fastcgi::{Calibration, Card, Curve, correct, correction_fault_number};
+use ice_correction::CorrectionFault;
 
 // Kind 0 is a thawed curve, which has no slope; any other kind is a frozen one.
 fn card(kind: u32, slope: f64, offset: f64) -> Card {
-    if kind == 0 {
-        return Card {
-            serial: 0,
-            curve: Curve::Thawed(offset),
-        };
-    }
-    Card {
-        serial: 0,
-        curve: Curve::Frozen(slope, offset),
-    }
+    let curve = match kind {
+        0 => Curve::Thawed(offset),
+        _ => Curve::Frozen(slope, offset),
+    };
+    Card { serial: 0, curve }
 }
 
 // 0, and the answer at the start of the buffer if it has room; or the number of the refusal.
-fn put_answer(corrected: Corrected, answer: &mut [f64]) -> u32 {
+fn put_answer(corrected: Result<f64, CorrectionFault>, answer: &mut [f64]) -> u32 {
     match corrected {
-        Corrected::Count(x) => {
-            if 0 < answer.len() {
-                answer[0] = x;
+        Ok(x) => {
+            if let Some(first) = answer.first_mut() {
+                *first = x;
             }
             0
         }
-        Corrected::Refused(fault) => correction_fault_number(fault) as u32,
+        Err(fault) => u32::from(correction_fault_number(fault)),
     }
 }
 

@@ -1,5 +1,5 @@
 // The receiver linked from another language, going from event to event: as `export`, with `next_event` in place of
-// `step`.
+// `step`. Its loop stands apart from that of `export`, which has the theorem that holds it to `step`.
 #![tactic(auto)]
 
 use digest::{mix, next_end};
@@ -14,20 +14,18 @@ fn feed_all(
     piece: usize,
 ) -> u64 {
     let mut conn = c;
-    let mut sum: u64 = 0;
-    let mut at: usize = 0;
-    let mut end: usize = 0;
+    let mut sum = 0;
+    let mut at = 0;
+    let mut end = 0;
     while at < input.len() {
         end = next_end(at, end, piece, input.len());
-        let s = next_event(conn, store, gathered, &input[at..end]);
-        let used = s.used;
-        let told = s.result;
-        conn = s.conn;
-        if used == 0 {
+        let stepped = next_event(conn, store, gathered, &input[at..end]);
+        conn = stepped.conn;
+        if stepped.used == 0 {
             return sum;
         }
-        sum = mix(sum, told);
-        at = at + used;
+        sum = mix(sum, stepped.result);
+        at += stepped.used;
     }
     sum
 }
@@ -36,7 +34,6 @@ fn feed_all(
 #[unsafe(no_mangle)]
 pub extern "C" fn fastcgi_next_digest(store: &mut [u8], input: &[u8], piece: usize) -> u64 {
     let mut gathered = [0u8; QUERY];
-    let s = start(store, &mut gathered);
-    let c = s.conn;
-    feed_all(c, store, &mut gathered, input, piece)
+    let started = start(store, &mut gathered);
+    feed_all(started.conn, store, &mut gathered, input, piece)
 }

@@ -1,22 +1,114 @@
-// What the libraries share that measure how output is written: a connection whose requests are open, and a digest of
-// the bytes that were written.
+// What the libraries share that measure the receiver with a queue: an input that is fed to it, a connection whose
+// requests are open, and digests of what was told and of the bytes that were written.
 #![tactic(auto)]
 
-ghost use Rattle.std.specs.Prelude.{◌≤◌, ◌<◌};
+ghost use Rattle.std.specs.Prelude.{◌≤◌, ◌<◌, length};
 
-use fastcgi_queue::{Conn, QUERY, WAITS, next_event, start};
+use digest::{mix, next_end};
+use fastcgi_queue::{Conn, QUERY, Stepped, WAITS, next_event, start};
 
 // The place n bytes past another, at most at the end.
 pub fn past(from: usize, n: usize, end: usize) -> usize
     ensures { (result ≤ end) × (from < end → 0 < n → from < result) }
 {
-    if end <= from {
-        return end;
+    from.saturating_add(n).min(end)
+}
+
+// A call that reads what came in. It is given as a type, so that a library of its own has just that one call: `step`
+// and `next_event` are measured apart, since a compiler makes other code of a call that stands beside others.
+pub trait Reads {
+    fn read(
+        conn: Conn,
+        store: &mut [u8],
+        gathered: &mut [u8; QUERY],
+        waits: &mut [u16; WAITS],
+        bytes: &[u8],
+    ) -> Stepped;
+}
+
+// How far an input is fed: the connection, the bytes used, where their piece ends, and the digest of what was told.
+#[derive(Clone, Copy)]
+struct Feed {
+    conn: Conn,
+    used: usize,
+    edge: usize,
+    sum: u64,
+}
+
+// Goes on through an input in pieces of so many bytes, up to a place or to the first call that reads nothing.
+fn feed_to<R: Reads>(
+    feed: Feed,
+    store: &mut [u8],
+    gathered: &mut [u8; QUERY],
+    waits: &mut [u16; WAITS],
+    input: &[u8],
+    piece: usize,
+    to: usize,
+) -> Feed
+    requires { (feed.used ≤ length input.now) × (feed.edge ≤ length input.now)
+        × (feed.sum < 72057594037927936) }
+    ensures { (result.used ≤ length input.now) × (result.edge ≤ length input.now)
+        × (result.sum < 72057594037927936) }
+{
+    let mut conn = feed.conn;
+    let mut used = feed.used;
+    let mut edge = feed.edge;
+    let mut sum = feed.sum;
+    let to = to.min(input.len());
+    while used < to {
+        edge = next_end(used, edge, piece, input.len());
+        let read = R::read(conn, store, gathered, waits, &input[used..edge]);
+        conn = read.conn;
+        if read.used == 0 {
+            return Feed {
+                conn,
+                used,
+                edge,
+                sum,
+            };
+        }
+        sum = mix(sum, read.result);
+        used = past(used, read.used, input.len());
     }
-    if end - from < n {
-        return end;
+    Feed {
+        conn,
+        used,
+        edge,
+        sum,
     }
-    from + n
+}
+
+// What waits is what these numbers say; those that are not there are 0.
+fn let_wait(waits: &mut [u16; WAITS], numbers: &[u16]) {
+    for i in 0..WAITS {
+        waits[i] = numbers.get(i).copied().unwrap_or(0);
+    }
+}
+
+// The digest of what the calls tell over an input that a fresh connection is fed in pieces of `piece` bytes. When its
+// first `opening` bytes are read, what waits is set by `numbers`.
+pub fn feed_digest<R: Reads>(
+    store: &mut [u8],
+    numbers: &[u16],
+    input: &[u8],
+    piece: usize,
+    opening: usize,
+) -> u64 {
+    let mut gathered = [0u8; QUERY];
+    let mut waits = [0u16; WAITS];
+    let started = start(store, &mut gathered, &mut waits);
+    let mut feed = Feed {
+        conn: started.conn,
+        used: 0,
+        edge: 0,
+        sum: 0,
+    };
+    for part in 0..2 {
+        let to = if part == 0 { opening } else { input.len() };
+        feed = feed_to::<R>(feed, store, &mut gathered, &mut waits, input, piece, to);
+        let_wait(&mut waits, numbers);
+    }
+    feed.sum
 }
 
 // A fresh connection that was fed an opening, to its end or to the first call that reads nothing.
@@ -26,35 +118,53 @@ pub fn open_all(
     waits: &mut [u16; WAITS],
     opening: &[u8],
 ) -> Conn {
-    let s = start(store, gathered, waits);
-    let mut conn = s.conn;
-    let mut at: usize = 0;
-    let end = opening.len();
-    while at < end {
-        let e = next_event(conn, store, gathered, waits, &opening[at..end]);
-        let used = e.used;
-        conn = e.conn;
-        if used == 0 {
+    let mut conn = start(store, gathered, waits).conn;
+    let mut at = 0;
+    while at < opening.len() {
+        let read = next_event(conn, store, gathered, waits, &opening[at..]);
+        conn = read.conn;
+        if read.used == 0 {
             return conn;
         }
-        at = past(at, used, end);
+        at = past(at, read.used, opening.len());
     }
     conn
 }
 
 // The byte at a place, 0 past the end.
 fn byte_at(bytes: &[u8], i: usize) -> u8 {
-    if i < bytes.len() {
-        return bytes[i];
-    }
-    0
+    bytes.get(i).copied().unwrap_or(0)
 }
 
 // A number of six bytes: how many were written, and four of them.
 fn weight(n: u16, a: u8, b: u8, c: u8, d: u8) -> u64
     ensures { result < 281474976710656 }
 {
-    n as u64 * 4294967296 + a as u64 * 16777216 + b as u64 * 65536 + c as u64 * 256 + d as u64
+    u64::from(n) * 4294967296
+        + u64::from(a) * 16777216
+        + u64::from(b) * 65536
+        + u64::from(c) * 256
+        + u64::from(d)
+}
+
+// What was said and written in rounds so far, and the connection: bytes of content, bytes of records, and a digest of
+// these.
+#[derive(Clone, Copy)]
+pub struct Rounds {
+    pub conn: Conn,
+    pub content: u64,
+    pub written: u64,
+    pub sum: u64,
+}
+
+// Before the first round.
+pub fn no_rounds(conn: Conn) -> Rounds {
+    Rounds {
+        conn,
+        content: 0,
+        written: 0,
+        sum: 0,
+    }
 }
 
 // Mixed into a digest: how many bytes were written, and four of them.
@@ -72,9 +182,8 @@ pub fn mix_written(sum: u64, out: &[u8], n: usize) -> u64 {
 
 // Two totals, in that order, where there is room for both.
 pub fn put_totals(totals: &mut [u64], content: u64, written: u64) {
-    if totals.len() < 2 {
-        return;
+    if 2 <= totals.len() {
+        totals[0] = content;
+        totals[1] = written;
     }
-    totals[0] = content;
-    totals[1] = written;
 }

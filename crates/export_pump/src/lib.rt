@@ -5,30 +5,16 @@
 
 ghost use Rattle.std.specs.Prelude.{◌≤◌};
 
-use export_opening::{mix_written, open_all, put_totals};
-use fastcgi_queue::{
-    Conn, Output, PUMPED, PumpResult, QUERY, QUEUE, Queued, WAITS, pump, queue_output,
-};
-use std::num::wrapping_add_u64;
+use connection::answer::Refusal;
+use export_opening::{Rounds, mix_written, no_rounds, open_all, put_totals};
+use fastcgi_queue::{Output, PUMPED, PumpResult, QUERY, QUEUE, WAITS, pump, queue_output};
 
 // The most records of a turn: so many fit into 65,535 bytes.
 const RECORDS: usize = 126;
 
-// The connection, and what was said and written so far: bytes of content, bytes of records, and a digest of these.
-#[derive(Clone, Copy)]
-struct Rounds {
-    conn: Conn,
-    content: u64,
-    written: u64,
-    sum: u64,
-}
-
 // How many of n bytes wait: none where the call was refused.
-fn waiting(res: Queued, n: usize) -> u64 {
-    match res {
-        Queued::Waits => n as u64,
-        Queued::Refused(_) => 0,
-    }
+fn waiting(res: Result<(), Refusal>, n: usize) -> u64 {
+    if res.is_ok() { n as u64 } else { 0 }
 }
 
 // Every request lets the chunk wait, in the order of their ids.
@@ -42,36 +28,23 @@ fn say_all(
 ) -> Rounds {
     let mut conn = r.conn;
     let mut content = r.content;
-    let mut id: u16 = 0;
-    while id < requests {
-        id += 1;
-        let q = queue_output(conn, waits, marks, queue, id, Output::Stdout, chunk);
-        let result = q.result;
-        conn = q.conn;
-        content = wrapping_add_u64(content, waiting(result, chunk.len()));
+    for id in 1..=requests {
+        let queueing = queue_output(conn, waits, marks, queue, id, Output::Stdout, chunk);
+        conn = queueing.conn;
+        content = content.wrapping_add(waiting(queueing.result, chunk.len()));
     }
-    Rounds {
-        conn: conn,
-        content: content,
-        written: r.written,
-        sum: r.sum,
-    }
+    Rounds { conn, content, ..r }
 }
 
 // As many records as a turn may write into a buffer of so many bytes.
 fn allowance_of(room: usize) -> usize {
-    let most = room / PUMPED;
-    if most < RECORDS {
-        return most;
-    }
-    RECORDS
+    (room / PUMPED).min(RECORDS)
 }
 
 // The bytes that a turn wrote.
 fn bytes_of(res: PumpResult) -> usize {
     match res {
-        PumpResult::Open { records: _, bytes } => bytes,
-        PumpResult::Closed { records: _, bytes } => bytes,
+        PumpResult::Open { bytes, .. } | PumpResult::Closed { bytes, .. } => bytes,
         PumpResult::Refused(_) => 0,
     }
 }
@@ -82,17 +55,8 @@ fn turns_left(res: PumpResult, allowance: usize, turns: usize) -> usize
     ensures { result ≤ turns }
 {
     match res {
-        PumpResult::Open { records, bytes: _ } => {
-            if records == allowance {
-                return turns;
-            }
-            0
-        }
-        PumpResult::Closed {
-            records: _,
-            bytes: _,
-        } => 0,
-        PumpResult::Refused(_) => 0,
+        PumpResult::Open { records, .. } if records == allowance => turns,
+        _ => 0,
     }
 }
 
@@ -111,19 +75,18 @@ fn pump_all(
     let mut sum = r.sum;
     let mut turns = QUEUE;
     while 0 < turns {
-        let p = pump(conn, store, waits, marks, queue, allowance, out);
-        let result = p.result;
-        conn = p.conn;
-        let n = bytes_of(result);
-        written = wrapping_add_u64(written, n as u64);
+        let pumped = pump(conn, store, waits, marks, queue, allowance, out);
+        conn = pumped.conn;
+        let n = bytes_of(pumped.result);
+        written = written.wrapping_add(n as u64);
         sum = mix_written(sum, out, n);
-        turns = turns_left(result, allowance, turns - 1);
+        turns = turns_left(pumped.result, allowance, turns - 1);
     }
     Rounds {
-        conn: conn,
-        content: r.content,
-        written: written,
-        sum: sum,
+        conn,
+        written,
+        sum,
+        ..r
     }
 }
 
@@ -158,16 +121,8 @@ pub extern "C" fn fastcgi_pump_digest(
     let mut gathered = [0u8; QUERY];
     let mut waits = [0u16; WAITS];
     let mut marks = [0u8; QUEUE];
-    let c = open_all(store, &mut gathered, &mut waits, opening);
-    let mut r = Rounds {
-        conn: c,
-        content: 0,
-        written: 0,
-        sum: 0,
-    };
-    let mut left = rounds;
-    while 0 < left {
-        left -= 1;
+    let mut r = no_rounds(open_all(store, &mut gathered, &mut waits, opening));
+    for _ in 0..rounds {
         r = go_round(
             r, store, &mut waits, &mut marks, queue, requests, chunk, out,
         );

@@ -12,10 +12,7 @@ use std::io::Stdin;
 fn read_some(input: Stdin, buffer: &mut [u8]) -> usize
     ensures { result ≤ length buffer.new }
 {
-    match read_input(input, buffer) {
-        Ok(n) => n,
-        Err(_) => 0,
-    }
+    read_input(input, buffer).unwrap_or(0)
 }
 
 // The bytes of a buffer that are still to be gone through.
@@ -31,17 +28,16 @@ fn refilled(input: Stdin, from: usize, end: usize, buffer: &mut [u8]) -> Rest
     ensures { (result.from ≤ result.end) × (result.end ≤ length buffer.new) }
 {
     if from < end {
-        return Rest {
-            from: from,
-            end: end,
-        };
+        return Rest { from, end };
     }
-    let n = read_some(input, buffer);
-    Rest { from: 0, end: n }
+    Rest {
+        from: 0,
+        end: read_some(input, buffer),
+    }
 }
 
 // Goes through standard input, a buffer at a time. A proved loop has to end, and nothing says that the input does: so
-// it counts its turns down, from a number that no run uses up.
+// it counts its turns, up to a number that no run comes to.
 fn read_all(
     input: Stdin,
     c: Conn,
@@ -50,24 +46,19 @@ fn read_all(
     buffer: &mut [u8],
 ) -> u64 {
     let mut conn = c;
-    let mut sum: u64 = 0;
-    let mut from: usize = 0;
-    let mut end: usize = 0;
-    let mut turns = u64::MAX;
-    while turns > 0 {
+    let mut sum = 0;
+    let mut from = 0;
+    let mut end = 0;
+    for _ in 0..u64::MAX {
         let rest = refilled(input, from, end, buffer);
-        from = rest.from;
         end = rest.end;
-        let s = next_event(conn, store, gathered, &buffer[from..end]);
-        let used = s.used;
-        let told = s.result;
-        conn = s.conn;
-        if used == 0 {
+        let stepped = next_event(conn, store, gathered, &buffer[rest.from..end]);
+        conn = stepped.conn;
+        if stepped.used == 0 {
             return sum;
         }
-        sum = mix(sum, told);
-        from = from + used;
-        turns -= 1;
+        sum = mix(sum, stepped.result);
+        from = rest.from + stepped.used;
     }
     sum
 }
@@ -77,7 +68,6 @@ fn read_all(
 #[unsafe(no_mangle)]
 pub extern "C" fn fastcgi_reading_digest(input: Stdin, store: &mut [u8], buffer: &mut [u8]) -> u64 {
     let mut gathered = [0u8; QUERY];
-    let s = start(store, &mut gathered);
-    let c = s.conn;
-    read_all(input, c, store, &mut gathered, buffer)
+    let started = start(store, &mut gathered);
+    read_all(input, started.conn, store, &mut gathered, buffer)
 }

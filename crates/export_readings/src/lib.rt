@@ -12,11 +12,12 @@ use reading::sent_of;
 fn above_coldest(sent: u32) -> u64
     ensures { result < 1024 }
 {
-    let half = (sent / 2) as u64;
+    let half = u64::from(sent / 2);
     if sent % 2 == 0 {
-        return (half + 600) % 1024;
+        (half + 600) % 1024
+    } else {
+        (2147484247 - half) % 1024
     }
-    (2147484247 - half) % 1024
 }
 
 // A reading as a number of 48 bits.
@@ -24,7 +25,7 @@ fn reading_weight(r: Reading) -> u64
     ensures { result < 281474976710656 }
 {
     let above = above_coldest(sent_of(r.tenths));
-    (r.log as u64 + above * 4294967296 + r.raw as u64 * 7) % 281474976710656
+    (u64::from(r.log) + above * 4294967296 + u64::from(r.raw) * 7) % 281474976710656
 }
 
 // What a call told as a number of 48 bits.
@@ -34,7 +35,7 @@ fn told_weight(told: ReadingResult) -> u64
     match told {
         ReadingResult::Nothing => 0,
         ReadingResult::Reading(r) => reading_weight(r),
-        ReadingResult::Refused(fault) => reading_fault_number(fault) as u64,
+        ReadingResult::Refused(fault) => u64::from(reading_fault_number(fault)),
     }
 }
 
@@ -43,8 +44,7 @@ fn mixed(sum: u64, told: ReadingResult) -> u64
     requires { sum < 72057594037927936 }
     ensures { result < 72057594037927936 }
 {
-    let x = told_weight(told);
-    (sum * 33 + x) % 72057594037927936
+    (sum * 33 + told_weight(told)) % 72057594037927936
 }
 
 // The digest of what the calls tell over a body that is read in pieces of `piece` bytes, to its end or to the first call
@@ -52,20 +52,18 @@ fn mixed(sum: u64, told: ReadingResult) -> u64
 #[unsafe(no_mangle)]
 pub extern "C" fn fastcgi_readings_digest(input: &[u8], piece: usize) -> u64 {
     let mut reader = new_reader();
-    let mut sum: u64 = 0;
-    let mut at: usize = 0;
-    let mut end: usize = 0;
+    let mut sum = 0;
+    let mut at = 0;
+    let mut end = 0;
     while at < input.len() {
         end = next_end(at, end, piece, input.len());
-        let s = read_reading(reader, &input[at..end]);
-        let used = s.used;
-        let told = s.result;
-        reader = s.reader;
-        if used == 0 {
+        let read = read_reading(reader, &input[at..end]);
+        reader = read.reader;
+        if read.used == 0 {
             return sum;
         }
-        sum = mixed(sum, told);
-        at = at + used;
+        sum = mixed(sum, read.result);
+        at += read.used;
     }
     sum
 }

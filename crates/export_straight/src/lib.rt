@@ -3,33 +3,13 @@
 // makes other code of them elsewhere.
 #![tactic(auto)]
 
-use export_opening::{mix_written, open_all, past, put_totals};
-use fastcgi_queue::{Conn, Output, QUERY, WAITS, Wrote, write_output};
-use std::num::wrapping_add_u64;
-
-// The connection, and what was said and written so far: bytes of content, bytes of records, and a digest of these.
-#[derive(Clone, Copy)]
-struct Rounds {
-    conn: Conn,
-    content: u64,
-    written: u64,
-    sum: u64,
-}
+use connection::answer::Refusal;
+use export_opening::{Rounds, mix_written, no_rounds, open_all, past, put_totals};
+use fastcgi_queue::{Output, QUERY, WAITS, write_output};
 
 // How many of n bytes were written: none where the call was refused.
-fn said(wrote: Wrote, n: usize) -> u64 {
-    match wrote {
-        Wrote::Bytes(_) => n as u64,
-        Wrote::Refused(_) => 0,
-    }
-}
-
-// The bytes that a call wrote.
-fn bytes_of(wrote: Wrote) -> usize {
-    match wrote {
-        Wrote::Bytes(n) => n,
-        Wrote::Refused(_) => 0,
-    }
+fn said(wrote: Result<usize, Refusal>, n: usize) -> u64 {
+    if wrote.is_ok() { n as u64 } else { 0 }
 }
 
 // One round: every request writes the chunk, in the order of their ids.
@@ -42,21 +22,17 @@ fn go_round(
 ) -> Rounds {
     let mut conn = r.conn;
     let mut content = r.content;
-    let mut at: usize = 0;
-    let end = out.len();
-    let mut id: u16 = 0;
-    while id < requests {
-        id += 1;
-        let w = write_output(conn, waits, id, Output::Stdout, chunk, &mut out[at..end]);
-        let wrote = w.wrote;
-        conn = w.conn;
-        content = wrapping_add_u64(content, said(wrote, chunk.len()));
-        at = past(at, bytes_of(wrote), end);
+    let mut at = 0;
+    for id in 1..=requests {
+        let written = write_output(conn, waits, id, Output::Stdout, chunk, &mut out[at..]);
+        conn = written.conn;
+        content = content.wrapping_add(said(written.wrote, chunk.len()));
+        at = past(at, written.wrote.unwrap_or(0), out.len());
     }
     Rounds {
-        conn: conn,
-        content: content,
-        written: wrapping_add_u64(r.written, at as u64),
+        conn,
+        content,
+        written: r.written.wrapping_add(at as u64),
         sum: mix_written(r.sum, out, at),
     }
 }
@@ -75,16 +51,8 @@ pub extern "C" fn fastcgi_straight_digest(
 ) -> u64 {
     let mut gathered = [0u8; QUERY];
     let mut waits = [0u16; WAITS];
-    let c = open_all(store, &mut gathered, &mut waits, opening);
-    let mut r = Rounds {
-        conn: c,
-        content: 0,
-        written: 0,
-        sum: 0,
-    };
-    let mut left = rounds;
-    while 0 < left {
-        left -= 1;
+    let mut r = no_rounds(open_all(store, &mut gathered, &mut waits, opening));
+    for _ in 0..rounds {
         r = go_round(r, &waits, requests, chunk, out);
     }
     put_totals(totals, r.content, r.written);

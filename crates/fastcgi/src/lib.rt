@@ -45,17 +45,15 @@ pub use pair_writer::write_pair;
 // ---- How many requests are active.
 pub use call_count::active_count;
 
-// ---- Answers. `Started`, `Stepped`, `Written` and `Finished` have the connection afterwards and an enum with the answer
-// or the reason why the call is refused. The other enums are answers too; `Output` says which stream is written.
-pub use call_count::Count;
+// ---- Answers. They are a `Result`: what the call found or did, or the `Refusal`. `Started`, `Stepped` and `Written` have
+// the connection afterwards beside it, and so has `Finished`, whose `FinishResult` also says whether the connection is
+// closed. `PairRefusal` is why a pair is not written. `Source` and `Walk` hold what they were asked of, and `Output` says
+// which stream is written.
 pub use call_finish::{FinishResult, Finished};
-pub use call_request::RequestAnswer;
-pub use call_value::{Numbered, Source};
-pub use call_walk::{ReadFrom, Walk};
-pub use connection::answer::{
-    Output, Refusal, StartResult, Started, StepResult, Stepped, Written, Wrote,
-};
-pub use pair_writer::PairWrote;
+pub use call_value::Source;
+pub use call_walk::Walk;
+pub use connection::answer::{Output, Refusal, Started, Stepped, Written};
+pub use pair_writer::PairRefusal;
 pub use pairs::pair::{Pair, Read};
 
 // ---- Numbers. The number of a refusal, a fault, a close, a status, a role or a stream, as the rules count them.
@@ -70,9 +68,9 @@ pub use reading_reader::{
     BodyEnd, Ended, ReadOn, Reader, ReadingFault, ReadingResult, end_body, new_reader,
     read_reading, reading_fault_number,
 };
-pub use reading_writer::{ReadingWrote, write_reading};
+pub use reading_writer::{ReadingRefusal, write_reading};
 
 // ---- Ice correction, beside the receiver: a raw count corrected by a thawed and a frozen calibration card.
 pub use ice_correction::{
-    Calibration, Card, Corrected, CorrectionFault, Curve, correct, correction_fault_number,
+    Calibration, Card, CorrectionFault, Curve, correct, correction_fault_number,
 };

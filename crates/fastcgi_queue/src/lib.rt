@@ -55,13 +55,14 @@ pub use fastcgi::{owed_reply, write_pair};
 // ---- How many requests are active.
 pub use queue_list::active_count;
 
-// ---- Answers. `Queueing` and `Pumped` have the connection afterwards and an enum with the answer or the reason why the
-// call is refused; the others are those of `fastcgi`.
+// ---- Answers. `Queueing` has the connection afterwards and a `Result`: that the call came to wait, or the `Refusal`.
+// `Pumped` has the connection and a `PumpResult`, which says what was written and whether the connection is closed, or
+// why the call is refused. The others are those of `fastcgi`.
 pub use fastcgi::{
-    Count, FinishResult, Finished, Numbered, Output, Pair, PairWrote, Read, ReadFrom, Refusal,
-    RequestAnswer, Source, StartResult, Started, StepResult, Stepped, Walk, Written, Wrote,
+    FinishResult, Finished, Output, Pair, PairRefusal, Read, Refusal, Source, Started, Stepped,
+    Walk, Written,
 };
-pub use queue::answer::{PumpResult, Pumped, Queued, Queueing};
+pub use queue::answer::{PumpResult, Pumped, Queueing};
 
 // ---- Numbers. The number of a refusal, a fault, a close, a status, a role or a stream, as the rules count them.
 pub use fastcgi::{
@@ -71,11 +72,9 @@ pub use fastcgi::{
 // ---- Readings in a body, beside the receiver: a reading is written into a buffer, and read from the bytes that data
 // events show. A reader is a value that goes from call to call; `new_reader` makes one for each body.
 pub use fastcgi::{
-    BodyEnd, Ended, ReadOn, Reader, Reading, ReadingFault, ReadingResult, ReadingWrote, end_body,
+    BodyEnd, Ended, ReadOn, Reader, Reading, ReadingFault, ReadingRefusal, ReadingResult, end_body,
     new_reader, read_reading, reading_fault_number, write_reading,
 };
 
 // ---- Ice correction, beside the receiver: a raw count corrected by a thawed and a frozen calibration card.
-pub use fastcgi::{
-    Calibration, Card, Corrected, CorrectionFault, Curve, correct, correction_fault_number,
-};
+pub use fastcgi::{Calibration, Card, CorrectionFault, Curve, correct, correction_fault_number};

@@ -27,19 +27,19 @@ pub use server_open::open_request;
 pub use server_write::{abort_request, add_pair, end_input, write_input};
 
 // ---- Calls that ask for values: a name-value pair, of which a list of names is made, and the query with that list.
-pub use pair_writer::{PairWrote, write_pair};
+// `write_pair` answers the bytes written, or why the pair is refused.
+pub use pair_writer::{PairRefusal, write_pair};
 pub use server_ask::ask_values;
 
 // The values that came: a list of pairs, each read at its place.
 pub use pairs::pair::{Pair, Read, read_pair};
 
-// ---- How many requests are open.
-pub use server::answer::OpenCount;
+// ---- How many requests are open, or why the call is refused.
 pub use server_count::open_count;
 
-// ---- Answers. `ServerStepped` and `ServerWritten` have the state afterwards and an enum with the answer or why the
-// call is refused.
-pub use server::answer::{ServerRefusal, ServerResult, ServerStepped, ServerWritten, ServerWrote};
+// ---- Answers. `ServerStepped` and `ServerWritten` have the state afterwards, and a `Result`: the event of a step or the
+// bytes that a call wrote, or the `ServerRefusal`.
+pub use server::answer::{ServerRefusal, ServerStepped, ServerWritten};
 
 // ---- Numbers. The number of a refusal or of a close, as the rules count them.
 pub use server_codes::{close_number, refusal_number};

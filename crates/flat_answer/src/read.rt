@@ -1,74 +1,61 @@
 // The answers of the calls that read, as numbers.
 ghost use Rattle.std.specs.Prelude.{◌≡◌, []};
 ghost use Rattle.connection.specs.Codes.{refusal_number};
-ghost use Rattle.call_start.specs.Answer.{started_by};
+ghost use Rattle.call_start.specs.Answer.{start_number, started_by};
 ghost use Rattle.conn_step.specs.Answer.{stepped_by};
 ghost use Rattle.call_value.specs.Answer.{numbered_by};
 ghost use Rattle.call_walk.specs.Place.{read_by};
 ghost use Rattle.call_request.specs.Answer.{request_by};
 ghost use Rattle.call_count.specs.Answer.{counted_by};
 ghost use Rattle.queue_place.specs.Lies.{lies_by};
-ghost use Rattle.flat_answer.specs.ReadAnswers.{flag_number, flat_started, flat_place, no_place, pair_flat, no_pair};
+ghost use Rattle.flat_answer.specs.ReadAnswers.{flat_started, flat_place, no_place, pair_flat, no_pair};
 ghost use Rattle.flat_answer.specs.ReadAnswers.{flat_numbered, flat_read_from, request_flat, no_request, flat_request};
 ghost use Rattle.flat_answer.specs.ReadAnswers.{flat_count, no_count, flat_stepped, unstepped};
 
 use crate::answer::{FlatCount, FlatPair, FlatPlace, FlatRequest, FlatStarted, FlatStepped};
-use call_count::Count;
-use call_request::RequestAnswer;
-use call_value::Numbered;
-use call_walk::ReadFrom;
 use codes::{refusal_number, role_number};
-use connection::answer::{Refusal, StartResult, Started, StepResult, Stepped};
+use connection::answer::{Refusal, Started, Stepped};
 use connection::event::Event;
 use connection::request::Request;
 use flat_event::to_flat_event;
 use flat_state::{FlatState, life_number, to_flat, turn_number};
-use pairs::pair::Pair;
-use queue_place::Place;
+use pairs::pair::{Pair, Read};
 
-fn number_of(flag: bool) -> u8
-    ensures { result ≡ flag_number flag }
+// The number of a refusal, 0 for none.
+pub fn refusal_or_none(answer: Result<(), Refusal>) -> u8
+    ensures { result ≡ start_number answer }
 {
-    if flag {
-        return 1;
+    match answer {
+        Ok(()) => 0,
+        Err(why) => refusal_number(why),
     }
-    0
 }
 
+#[tactic(auto, unfolding(crate::specs::ReadAnswers::flat_started))]
 pub fn flat_started(s: Started) -> FlatStarted
     ensures { result ≡ flat_started (started_by s [] []) }
 {
-    let state = to_flat(s.conn);
-    let result = s.result;
-    match result {
-        StartResult::Open => FlatStarted {
-            state: state,
-            refusal: 0,
-        },
-        StartResult::Refused(why) => FlatStarted {
-            state: state,
-            refusal: refusal_number(why),
-        },
+    FlatStarted {
+        state: to_flat(s.conn),
+        refusal: refusal_or_none(s.result),
     }
 }
 
+#[tactic(auto, unfolding(crate::specs::ReadAnswers::flat_stepped))]
 pub fn flat_stepped(s: Stepped) -> FlatStepped
     ensures { result ≡ flat_stepped (stepped_by s [] []) }
 {
     let state = to_flat(s.conn);
-    let result = s.result;
-    match result {
-        StepResult::Event(e) => FlatStepped {
+    match s.result {
+        Ok(e) => FlatStepped {
             used: s.used,
             event: to_flat_event(e),
-            state: state,
+            state,
             refusal: 0,
         },
-        StepResult::Refused(why) => FlatStepped {
+        Err(why) => FlatStepped {
             used: s.used,
-            event: to_flat_event(Event::Nothing),
-            state: state,
-            refusal: refusal_number(why),
+            ..no_step(state, why)
         },
     }
 }
@@ -79,7 +66,7 @@ pub fn no_step(state: FlatState, why: Refusal) -> FlatStepped
     FlatStepped {
         used: 0,
         event: to_flat_event(Event::Nothing),
-        state: state,
+        state,
         refusal: refusal_number(why),
     }
 }
@@ -95,23 +82,24 @@ pub fn no_place(why: Refusal) -> FlatPlace
     }
 }
 
-pub fn flat_place(place: Place) -> FlatPlace
+#[tactic(auto, unfolding(crate::specs::ReadAnswers::flat_place))]
+pub fn flat_place(place: Result<Option<(usize, usize)>, Refusal>) -> FlatPlace
     ensures { result ≡ flat_place (lies_by place) }
 {
     match place {
-        Place::At(offset, length) => FlatPlace {
-            offset: offset,
-            length: length,
+        Ok(Some((offset, length))) => FlatPlace {
+            offset,
+            length,
             refusal: 0,
             found: 1,
         },
-        Place::Nothing => FlatPlace {
+        Ok(None) => FlatPlace {
             offset: 0,
             length: 0,
             refusal: 0,
             found: 0,
         },
-        Place::Refused(why) => no_place(why),
+        Err(why) => no_place(why),
     }
 }
 
@@ -123,7 +111,7 @@ fn pair_of(p: Pair, next: usize) -> FlatPair
         name_len: p.name_len,
         value: p.value,
         value_len: p.value_len,
-        next: next,
+        next,
         refusal: 0,
         kind: 1,
     }
@@ -137,9 +125,9 @@ fn no_pair(next: usize, refusal: u8, kind: u8) -> FlatPair
         name_len: 0,
         value: 0,
         value_len: 0,
-        next: next,
-        refusal: refusal,
-        kind: kind,
+        next,
+        refusal,
+        kind,
     }
 }
 
@@ -150,46 +138,44 @@ pub fn refused_pair(why: Refusal) -> FlatPair
 }
 
 // A pair by its number; the place after it is not told.
-pub fn flat_numbered(n: Numbered) -> FlatPair
+#[tactic(auto, unfolding(crate::specs::ReadAnswers::flat_numbered))]
+pub fn flat_numbered(n: Result<Pair, Refusal>) -> FlatPair
     ensures { result ≡ flat_numbered (numbered_by n) }
 {
     match n {
-        Numbered::Pair(p) => pair_of(p, 0),
-        Numbered::Refused(why) => refused_pair(why),
+        Ok(p) => pair_of(p, 0),
+        Err(why) => refused_pair(why),
     }
 }
 
-pub fn flat_read_from(r: ReadFrom) -> FlatPair
+#[tactic(auto, unfolding(crate::specs::ReadAnswers::flat_read_from))]
+pub fn flat_read_from(r: Result<Read, Refusal>) -> FlatPair
     ensures { result ≡ flat_read_from (read_by r) }
 {
     match r {
-        ReadFrom::Pair(p, next) => pair_of(p, next),
-        ReadFrom::End => no_pair(0, 0, 2),
-        ReadFrom::Malformed(at) => no_pair(at, 0, 3),
-        ReadFrom::Refused(why) => refused_pair(why),
+        Ok(Read::Pair(p, next)) => pair_of(p, next),
+        Ok(Read::End) => no_pair(0, 0, 2),
+        Ok(Read::Malformed(at)) => no_pair(at, 0, 3),
+        Err(why) => refused_pair(why),
     }
 }
 
 fn request_is(r: Request) -> FlatRequest
     ensures { result ≡ request_flat r }
 {
-    let s = r.state;
-    let role = s.role;
-    let turn = s.turn;
-    let life = s.life;
-    let shown = s.shown;
+    let state = r.state;
     FlatRequest {
-        stdin_shown: shown.stdin,
-        data_shown: shown.data,
+        stdin_shown: state.shown.stdin,
+        data_shown: state.shown.data,
         id: r.id,
         length: r.length,
-        role: role_number(role),
-        turn: turn_number(turn),
-        life: life_number(life),
-        keep: number_of(s.keep),
-        out_ended: number_of(s.out_ended),
-        err_used: number_of(s.err_used),
-        err_ended: number_of(s.err_ended),
+        role: role_number(state.role),
+        turn: turn_number(state.turn),
+        life: life_number(state.life),
+        keep: u8::from(state.keep),
+        out_ended: u8::from(state.out_ended),
+        err_used: u8::from(state.err_used),
+        err_ended: u8::from(state.err_ended),
         refusal: 0,
     }
 }
@@ -213,12 +199,13 @@ pub fn no_request(why: Refusal) -> FlatRequest
     }
 }
 
-pub fn flat_request(a: RequestAnswer) -> FlatRequest
+#[tactic(auto, unfolding(crate::specs::ReadAnswers::flat_request))]
+pub fn flat_request(a: Result<Request, Refusal>) -> FlatRequest
     ensures { result ≡ flat_request (request_by a) }
 {
     match a {
-        RequestAnswer::Is(r) => request_is(r),
-        RequestAnswer::Refused(why) => no_request(why),
+        Ok(r) => request_is(r),
+        Err(why) => no_request(why),
     }
 }
 
@@ -231,14 +218,12 @@ pub fn no_count(why: Refusal) -> FlatCount
     }
 }
 
-pub fn flat_count(n: Count) -> FlatCount
+#[tactic(auto, unfolding(crate::specs::ReadAnswers::flat_count))]
+pub fn flat_count(n: Result<u32, Refusal>) -> FlatCount
     ensures { result ≡ flat_count (counted_by n) }
 {
     match n {
-        Count::Active(count) => FlatCount {
-            count: count,
-            refusal: 0,
-        },
-        Count::Refused(why) => no_count(why),
+        Ok(count) => FlatCount { count, refusal: 0 },
+        Err(why) => no_count(why),
     }
 }

@@ -12,12 +12,13 @@ ghost use Rattle.flat_answer.specs.WriteAnswers.{flat_written, unwritten, flat_f
 ghost use Rattle.flat_answer.specs.WriteAnswers.{flat_replied, flat_pair_written, wrote_nothing};
 
 use crate::answer::{FlatFinished, FlatPumped, FlatQueued, FlatWritten, FlatWrote};
+use crate::read::refusal_or_none;
 use call_finish::{FinishResult, Finished};
 use codes::refusal_number;
-use connection::answer::{Output, Refusal, Written, Wrote};
+use connection::answer::{Output, Refusal, Written};
 use flat_state::{FlatState, to_flat};
-use pair_writer::PairWrote;
-use queue::answer::{PumpResult, Pumped, Queued, Queueing};
+use pair_writer::PairRefusal;
+use queue::answer::{PumpResult, Pumped, Queueing};
 use record::names;
 
 // An output stream has a number: the type of its records.
@@ -28,35 +29,33 @@ pub fn is_output(n: u8) -> bool
 }
 
 // The output stream of a number. It is read as it comes; `is_output` says whether it is one.
+#[tactic(auto, unfolding(crate::specs::WriteAnswers::output_of))]
 pub fn output_of(n: u8) -> Output
     ensures { result ≡ output_of n }
 {
     if n == names::STDOUT {
-        return Output::Stdout;
+        Output::Stdout
+    } else {
+        Output::Stderr
     }
-    Output::Stderr
 }
 
 pub fn unqueued(state: FlatState, why: Refusal) -> FlatQueued
     ensures { result ≡ unqueued state (refusal_number why) }
 {
     FlatQueued {
-        state: state,
+        state,
         refusal: refusal_number(why),
     }
 }
 
+#[tactic(auto, unfolding(crate::specs::WriteAnswers::flat_queued))]
 pub fn flat_queued(q: Queueing) -> FlatQueued
     ensures { result ≡ flat_queued (queued_by q [] [] [] [] []) }
 {
-    let state = to_flat(q.conn);
-    let result = q.result;
-    match result {
-        Queued::Waits => FlatQueued {
-            state: state,
-            refusal: 0,
-        },
-        Queued::Refused(why) => unqueued(state, why),
+    FlatQueued {
+        state: to_flat(q.conn),
+        refusal: refusal_or_none(q.result),
     }
 }
 
@@ -65,11 +64,11 @@ fn pumped(state: FlatState, records: usize, written: usize, closed: u8) -> FlatP
         ≡ record { records = records; written = written; state = state; refusal = 0; closed = closed } }
 {
     FlatPumped {
-        records: records,
-        written: written,
-        state: state,
+        records,
+        written,
+        state,
         refusal: 0,
-        closed: closed,
+        closed,
     }
 }
 
@@ -79,12 +78,13 @@ pub fn unpumped(state: FlatState, why: Refusal) -> FlatPumped
     FlatPumped {
         records: 0,
         written: 0,
-        state: state,
+        state,
         refusal: refusal_number(why),
         closed: 0,
     }
 }
 
+#[tactic(auto, unfolding(crate::specs::WriteAnswers::flat_pumped))]
 pub fn flat_pumped(p: Pumped) -> FlatPumped
     ensures { result ≡ flat_pumped (pumped_by p [] [] [] [] [] []) }
 {
@@ -102,23 +102,23 @@ pub fn unwritten(state: FlatState, why: Refusal) -> FlatWritten
 {
     FlatWritten {
         written: 0,
-        state: state,
+        state,
         refusal: refusal_number(why),
     }
 }
 
+#[tactic(auto, unfolding(crate::specs::WriteAnswers::flat_written))]
 pub fn flat_written(w: Written) -> FlatWritten
     ensures { result ≡ flat_written (written_by w []) }
 {
     let state = to_flat(w.conn);
-    let wrote = w.wrote;
-    match wrote {
-        Wrote::Bytes(n) => FlatWritten {
-            written: n,
-            state: state,
+    match w.wrote {
+        Ok(written) => FlatWritten {
+            written,
+            state,
             refusal: 0,
         },
-        Wrote::Refused(why) => unwritten(state, why),
+        Err(why) => unwritten(state, why),
     }
 }
 
@@ -126,10 +126,10 @@ fn finished(state: FlatState, written: usize, closed: u8) -> FlatFinished
     ensures { result ≡ record { written = written; state = state; refusal = 0; closed = closed } }
 {
     FlatFinished {
-        written: written,
-        state: state,
+        written,
+        state,
         refusal: 0,
-        closed: closed,
+        closed,
     }
 }
 
@@ -138,12 +138,13 @@ pub fn unfinished(state: FlatState, why: Refusal) -> FlatFinished
 {
     FlatFinished {
         written: 0,
-        state: state,
+        state,
         refusal: refusal_number(why),
         closed: 0,
     }
 }
 
+#[tactic(auto, unfolding(crate::specs::WriteAnswers::flat_finished))]
 pub fn flat_finished(f: Finished) -> FlatFinished
     ensures { result ≡ flat_finished (finished_by f [] []) }
 {
@@ -174,21 +175,23 @@ pub fn wrote_nothing(why: Refusal) -> FlatWrote
     }
 }
 
-pub fn flat_wrote(w: Wrote) -> FlatWrote
+#[tactic(auto, unfolding(crate::specs::WriteAnswers::flat_replied))]
+pub fn flat_wrote(w: Result<usize, Refusal>) -> FlatWrote
     ensures { result ≡ flat_replied (replied_by w []) }
 {
     match w {
-        Wrote::Bytes(n) => wrote_bytes(n),
-        Wrote::Refused(why) => wrote_nothing(why),
+        Ok(n) => wrote_bytes(n),
+        Err(why) => wrote_nothing(why),
     }
 }
 
-pub fn flat_pair_wrote(w: PairWrote) -> FlatWrote
+#[tactic(auto, unfolding(crate::specs::WriteAnswers::flat_pair_written))]
+pub fn flat_pair_wrote(w: Result<usize, PairRefusal>) -> FlatWrote
     ensures { result ≡ flat_pair_written (answered w []) }
 {
     match w {
-        PairWrote::Bytes(n) => wrote_bytes(n),
-        PairWrote::TooLong => wrote_nothing(Refusal::TooLong),
-        PairWrote::NoRoom => wrote_nothing(Refusal::NoRoom),
+        Ok(n) => wrote_bytes(n),
+        Err(PairRefusal::TooLong) => wrote_nothing(Refusal::TooLong),
+        Err(PairRefusal::NoRoom) => wrote_nothing(Refusal::NoRoom),
     }
 }

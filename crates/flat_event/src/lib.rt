@@ -4,16 +4,15 @@
 pub mod kinds;
 
 ghost use Rattle.std.specs.Prelude.{◌≡◌, ℕ, ◌≤◌};
-ghost use Rattle.connection.specs.Codes.{role_number, stream_type, fault_number, fault_cause, close_number, close_cause};
+ghost use Rattle.connection.specs.Codes.{fault_number, fault_cause, close_number, close_cause};
 ghost use Rattle.codes.specs.Place.{cause_of};
-ghost use Rattle.flat_event.specs.Kinds.{OPEN, END, FAULT, CLOSED};
+ghost use Rattle.flat_event.specs.Kinds.{FAULT, CLOSED};
 ghost use Rattle.flat_event.specs.Flat.{number_if, measure_number, query_number, place_of, told, flat_event};
 ghost use Rattle.flat_event.specs.Flat.{stream_of, measure_of, status_of, fault_of, close_of, open_of, query_of};
-ghost use Rattle.flat_event.specs.Flat.{read_event, same_numbers, known_event};
+ghost use Rattle.flat_event.specs.Flat.{read_event, known_event};
 
 use codes::{
-    Place, close_number, close_place, fault_number, fault_place, role_number, status_number,
-    stream_type,
+    close_number, close_place, fault_number, fault_place, role_number, status_number, stream_type,
 };
 use connection::event::{Close, Event, Fault, Measure, Status, Stream};
 use connection::request::Role;
@@ -23,7 +22,7 @@ use record::names;
 // The event as C holds it, without a gap between the fields. A usize is C's size_t; where that has eight bytes the
 // whole has 16, and none is unused. What an event does not tell is 0.
 #[repr(C)]
-#[derive(Clone, Copy)]
+#[derive(Clone, Copy, Debug, PartialEq, Eq)]
 pub struct FlatEvent {
     // The length of the list that is ready, or how many bytes are shown.
     pub count: usize,
@@ -43,35 +42,22 @@ pub struct FlatEvent {
     pub keep: u8,
 }
 
-fn told(kind: u8, id: u16, stream: u8, number: u8, keep: u8, count: usize, place: u16) -> FlatEvent
-    ensures { result ≡ told kind id stream number keep count place }
-{
-    FlatEvent {
-        count: count,
-        id: id,
-        place: place,
-        kind: kind,
-        stream: stream,
-        number: number,
-        keep: keep,
-    }
-}
-
-// An event of a kind with an id and a number, and no more.
-fn plain(kind: u8, id: u16, number: u8) -> FlatEvent
-    ensures { result ≡ told kind id 0 number 0 0 0 }
-{
-    told(kind, id, 0, number, 0, 0, 0)
-}
+// No event, and what an event does not tell.
+const NONE: FlatEvent = FlatEvent {
+    count: 0,
+    id: 0,
+    place: 0,
+    kind: kinds::NOTHING,
+    stream: 0,
+    number: 0,
+    keep: 0,
+};
 
 // The number where it is so, and 0 where not.
 fn number_if(b: bool, n: u8) -> u8
     ensures { (result ≡ number_if b n) × (result ≤ n) }
 {
-    if b {
-        return n;
-    }
-    0
+    if b { n } else { 0 }
 }
 
 fn measure_number(measure: Measure) -> u8
@@ -92,55 +78,35 @@ fn query_number(conns: bool, reqs: bool, mpxs: bool) -> u8
 }
 
 // The place, or 0 for none.
-fn place_number(place: Place) -> u16
+fn place_number(place: Option<u16>) -> u16
     ensures { (n : ℕ) → result ≡ place_of (cause_of n place) }
 {
-    match place {
-        Place::Nowhere => 0,
-        Place::At(at) => at,
-    }
-}
-
-fn told_open(id: u16, role: Role, keep: bool) -> FlatEvent
-    ensures { result ≡ told OPEN id 0 (role_number role) (number_if keep 1) 0 0 }
-{
-    told(
-        kinds::OPEN,
-        id,
-        0,
-        role_number(role),
-        number_if(keep, 1),
-        0,
-        0,
-    )
-}
-
-fn told_end(id: u16, stream: Stream, measure: Measure) -> FlatEvent
-    ensures { result ≡ told END id (stream_type stream) (measure_number measure) 0 0 0 }
-{
-    told(
-        kinds::END,
-        id,
-        stream_type(stream),
-        measure_number(measure),
-        0,
-        0,
-        0,
-    )
+    place.unwrap_or(0)
 }
 
 fn told_fault(id: u16, fault: Fault) -> FlatEvent
     ensures { result ≡ told FAULT id 0 (fault_number fault) 0 0 (place_of (fault_cause fault)) }
 {
     let place = place_number(fault_place(fault));
-    told(kinds::FAULT, id, 0, fault_number(fault), 0, 0, place)
+    FlatEvent {
+        kind: kinds::FAULT,
+        id,
+        number: fault_number(fault),
+        place,
+        ..NONE
+    }
 }
 
 fn told_close(cause: Close) -> FlatEvent
     ensures { result ≡ told CLOSED 0 0 (close_number cause) 0 0 (place_of (close_cause cause)) }
 {
-    let place = place_number(close_place(cause));
-    told(kinds::CLOSED, 0, 0, close_number(cause), 0, 0, place)
+    let at = place_number(close_place(cause));
+    FlatEvent {
+        kind: kinds::CLOSED,
+        number: close_number(cause),
+        place: at,
+        ..NONE
+    }
 }
 
 // The event as numbers.
@@ -148,40 +114,70 @@ pub fn to_flat_event(e: Event) -> FlatEvent
     ensures { result ≡ flat_event e }
 {
     match e {
-        Event::Nothing => plain(kinds::NOTHING, 0, 0),
-        Event::Open { id, role, keep } => told_open(id, role, keep),
-        Event::Ready { id, length } => told(kinds::READY, id, 0, 0, 0, length as usize, 0),
-        Event::Data { id, stream, count } => told(
-            kinds::DATA,
+        Event::Nothing => NONE,
+        Event::Open { id, role, keep } => FlatEvent {
+            kind: kinds::OPEN,
             id,
-            stream_type(stream),
-            0,
-            0,
+            number: role_number(role),
+            keep: number_if(keep, 1),
+            ..NONE
+        },
+        Event::Ready { id, length } => FlatEvent {
+            kind: kinds::READY,
+            id,
+            count: usize::from(length),
+            ..NONE
+        },
+        Event::Data { id, stream, count } => FlatEvent {
+            kind: kinds::DATA,
+            id,
+            stream: stream_type(stream),
             count,
-            0,
-        ),
+            ..NONE
+        },
         Event::End {
             id,
             stream,
             measure,
-        } => told_end(id, stream, measure),
-        Event::Abort { id } => plain(kinds::ABORT, id, 0),
-        Event::Refuse { id, status } => plain(kinds::REFUSE, id, status_number(status)),
+        } => FlatEvent {
+            kind: kinds::END,
+            id,
+            stream: stream_type(stream),
+            number: measure_number(measure),
+            ..NONE
+        },
+        Event::Abort { id } => FlatEvent {
+            kind: kinds::ABORT,
+            id,
+            ..NONE
+        },
+        Event::Refuse { id, status } => FlatEvent {
+            kind: kinds::REFUSE,
+            id,
+            number: status_number(status),
+            ..NONE
+        },
         Event::Fault { id, fault } => told_fault(id, fault),
         Event::Query {
             max_conns,
             max_reqs,
             mpxs_conns,
-        } => plain(
-            kinds::QUERY,
-            0,
-            query_number(max_conns, max_reqs, mpxs_conns),
-        ),
-        Event::Unknown { kind } => plain(kinds::UNKNOWN, 0, kind),
+        } => FlatEvent {
+            kind: kinds::QUERY,
+            number: query_number(max_conns, max_reqs, mpxs_conns),
+            ..NONE
+        },
+        Event::Unknown { kind } => FlatEvent {
+            kind: kinds::UNKNOWN,
+            number: kind,
+            ..NONE
+        },
         Event::Closed { cause } => told_close(cause),
     }
 }
 
+// What has a number is told in C by that number alone. A number that nothing has is read as the last.
+#[tactic(auto, unfolding(crate::specs::Flat::stream_of))]
 fn stream_of(n: u8) -> Stream
     ensures { result ≡ stream_of n }
 {
@@ -191,6 +187,7 @@ fn stream_of(n: u8) -> Stream
     }
 }
 
+#[tactic(auto, unfolding(crate::specs::Flat::measure_of))]
 fn measure_of(n: u8) -> Measure
     ensures { result ≡ measure_of n }
 {
@@ -202,6 +199,7 @@ fn measure_of(n: u8) -> Measure
     }
 }
 
+#[tactic(auto, unfolding(crate::specs::Flat::status_of))]
 fn status_of(n: u8) -> Status
     ensures { result ≡ status_of n }
 {
@@ -211,6 +209,7 @@ fn status_of(n: u8) -> Status
     }
 }
 
+#[tactic(auto, unfolding(crate::specs::Flat::fault_of))]
 fn fault_of(n: u8, place: u16) -> Fault
     ensures { result ≡ fault_of n place }
 {
@@ -224,6 +223,7 @@ fn fault_of(n: u8, place: u16) -> Fault
     }
 }
 
+#[tactic(auto, unfolding(crate::specs::Flat::close_of))]
 fn close_of(n: u8, place: u16) -> Close
     ensures { result ≡ close_of n place }
 {
@@ -239,7 +239,7 @@ fn open_of(id: u16, role: u8, keep: u8) -> Event
     ensures { result ≡ open_of id role keep }
 {
     Event::Open {
-        id: id,
+        id,
         role: role_of(role),
         keep: keep == 1,
     }
@@ -257,14 +257,13 @@ fn query_of(n: u8) -> Event
 
 // The event that numbers stand for. Any are read as some event, and `is_known_event` says whether they are the numbers
 // of one.
+#[tactic(auto, unfolding(crate::specs::Flat::read_event))]
 pub fn from_flat_event(f: FlatEvent) -> Event
     ensures { result ≡ read_event f }
 {
-    let n = f.number;
-    let kind = f.kind;
-    match kind {
+    match f.kind {
         kinds::NOTHING => Event::Nothing,
-        kinds::OPEN => open_of(f.id, n, f.keep),
+        kinds::OPEN => open_of(f.id, f.number, f.keep),
         kinds::READY => Event::Ready {
             id: f.id,
             length: (f.count % 65536) as u16,
@@ -277,40 +276,29 @@ pub fn from_flat_event(f: FlatEvent) -> Event
         kinds::END => Event::End {
             id: f.id,
             stream: stream_of(f.stream),
-            measure: measure_of(n),
+            measure: measure_of(f.number),
         },
         kinds::ABORT => Event::Abort { id: f.id },
         kinds::REFUSE => Event::Refuse {
             id: f.id,
-            status: status_of(n),
+            status: status_of(f.number),
         },
         kinds::FAULT => Event::Fault {
             id: f.id,
-            fault: fault_of(n, f.place),
+            fault: fault_of(f.number, f.place),
         },
-        kinds::QUERY => query_of(n),
-        kinds::UNKNOWN => Event::Unknown { kind: n },
+        kinds::QUERY => query_of(f.number),
+        kinds::UNKNOWN => Event::Unknown { kind: f.number },
         _ => Event::Closed {
-            cause: close_of(n, f.place),
+            cause: close_of(f.number, f.place),
         },
     }
 }
 
-fn same_numbers(f: FlatEvent, g: FlatEvent) -> bool
-    ensures { result ≡ same_numbers f g }
-{
-    (f.count == g.count)
-        & (f.id == g.id)
-        & (f.place == g.place)
-        & (f.kind == g.kind)
-        & (f.stream == g.stream)
-        & (f.number == g.number)
-        & (f.keep == g.keep)
-}
-
 // Whether numbers are those of an event: of the one that they are read as.
+#[tactic(auto, unfolding(crate::specs::Flat::same_numbers))]
 pub fn is_known_event(f: FlatEvent) -> bool
     ensures { result ≡ known_event f }
 {
-    same_numbers(to_flat_event(from_flat_event(f)), f)
+    to_flat_event(from_flat_event(f)) == f
 }

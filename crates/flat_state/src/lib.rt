@@ -3,7 +3,7 @@
 #![tactic(auto)]
 
 ghost use Rattle.std.specs.Prelude.{◌≡◌};
-ghost use Rattle.flat_state.specs.Flat.{turn_number, life_number, target_kind, target_number, open_number};
+ghost use Rattle.flat_state.specs.Flat.{turn_number, life_number, target_kind, target_number};
 ghost use Rattle.flat_state.specs.Flat.{role_of, turn_of, life_of, target_of, standing_of, standings_of, codes_of};
 ghost use Rattle.flat_state.specs.Flat.{every, within, known_target, flat_of, table_of, frame_of, conn_of, known};
 
@@ -99,25 +99,14 @@ fn target_number(target: Target) -> u16
     ensures { result ≡ target_number target }
 {
     match target {
-        Target::Skip => 0,
+        Target::Skip | Target::Query => 0,
         Target::Begin(id) => id,
-        Target::Query => 0,
-        Target::Params(slot) => slot as u16,
-        Target::Stdin(slot) => slot as u16,
-        Target::Data(slot) => slot as u16,
+        Target::Params(slot) | Target::Stdin(slot) | Target::Data(slot) => u16::from(slot),
     }
-}
-
-fn open_number(is_open: bool) -> u8
-    ensures { result ≡ open_number is_open }
-{
-    if is_open {
-        return 1;
-    }
-    0
 }
 
 // The role that has a number; any but 1 and 2 is read as a filter's.
+#[tactic(auto, unfolding(crate::specs::Flat::role_of))]
 pub fn role_of(n: u8) -> Role
     ensures { result ≡ role_of n }
 {
@@ -128,6 +117,7 @@ pub fn role_of(n: u8) -> Role
     }
 }
 
+#[tactic(auto, unfolding(crate::specs::Flat::turn_of))]
 fn turn_of(n: u8) -> Turn
     ensures { result ≡ turn_of n }
 {
@@ -139,6 +129,7 @@ fn turn_of(n: u8) -> Turn
     }
 }
 
+#[tactic(auto, unfolding(crate::specs::Flat::life_of))]
 fn life_of(n: u8) -> Life
     ensures { result ≡ life_of n }
 {
@@ -149,6 +140,7 @@ fn life_of(n: u8) -> Life
     }
 }
 
+#[tactic(auto, unfolding(crate::specs::Flat::standing_of))]
 fn standing_of(role: u8, turn: u8, life: u8) -> Standing
     ensures { result ≡ standing_of role turn life }
 {
@@ -159,6 +151,7 @@ fn standing_of(role: u8, turn: u8, life: u8) -> Standing
     }
 }
 
+#[tactic(auto, unfolding(crate::specs::Flat::target_of))]
 fn target_of(kind: u8, number: u16) -> Target
     ensures { result ≡ target_of kind number }
 {
@@ -176,37 +169,28 @@ fn target_of(kind: u8, number: u16) -> Target
 fn codes_of(t: Table) -> Codes
     ensures { result ≡ codes_of t.standings }
 {
-    let mut roles: [u8; SLOTS] = [0; SLOTS];
-    let mut turns: [u8; SLOTS] = [0; SLOTS];
-    let mut lives: [u8; SLOTS] = [0; SLOTS];
-    let mut i: usize = 0;
-    while i < SLOTS {
+    let mut roles = [0; SLOTS];
+    let mut turns = [0; SLOTS];
+    let mut lives = [0; SLOTS];
+    for i in 0..SLOTS {
         let standing = t.standings[i];
-        let role = standing.role;
-        let turn = standing.turn;
-        let life = standing.life;
-        roles[i] = role_number(role);
-        turns[i] = turn_number(turn);
-        lives[i] = life_number(life);
-        i += 1;
+        roles[i] = role_number(standing.role);
+        turns[i] = turn_number(standing.turn);
+        lives[i] = life_number(standing.life);
     }
     Codes {
-        roles: roles,
-        turns: turns,
-        lives: lives,
+        roles,
+        turns,
+        lives,
     }
 }
 
 fn standings_of(roles: [u8; SLOTS], turns: [u8; SLOTS], lives: [u8; SLOTS]) -> [Standing; SLOTS]
     ensures { result ≡ standings_of roles turns lives }
 {
-    let first = standing_of(0, 0, 0);
-    let mut standings: [Standing; SLOTS] = [first; SLOTS];
-    let mut i: usize = 0;
-    while i < SLOTS {
-        let standing = standing_of(roles[i], turns[i], lives[i]);
-        standings[i] = standing;
-        i += 1;
+    let mut standings = [standing_of(0, 0, 0); SLOTS];
+    for i in 0..SLOTS {
+        standings[i] = standing_of(roles[i], turns[i], lives[i]);
     }
     standings
 }
@@ -222,91 +206,89 @@ fn all_within(low: u8, high: u8, numbers: [u8; SLOTS]) -> bool
     ensures { result ≡ every (within low high) numbers }
 {
     let mut all = true;
-    let mut slot: usize = 0;
-    while slot < SLOTS {
-        all = all & is_within(low, high, numbers[slot]);
-        slot += 1;
+    for slot in 0..SLOTS {
+        all &= is_within(low, high, numbers[slot]);
     }
     all
 }
 
+#[tactic(auto, unfolding(crate::specs::Flat::known_target))]
 fn is_known_target(kind: u8, number: u16) -> bool
     ensures { result ≡ known_target kind number }
 {
     match kind {
-        0 => number == 0,
+        0 | 2 => number == 0,
         1 => true,
-        2 => number == 0,
         _ => (kind <= 5) & (number < 256),
     }
 }
 
 // The state as numbers and arrays.
+#[tactic(auto, unfolding(crate::specs::Flat::flat_of))]
 pub fn to_flat(c: Conn) -> FlatState
     ensures { result ≡ flat_of c }
 {
-    let frame = c.frame;
-    let target = frame.target;
-    let header = frame.position.header;
-    let body = frame.body;
-    let stdin_shown = c.table.stdin_shown;
-    let data_shown = c.table.data_shown;
+    let Codes {
+        roles,
+        turns,
+        lives,
+    } = codes_of(c.table);
+    // The check takes an array into a literal by a variable only.
     let ids = c.table.ids;
     let lengths = c.table.lengths;
-    let codes = codes_of(c.table);
-    let roles = codes.roles;
-    let turns = codes.turns;
-    let lives = codes.lives;
+    let stdin_shown = c.table.stdin_shown;
+    let data_shown = c.table.data_shown;
+    let header = c.frame.position.header;
+    let body = c.frame.body;
     FlatState {
-        content: frame.position.content,
-        padding: frame.position.padding,
-        held: frame.position.held,
-        gathered: frame.gathered,
-        stdin_shown: stdin_shown,
-        data_shown: data_shown,
-        ids: ids,
-        lengths: lengths,
+        content: c.frame.position.content,
+        padding: c.frame.position.padding,
+        held: c.frame.position.held,
+        gathered: c.frame.gathered,
+        stdin_shown,
+        data_shown,
+        ids,
+        lengths,
         keep: c.table.keep,
         out_ended: c.table.out_ended,
         err_used: c.table.err_used,
         err_ended: c.table.err_ended,
         occupied: c.table.occupied,
-        target_number: target_number(target),
-        roles: roles,
-        turns: turns,
-        lives: lives,
-        header: header,
-        body: body,
-        target: target_kind(target),
-        open: open_number(c.open),
+        target_number: target_number(c.frame.target),
+        roles,
+        turns,
+        lives,
+        header,
+        body,
+        target: target_kind(c.frame.target),
+        open: u8::from(c.open),
     }
 }
 
+#[tactic(auto, unfolding(crate::specs::Flat::table_of))]
 fn table_of(f: FlatState) -> Table
     ensures { result ≡ table_of f }
 {
     let ids = f.ids;
     let lengths = f.lengths;
+    let standings = standings_of(f.roles, f.turns, f.lives);
     let stdin_shown = f.stdin_shown;
     let data_shown = f.data_shown;
-    let roles = f.roles;
-    let turns = f.turns;
-    let lives = f.lives;
-    let standings = standings_of(roles, turns, lives);
     Table {
-        ids: ids,
-        lengths: lengths,
-        standings: standings,
+        ids,
+        lengths,
+        standings,
         keep: f.keep,
         out_ended: f.out_ended,
         err_used: f.err_used,
         err_ended: f.err_ended,
-        stdin_shown: stdin_shown,
-        data_shown: data_shown,
+        stdin_shown,
+        data_shown,
         occupied: f.occupied,
     }
 }
 
+#[tactic(auto, unfolding(crate::specs::Flat::frame_of))]
 fn frame_of(f: FlatState) -> Frame
     ensures { result ≡ frame_of f }
 {
@@ -317,16 +299,17 @@ fn frame_of(f: FlatState) -> Frame
             content: f.content,
             padding: f.padding,
             held: f.held,
-            header: header,
+            header,
         },
         target: target_of(f.target, f.target_number),
         gathered: f.gathered,
-        body: body,
+        body,
     }
 }
 
 // The state that numbers and arrays stand for. Any are read as some state, and `is_known` says whether they are the
 // numbers of one.
+#[tactic(auto, unfolding(crate::specs::Flat::conn_of))]
 pub fn from_flat(f: FlatState) -> Conn
     ensures { result ≡ conn_of f }
 {
@@ -338,15 +321,13 @@ pub fn from_flat(f: FlatState) -> Conn
 }
 
 // Whether numbers and arrays are those of a state.
+#[tactic(auto, unfolding(crate::specs::Flat::known))]
 pub fn is_known(f: FlatState) -> bool
     ensures { result ≡ known f }
 {
-    let roles = f.roles;
-    let turns = f.turns;
-    let lives = f.lives;
-    all_within(1, 3, roles)
-        & all_within(0, 3, turns)
-        & all_within(0, 2, lives)
+    all_within(1, 3, f.roles)
+        & all_within(0, 3, f.turns)
+        & all_within(0, 2, f.lives)
         & is_known_target(f.target, f.target_number)
         & (f.open <= 1)
 }

@@ -9,28 +9,17 @@ use std::env::{Env, FillError};
 pub fn argument(rt: &HostRuntime, i: usize, buffer: &mut [u8]) -> usize
     ensures { IsPrefix result buffer.new }
 {
-    match rt.arg(i, buffer) {
-        Ok(n) => n,
-        Err(_) => 0,
-    }
+    rt.arg(i, buffer).unwrap_or(0)
 }
 
 // Whether there is an argument i.
 fn is_given(rt: &HostRuntime, i: usize) -> bool {
-    let mut room = [0u8; 1];
-    match rt.arg(i, &mut room) {
-        Ok(_) => true,
-        Err(FillError::TooLong) => true,
-        Err(FillError::NotPresent) => false,
-    }
+    !matches!(rt.arg(i, &mut [0]), Err(FillError::NotPresent))
 }
 
 // How many arguments there are, the program's name among them.
 pub fn argument_count(rt: &HostRuntime) -> usize {
-    for i in 0..usize::MAX {
-        if !is_given(rt, i) {
-            return i;
-        }
-    }
-    usize::MAX
+    (0..usize::MAX)
+        .find(|i| !is_given(rt, *i))
+        .unwrap_or(usize::MAX)
 }

@@ -62,9 +62,36 @@ pub fn read_full(rt: &HostRuntime, buffer: &mut [u8]) -> io::Result<usize>
     Ok(done)
 }
 
+// Reads standard input to its end, a piece of at most 64 KiB at a time, and hands each piece to `go`, which answers whether
+// it wants more. (A proved loop has to end, and nothing says that the input does: so it counts its turns, up to a number
+// that no run comes to.)
+pub fn read_pieces<F: FnMut(&[u8]) -> io::Result<bool>>(
+    rt: &HostRuntime,
+    mut go: F,
+) -> io::Result<()>
+    requires { F.IsAlwaysCallable go }
+{
+    let mut piece = large_buffer();
+    for _ in 0..u64::MAX {
+        let n = read_some(rt, &mut piece)?;
+        if n == 0 || !go(&piece[..n])? {
+            return Ok(());
+        }
+    }
+    Ok(())
+}
+
 // Writes all of the bytes to standard output. After an error some of them may be written.
 pub fn write_out(rt: &HostRuntime, bytes: &[u8]) -> io::Result<()> {
     rt.stdout().write_all(bytes)
+}
+
+// Writes the first n of the bytes to standard output, and none where they are fewer.
+pub fn write_first(rt: &HostRuntime, bytes: &[u8], n: usize) -> io::Result<()> {
+    match bytes.get(..n) {
+        Some(first) => write_out(rt, first),
+        None => Ok(()),
+    }
 }
 
 // Writes all of the bytes to standard error. After an error some of them may be written.

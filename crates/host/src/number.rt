@@ -23,7 +23,7 @@ pub fn hex(n: u64, width: usize, out: &mut [u8; 16]) -> usize
     ensures digits { take result out.new ≡ last_digits 16 result n }
     ensures rest { drop result out.new ≡ drop result out.old }
 {
-    let k = digit_count(n, 16, width_between(width));
+    let k = digit_count(n, 16, width.max(1).min(16));
     put_digits(n, 16, k, out);
     k
 }
@@ -40,20 +40,7 @@ fn digit_count(n: u64, base: u64, width: usize) -> usize
         left /= base;
         k += 1;
     }
-    if k < width { width } else { k }
-}
-
-// A width from 1 to 16.
-fn width_between(width: usize) -> usize
-    ensures { result ≡ min (max width 1) 16 }
-{
-    if width < 1 {
-        return 1;
-    }
-    if 16 < width {
-        return 16;
-    }
-    width
+    k.max(width)
 }
 
 // Puts the last k digits of a number at the start of `out`.
@@ -64,10 +51,8 @@ fn put_digits(n: u64, base: u64, k: usize, out: &mut [u8])
     ensures digits { take k out.new ≡ last_digits base k n }
     ensures rest { drop k out.new ≡ drop k out.old }
 {
-    let mut i = k;
     let mut left = n;
-    while i > 0 {
-        i -= 1;
+    for i in (0..k).rev() {
         out[i] = digit_of(left % base);
         left /= base;
     }
@@ -78,5 +63,9 @@ fn digit_of(d: u64) -> u8
     requires { d < 16 }
     ensures { result ≡ digit_character d }
 {
-    if d < 10 { 48 + d as u8 } else { 87 + d as u8 }
+    if d < 10 {
+        b'0' + d as u8
+    } else {
+        b'a' - 10 + d as u8
+    }
 }

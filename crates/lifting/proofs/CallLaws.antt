@@ -1,10 +1,9 @@
 -- What the code does is the call: one step of the receiver, over what it is offered, and then the way.
-use Rattle.std.specs.Prelude.{ℕ, ◌≤◌, ◌≡◌, refl, Bool, true, false, List, ◌⊎◌, length, take, ltb, eqb, if◌then◌else◌}
+use Rattle.std.specs.Prelude.{ℕ, ◌≤◌, ◌≡◌, refl, Bool, true, false, List, ◌⊎◌, length, take, ltb, eqb, if◌then◌else◌, Ok, Err, Result}
 use Rattle.std.proofs.Common.{sym, ap, ◌∙◌, inl, inr, arith, length-take, take_all, take-take, eq-eqb}
 use Rattle.std.proofs.lemmas.Bool.{eqb-false}
 use Rattle.wire.specs.Test.{by_test}
 use Rattle.wire.specs.Buffer.{put_at}
-use Rattle.connection.specs.declared.answer.StepResult.{StepResult}
 use Rattle.connection.specs.Sizes.{STORE}
 use Rattle.connection.specs.Codes.{refusal_number}
 use Rattle.connection.specs.Shape.{in_shape}
@@ -18,6 +17,8 @@ use Rattle.lifting.specs.Call.{lift_refusal, header_written, copies_content, off
 use Rattle.lifting.specs.Call.{lifted}
 use Rattle.lifting.specs.Ways.{started_for, offer_of, unless_waiting, way_of, goes, HasRoom}
 use Rattle.lifting.proofs.HeaderLaws.{take_short}
+use Rattle.connection.specs.declared.answer.Refusal.{Refusal}
+use Rattle.connection.specs.declared.event.Event.{Event}
 
 -- ---- what the receiver is offered
 pub offer_within : (waiting id : ℕ) (copies : Bool) (bytes room : ℕ) → offer_of waiting id copies bytes room ≤ bytes
@@ -68,12 +69,12 @@ offer_uses l piece buffer st store used e =
 
 -- ---- the ways that change nothing of the receiver
 -- the receiver refuses, by 2 or 9
-refuses : (l : Lifting) (store x buffer : List ℕ) (result : StepResult) (n : ℕ) (s : Stepped)
+refuses : (l : Lifting) (store x buffer : List ℕ) (result : Result Event Refusal) (n : ℕ) (s : Stepped)
     → s ≡ stays n l.state store → told_number result ≡ n
     → eqb n 0 ≡ false → eqb n 1 ≡ false
     → goes (way_of result l.id l.waiting) l s x buffer ≡ stands n l store buffer
-refuses l store x buffer (StepResult.Event e) n s se told some other = absurd (eqb-false n 0 some (sym told))
-refuses l store x buffer (StepResult.Refused why) n s se told some other =
+refuses l store x buffer (Ok e) n s se told some other = absurd (eqb-false n 0 some (sym told))
+refuses l store x buffer (Err why) n s se told some other =
     let test : eqb (refusal_number why) 1 ≡ false = ap (λ (k : ℕ). eqb k 1) told ∙ other in
     rw se (simp test (ap (λ (k : ℕ). stands k l store buffer) told))
 
@@ -122,17 +123,17 @@ reads_on_lem l store piece buffer s se i w =
 
 -- ---- all the ways
 -- the step is refused by 1, or not at all: then the id and a header that waits decide
-closed_way : (result : StepResult) (id waiting : ℕ) → told_number result ≡ 1
+closed_way : (result : Result Event Refusal) (id waiting : ℕ) → told_number result ≡ 1
     → way_of result id waiting ≡ unless_waiting id waiting Way.Stands
-closed_way (StepResult.Event e) id waiting told = absurd (omega (arith, told))
-closed_way (StepResult.Refused why) id waiting told =
+closed_way (Ok e) id waiting told = absurd (omega (arith, told))
+closed_way (Err why) id waiting told =
     let test : eqb (refusal_number why) 1 ≡ true = ap (λ (k : ℕ). eqb k 1) told in
     simp test
 
-reading_way : (result : StepResult) (id waiting : ℕ) → told_number result ≡ 0
+reading_way : (result : Result Event Refusal) (id waiting : ℕ) → told_number result ≡ 0
     → way_of result id waiting ≡ unless_waiting id waiting Way.Reads
-reading_way (StepResult.Event e) id waiting told = refl
-reading_way (StepResult.Refused why) id waiting told = absurd (eqb-false (refusal_number why) 0 (refusal_some why) told)
+reading_way (Ok e) id waiting told = refl
+reading_way (Err why) id waiting told = absurd (eqb-false (refusal_number why) 0 (refusal_some why) told)
 
 -- no bytes are offered where a header waits, or for id 0
 offer_none : (l : Lifting) (piece buffer : List ℕ) → (ltb 0 l.waiting ≡ true) ⊎ (eqb l.id 0 ≡ true)
@@ -192,7 +193,7 @@ unfolding lift_refusal
 no_row l store f i = simp (f.size, f.shape, i)
 
 -- the connection is closed
-goes_closed : (l : Lifting) (store piece buffer : List ℕ) (result : StepResult) (s : Stepped) → Rows l store
+goes_closed : (l : Lifting) (store piece buffer : List ℕ) (result : Result Event Refusal) (s : Stepped) → Rows l store
     → l.state.conn.«open» ≡ false
     → s ≡ stepped l.state store (take (offer_to l piece buffer) piece) → told_number result ≡ s.refusal
     → goes (way_of result l.id l.waiting) l s (take s.used piece) buffer ≡ lifted l store piece buffer
@@ -217,7 +218,7 @@ goes_closed l store piece buffer result s f d se told =
     ∙ sym (lifted_closed l store piece buffer (no_row l store f i) w d)))
 
 -- the connection is open
-goes_open : (l : Lifting) (store piece buffer : List ℕ) (result : StepResult) (s : Stepped) → Rows l store
+goes_open : (l : Lifting) (store piece buffer : List ℕ) (result : Result Event Refusal) (s : Stepped) → Rows l store
     → l.state.conn.«open» ≡ true
     → s ≡ stepped l.state store (take (offer_to l piece buffer) piece) → told_number result ≡ s.refusal
     → goes (way_of result l.id l.waiting) l s (take s.used piece) buffer ≡ lifted l store piece buffer
@@ -246,7 +247,7 @@ goes_open l store piece buffer result s f d se told =
     (λ w. reads_on_lem l store piece buffer s se i w ∙ sym (lifted_reads l store piece buffer (no_row l store f i) w d)))
 
 -- What the code does is the call.
-pub goes_lifted : (l : Lifting) (store piece buffer : List ℕ) (result : StepResult) (s : Stepped)
+pub goes_lifted : (l : Lifting) (store piece buffer : List ℕ) (result : Result Event Refusal) (s : Stepped)
     → s ≡ stepped l.state store (take (offer_to l piece buffer) piece) → told_number result ≡ s.refusal
     → goes (way_of result l.id l.waiting) l s (take s.used piece) buffer ≡ lifted l store piece buffer
 unfolding step_refusal lift_refusal

@@ -1,5 +1,5 @@
 -- The calls of the lift: a start, a call that goes on over a piece and into a buffer that may be short, and the verdict.
-use Rattle.std.specs.Prelude.{ℕ, ◌+◌, ◌-◌, min, Bool, false, not, ◌&&◌, ◌||◌, List, [], ◌∷◌, ◌++◌, length, take, drop, if◌then◌else◌}
+use Rattle.std.specs.Prelude.{ℕ, ◌+◌, ◌-◌, min, Bool, false, not, ◌&&◌, ◌||◌, List, [], ◌∷◌, ◌++◌, length, take, drop, if◌then◌else◌, Option as RustOption, Some, None}
 use Rattle.std.proofs.Math.Option.{Option, none, some}
 use Rattle.wire.specs.Test.{◌<?◌, ◌=?◌}
 use Rattle.wire.specs.Buffer.{put_at, zeros}
@@ -11,9 +11,9 @@ use Rattle.connection.specs.Refusal.{◌when◌, refusal}
 use Rattle.connection.specs.Shape.{in_shape}
 use Rattle.connection.specs.Step.{State, Stepped, state_of, stepped, started, closed_conn}
 use Rattle.plain_agrees.specs.Agreement.{close_of_event, is_between}
-use Rattle.lifting.specs.declared.Closing.{Closing}
 use Rattle.lifting.specs.declared.Lift.{Lift}
 use Rattle.lifting.specs.Lift.{Verdict, Clean, Cut, ClosedAt, LARGEST_PLACE, copied_header, is_copied}
+use Rattle.connection.specs.declared.event.Close.{Close}
 
 -- ---- the state of a lift, with the gathered bytes that are lent beside it, and the close by its cause
 pub record Lifting : Type 0 where
@@ -33,9 +33,9 @@ pub record Lifting : Type 0 where
   pub start : ℕ
   pub closing : Option Cause
 
-abbrev pub closing_of : Closing → Option Cause
-closing_of Closing.Open = none
-closing_of (Closing.By close) = some (close_cause close)
+abbrev pub closing_of : RustOption Close → Option Cause
+closing_of None = none
+closing_of (Some close) = some (close_cause close)
 
 abbrev pub lifting_of : Lift → List ℕ → Lifting
 lifting_of l gathered =

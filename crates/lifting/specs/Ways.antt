@@ -1,11 +1,11 @@
 -- How the code makes a call: one step of the receiver, and then a way that the step's answer, the id and a header that
 -- waits decide. `CallLaws.goes_lifted` says that this is the call.
-use Rattle.std.specs.Prelude.{ℕ, ◌≤◌, min, ◌≡◌, Bool, true, List, length, if◌then◌else◌}
+use Rattle.std.specs.Prelude.{ℕ, ◌≤◌, min, ◌≡◌, Bool, true, List, length, if◌then◌else◌, Ok, Err, Result}
 use Rattle.wire.specs.Test.{◌<?◌, ◌=?◌}
 use Rattle.record_reader.specs.declared.Position.{Position}
 use Rattle.connection.specs.declared.state.Conn.{Conn}
 use Rattle.connection.specs.declared.answer.Refusal.{Refusal}
-use Rattle.connection.specs.declared.answer.StepResult.{StepResult}
+use Rattle.connection.specs.declared.event.Event.{Event as CodeEvent}
 use Rattle.connection.specs.Event.{Event}
 use Rattle.connection.specs.Codes.{refusal_number}
 use Rattle.connection.specs.Sizes.{STORE}
@@ -36,9 +36,9 @@ unless_waiting id waiting way =
     if id =? 0 then Way.Refused Refusal.NotActive else if 0 <? waiting then Way.Header else way
 
 -- row 1 of the receiver is no refusal here
-abbrev pub way_of : StepResult → ℕ → ℕ → Way
-way_of (StepResult.Event e) id waiting = unless_waiting id waiting Way.Reads
-way_of (StepResult.Refused why) id waiting =
+abbrev pub way_of : Result CodeEvent Refusal → ℕ → ℕ → Way
+way_of (Ok e) id waiting = unless_waiting id waiting Way.Reads
+way_of (Err why) id waiting =
     if refusal_number why =? 1 then unless_waiting id waiting Way.Stands else Way.Refused why
 
 -- ---- a lift taken apart, and put together again

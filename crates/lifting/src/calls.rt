@@ -12,30 +12,28 @@ ghost use Rattle.lifting.specs.Ways.{Seen, HasRoom};
 
 use crate::marks::{Marks, after_bytes, copies_content, is_between};
 use crate::way::{Way, offer, way_of};
-use crate::{Closing, Lift, LiftResult, LiftStarted, Lifted, Verdict};
+use crate::{Lift, LiftStarted, Lifted, Moved, Verdict};
 use call_start::start;
 use call_step::step;
 use conn_frame::closed;
-use connection::answer::{Refusal, StartResult, Started, StepResult};
+use connection::answer::{Refusal, Started};
+use connection::event::Event;
 use connection::sizes::{QUERY, STORE};
 use connection::state::Conn;
 use record_reader::Position;
-use wire::{copy_into, least};
+use wire::copy_into;
 
 // The receiver's start; for id 0 it is refused by 3.
+#[tactic(auto, unfolding(crate::specs::Ways::started_for))]
 fn start_for(store: &mut [u8], gathered: &mut [u8; QUERY], id: u16) -> Started
     ensures { started_by result gathered.new store.new
         ≡ started_for gathered.old store.old id }
 {
-    if store.len() == STORE {
-        if id == 0 {
-            let c = closed();
-            return Started {
-                result: StartResult::Refused(Refusal::NotActive),
-                conn: c,
-            };
-        }
-        return start(store, gathered);
+    if store.len() == STORE && id == 0 {
+        return Started {
+            result: Err(Refusal::NotActive),
+            conn: closed(),
+        };
     }
     start(store, gathered)
 }
@@ -46,21 +44,19 @@ pub fn start_lift(store: &mut [u8], gathered: &mut [u8; QUERY], id: u16) -> Lift
     ensures { lift_started_by result gathered.new store.new
         ≡ lift_started gathered.old store.old id }
 {
-    let s = start_for(store, gathered, id);
-    let result = s.result;
-    let conn = s.conn;
+    let started = start_for(store, gathered, id);
     LiftStarted {
-        result: result,
+        result: started.result,
         lift: Lift {
-            conn: conn,
-            id: id,
+            conn: started.conn,
+            id,
             begun: false,
             copied: false,
             header: [0; 8],
             waiting: 0,
             used: 0,
             start: 0,
-            closing: Closing::Open,
+            closing: None,
         },
     }
 }
@@ -69,36 +65,28 @@ pub fn start_lift(store: &mut [u8], gathered: &mut [u8; QUERY], id: u16) -> Lift
 #[derive(Clone, Copy)]
 struct Outcome {
     marks: Marks,
-    result: LiftResult,
+    result: Result<Moved, Refusal>,
 }
 
 // Writes of the header that waits as many bytes as there is room for. (A lift that was made by other means may say
-// that more than eight wait; `least` takes that for eight.)
+// that more than eight wait; that is taken for eight.)
 fn write_header(m: Marks, out: &mut [u8]) -> Outcome
     ensures { (id : ℕ) (s : Stepped) → outcome_with result id s out.new
         ≡ header_written (lifting_with s.state id m) s.store out.old }
 {
-    let header = m.header;
-    let closing = m.closing;
-    let w = least(m.waiting, 8);
-    let n = least(w, out.len());
-    let a = 8 - w;
-    let e = a + n;
-    copy_into(out, 0, &header[a..e]);
+    let waiting = m.waiting.min(8);
+    let n = waiting.min(out.len());
+    let start = 8 - waiting;
+    copy_into(out, 0, &m.header[start..start + n]);
     Outcome {
         marks: Marks {
-            begun: m.begun,
-            copied: m.copied,
-            header: header,
-            waiting: w - n,
-            used: m.used,
-            start: m.start,
-            closing: closing,
+            waiting: waiting - n,
+            ..m
         },
-        result: LiftResult::Moved {
+        result: Ok(Moved {
             used: 0,
             written: n,
-        },
+        }),
     }
 }
 
@@ -121,7 +109,7 @@ fn read_on(
     id: u16,
     p: Position,
     open: bool,
-    res: StepResult,
+    res: Result<Event, Refusal>,
     bytes: &[u8],
     out: &mut [u8],
 ) -> Outcome
@@ -132,13 +120,12 @@ fn read_on(
 {
     let copies = copies_content(m.copied, p.content);
     let written = write_copied(copies, bytes, out);
-    let after = after_bytes(m, id, p, open, res, bytes);
     Outcome {
-        marks: after,
-        result: LiftResult::Moved {
+        marks: after_bytes(m, id, p, open, res, bytes),
+        result: Ok(Moved {
             used: bytes.len(),
-            written: written,
-        },
+            written,
+        }),
     }
 }
 
@@ -149,7 +136,7 @@ fn go(
     id: u16,
     p: Position,
     open: bool,
-    res: StepResult,
+    res: Result<Event, Refusal>,
     bytes: &[u8],
     out: &mut [u8],
 ) -> Outcome
@@ -161,15 +148,15 @@ fn go(
     match way {
         Way::Refused(why) => Outcome {
             marks: m,
-            result: LiftResult::Refused(why),
+            result: Err(why),
         },
         Way::Header => write_header(m, out),
         Way::Stands => Outcome {
             marks: m,
-            result: LiftResult::Moved {
+            result: Ok(Moved {
                 used: 0,
                 written: 0,
-            },
+            }),
         },
         Way::Reads => read_on(m, id, p, open, res, bytes, out),
     }
@@ -180,15 +167,14 @@ fn marks_of(l: Lift) -> Marks
     ensures { result ≡ marks_of l }
 {
     let header = l.header;
-    let closing = l.closing;
     Marks {
         begun: l.begun,
         copied: l.copied,
-        header: header,
+        header,
         waiting: l.waiting,
         used: l.used,
         start: l.start,
-        closing: closing,
+        closing: l.closing,
     }
 }
 
@@ -197,17 +183,16 @@ fn lift_of(conn: Conn, id: u16, m: Marks) -> Lift
     ensures { result ≡ lift_of_parts conn id m }
 {
     let header = m.header;
-    let closing = m.closing;
     Lift {
-        conn: conn,
-        id: id,
+        conn,
+        id,
         begun: m.begun,
         copied: m.copied,
-        header: header,
+        header,
         waiting: m.waiting,
         used: m.used,
         start: m.start,
-        closing: closing,
+        closing: m.closing,
     }
 }
 
@@ -224,43 +209,37 @@ pub fn lift(
     ensures { lifted_by result gathered.new store.new out.new
         ≡ lifted (lifting_of l gathered.old) store.old piece.now out.old }
 {
-    let frame = l.conn.frame;
-    let p = frame.position;
+    let p = l.conn.frame.position;
     let copies = copies_content(l.copied, p.content);
-    let n = offer(l.waiting, l.id, copies, piece.len(), out.len());
-    let z: usize = 0;
-    let s = step(l.conn, store, gathered, &piece[z..n]);
-    let used = s.used;
-    let told = s.result;
-    let conn = s.conn;
+    let offered = offer(l.waiting, l.id, copies, piece.len(), out.len());
+    let stepped = step(l.conn, store, gathered, &piece[..offered]);
+    let told = stepped.result;
     let way = way_of(told, l.id, l.waiting);
     let marks = marks_of(l);
-    let o = go(way, marks, l.id, p, conn.open, told, &piece[z..used], out);
-    let after = o.marks;
-    let result = o.result;
+    let outcome = go(
+        way,
+        marks,
+        l.id,
+        p,
+        stepped.conn.open,
+        told,
+        &piece[..stepped.used],
+        out,
+    );
     Lifted {
-        lift: lift_of(conn, l.id, after),
-        result: result,
+        lift: lift_of(stepped.conn, l.id, outcome.marks),
+        result: outcome.result,
     }
 }
 
 // What the capture is, of all that was used so far.
+#[tactic(auto, unfolding(crate::specs::Call::verdict_now))]
 pub fn lift_verdict(l: Lift) -> Verdict
     ensures { (gathered : List ℕ) → verdict_by result ≡ verdict_now (lifting_of l gathered) }
 {
-    let closing = l.closing;
-    let frame = l.conn.frame;
-    let p = frame.position;
-    match closing {
-        Closing::By(cause) => Verdict::Closed {
-            cause: cause,
-            at: l.start,
-        },
-        Closing::Open => {
-            if is_between(p) {
-                return Verdict::Clean;
-            }
-            Verdict::Cut
-        }
+    match l.closing {
+        Some(cause) => Verdict::Closed { cause, at: l.start },
+        None if is_between(l.conn.frame.position) => Verdict::Clean,
+        None => Verdict::Cut,
     }
 }

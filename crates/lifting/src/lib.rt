@@ -5,16 +5,9 @@ pub mod calls;
 mod marks;
 mod way;
 
-use connection::answer::{Refusal, StartResult};
+use connection::answer::Refusal;
 use connection::event::Close;
 use connection::state::Conn;
-
-// Why the replay closed, if it did.
-#[derive(Clone, Copy)]
-pub enum Closing {
-    Open,
-    By(Close),
-}
 
 #[derive(Clone, Copy)]
 pub struct Lift {
@@ -32,7 +25,7 @@ pub struct Lift {
     // how many bytes were used, and how many of them before the record being read; both stay at the largest number
     pub used: u64,
     pub start: u64,
-    pub closing: Closing,
+    pub closing: Option<Close>,
 }
 
 // What a capture is.
@@ -49,20 +42,20 @@ pub enum Verdict {
 // A fresh lift, or why the start is refused.
 #[derive(Clone, Copy)]
 pub struct LiftStarted {
-    pub result: StartResult,
+    pub result: Result<(), Refusal>,
     pub lift: Lift,
 }
 
-// The bytes of the piece that a call used and those that it wrote at the start of the lent buffer, or why it is
-// refused.
-#[derive(Clone, Copy)]
-pub enum LiftResult {
-    Moved { used: usize, written: usize },
-    Refused(Refusal),
+// How many bytes of the piece a call used, and how many it wrote at the start of the lent buffer.
+#[derive(Clone, Copy, Debug, PartialEq, Eq)]
+pub struct Moved {
+    pub used: usize,
+    pub written: usize,
 }
 
+// What a call did, or why it is refused, and the lift afterwards.
 #[derive(Clone, Copy)]
 pub struct Lifted {
     pub lift: Lift,
-    pub result: LiftResult,
+    pub result: Result<Moved, Refusal>,
 }

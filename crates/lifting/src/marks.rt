@@ -9,12 +9,11 @@ ghost use Rattle.lifting.specs.Lift.{LARGEST_PLACE, copied_header, is_copied};
 ghost use Rattle.lifting.specs.Call.{closing_of, header_with, completes, with_header, with_bytes, after_bytes};
 ghost use Rattle.lifting.specs.Ways.{lifting_with, Seen};
 
-use crate::Closing;
-use connection::answer::StepResult;
-use connection::event::Event;
+use connection::answer::Refusal;
+use connection::event::{Close, Event};
 use record::names::BEGIN_REQUEST;
 use record_reader::Position;
-use wire::{copy_into, least, number_of_two};
+use wire::{copy_into, number_of_two};
 
 // All fields of a lift but the receiver and the id, which bytes do not change by themselves.
 #[derive(Clone, Copy)]
@@ -25,73 +24,50 @@ pub struct Marks {
     pub waiting: usize,
     pub used: u64,
     pub start: u64,
-    pub closing: Closing,
+    pub closing: Option<Close>,
 }
 
 // Whether bytes are content that is copied, with so much content left of the record.
 pub fn copies_content(copied: bool, content: usize) -> bool
     ensures { result ≡ copied && (0 <? content) }
 {
-    if copied {
-        return 0 < content;
-    }
-    false
+    copied && 0 < content
 }
 
 // Between two records.
 pub fn is_between(p: Position) -> bool
     ensures { result ≡ is_between p }
 {
-    if p.held == 0 {
-        if p.content == 0 {
-            return p.padding == 0;
-        }
-        return false;
-    }
-    false
+    p.held == 0 && p.content == 0 && p.padding == 0
 }
 
 // A place, so many bytes on; it stays at the largest number.
 fn place_after(place: u64, bytes: usize) -> u64
     ensures { result ≡ min (place + bytes) LARGEST_PLACE }
 {
-    let n = bytes as u64;
-    if u64::MAX - place < n {
-        return u64::MAX;
-    }
-    place + n
+    place.saturating_add(bytes as u64)
 }
 
 // The place of the first byte of the record being read: the bytes after p begin one if p is between two.
 fn start_after(p: Position, used: u64, start: u64) -> u64
     ensures { result ≡ (if is_between p then used else start) }
 {
-    if is_between(p) {
-        return used;
-    }
-    start
+    if is_between(p) { used } else { start }
 }
 
-// Whether these bytes make the header whole. (`least` keeps the difference in range for a state that is out of shape.)
+// Whether these bytes make the header whole. (`min` keeps the difference in range for a state that is out of shape.)
 fn makes_whole(p: Position, bytes: &[u8]) -> bool
     ensures { result ≡ completes p bytes.now }
 {
-    if p.content == 0 {
-        if p.padding == 0 {
-            return 8 - least(p.held, 8) == bytes.len();
-        }
-        return false;
-    }
-    false
+    p.content == 0 && p.padding == 0 && 8 - p.held.min(8) == bytes.len()
 }
 
 // The header that these bytes make whole.
 fn whole_header(p: Position, bytes: &[u8]) -> [u8; 8]
     ensures { completes p bytes.now ≡ true → result ≡ header_with p bytes.now }
 {
-    let held = least(p.held, 8);
     let mut header = p.header;
-    copy_into(&mut header, held, bytes);
+    copy_into(&mut header, p.held.min(8), bytes);
     header
 }
 
@@ -99,23 +75,14 @@ fn whole_header(p: Position, bytes: &[u8]) -> [u8; 8]
 fn is_copied(id: u16, begun: bool, header: [u8; 8]) -> bool
     ensures { result ≡ is_copied id begun header }
 {
-    if number_of_two(header[2], header[3]) == id {
-        if begun {
-            return true;
-        }
-        return header[1] == BEGIN_REQUEST;
-    }
-    false
+    number_of_two(header[2], header[3]) == id && (begun || header[1] == BEGIN_REQUEST)
 }
 
 // A record that closes is not copied.
 fn copies_next(open: bool, id: u16, begun: bool, header: [u8; 8]) -> bool
     ensures { result ≡ «open» && is_copied id begun header }
 {
-    if open {
-        return is_copied(id, begun, header);
-    }
-    false
+    open && is_copied(id, begun, header)
 }
 
 // The header as it is copied: without padding.
@@ -128,62 +95,38 @@ fn without_padding(header: [u8; 8]) -> [u8; 8]
 }
 
 // The close that an event tells, if it does.
-fn closing_by(e: Event) -> Closing
+fn closing_by(e: Event) -> Option<Close>
     ensures { closing_of result ≡ close_of_event (event_of e) }
 {
     match e {
-        Event::Nothing => Closing::Open,
-        Event::Open {
-            id: _,
-            role: _,
-            keep: _,
-        } => Closing::Open,
-        Event::Ready { id: _, length: _ } => Closing::Open,
-        Event::Data {
-            id: _,
-            stream: _,
-            count: _,
-        } => Closing::Open,
-        Event::End {
-            id: _,
-            stream: _,
-            measure: _,
-        } => Closing::Open,
-        Event::Abort { id: _ } => Closing::Open,
-        Event::Refuse { id: _, status: _ } => Closing::Open,
-        Event::Fault { id: _, fault: _ } => Closing::Open,
-        Event::Query {
-            max_conns: _,
-            max_reqs: _,
-            mpxs_conns: _,
-        } => Closing::Open,
-        Event::Unknown { kind: _ } => Closing::Open,
-        Event::Closed { cause } => Closing::By(cause),
+        Event::Closed { cause } => Some(cause),
+        _ => None,
     }
 }
 
 // The close that a step tells, if it does.
-fn closing_of(res: StepResult) -> Closing
+fn closing_of(res: Result<Event, Refusal>) -> Option<Close>
     ensures { closing_of result ≡ close_of_event (told_event res) }
 {
-    match res {
-        StepResult::Event(e) => closing_by(e),
-        StepResult::Refused(_) => Closing::Open,
-    }
+    closing_by(res.ok()?)
 }
 
 // The header of a record that is copied waits whole.
 fn waiting_if(copied: bool) -> usize
     ensures { result ≡ (if copied then 8 else 0) }
 {
-    if copied {
-        return 8;
-    }
-    0
+    if copied { 8 } else { 0 }
 }
 
 // A header that is whole says whether its record is copied, and waits then.
-fn with_header(m: Marks, id: u16, p: Position, open: bool, res: StepResult, bytes: &[u8]) -> Marks
+fn with_header(
+    m: Marks,
+    id: u16,
+    p: Position,
+    open: bool,
+    res: Result<Event, Refusal>,
+    bytes: &[u8],
+) -> Marks
     ensures { completes p bytes.now ≡ true
         → (st : State) (s : Stepped) → Seen st s p «open» (told_event res)
         → lifting_with s.state id result ≡ with_header (lifting_with st id m) s bytes.now }
@@ -192,7 +135,7 @@ fn with_header(m: Marks, id: u16, p: Position, open: bool, res: StepResult, byte
     let copied = copies_next(open, id, m.begun, header);
     Marks {
         begun: m.begun | copied,
-        copied: copied,
+        copied,
         header: without_padding(header),
         waiting: waiting_if(copied),
         used: place_after(m.used, bytes.len()),
@@ -202,19 +145,16 @@ fn with_header(m: Marks, id: u16, p: Position, open: bool, res: StepResult, byte
 }
 
 // Any other bytes move the places on, and may close.
-fn with_bytes(m: Marks, p: Position, res: StepResult, bytes: &[u8]) -> Marks
+fn with_bytes(m: Marks, p: Position, res: Result<Event, Refusal>, bytes: &[u8]) -> Marks
     ensures { (id : ℕ) (is_open : Bool) (st : State) (s : Stepped) → Seen st s p is_open (told_event res)
         → lifting_with s.state id result ≡ with_bytes (lifting_with st id m) s bytes.now }
 {
-    let header = m.header;
     Marks {
-        begun: m.begun,
-        copied: m.copied,
-        header: header,
         waiting: 0,
         used: place_after(m.used, bytes.len()),
         start: start_after(p, m.used, m.start),
         closing: closing_of(res),
+        ..m
     }
 }
 
@@ -224,7 +164,7 @@ pub fn after_bytes(
     id: u16,
     p: Position,
     open: bool,
-    res: StepResult,
+    res: Result<Event, Refusal>,
     bytes: &[u8],
 ) -> Marks
     ensures { (st : State) (s : Stepped) → Seen st s p «open» (told_event res)

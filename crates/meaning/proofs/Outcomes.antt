@@ -1,6 +1,7 @@
 -- Where the rules lead: a header and its content leave the connection closed, or open with a frame that the rules do
 -- not choose.
-use Rattle.std.specs.Prelude.{ℕ, Bool, true, false, List, [], if◌then◌else◌}
+use Rattle.connection.specs.Slots.{Slot}
+use Rattle.std.specs.Prelude.{ℕ, Bool, true, false, List, [], if◌then◌else◌, Some, None}
 use Rattle.wire.specs.Test.{◌<?◌, ◌=?◌}
 use Rattle.record.specs.Names.{VERSION, BEGIN_REQUEST, GET_VALUES, RESPONDER, AUTHORIZER, FILTER}
 use Rattle.record.specs.declared.header.Header.{Header}
@@ -9,7 +10,6 @@ use Rattle.pair_list.specs.List.{well_formed, broken_at}
 use Rattle.machine.specs.Cause.{Cause, Plain, At}
 use Rattle.connection.specs.declared.request.Role.{Role}
 use Rattle.connection.specs.declared.request.Due.{Due}
-use Rattle.connection.specs.declared.state.Slot.{Slot}
 use Rattle.connection.specs.declared.state.Table.{Table}
 use Rattle.connection.specs.declared.state.Target.{Target}
 use Rattle.connection.specs.declared.state.Frame.{Frame}
@@ -69,8 +69,8 @@ module _ (st : State) (store : List ℕ) (h : Header) (n : ℕ) (P : Left → Le
   by_active i = goes _ (due_to (on_header h.kind h.content (held_at st.conn.table store i)).due i) _ _ _
 
   by_slot : (k : Slot) → P (on_slot k (on_active st store h) (on_inactive st store h)) (on_slot k (on_active st store other) (on_inactive st store other))
-  by_slot (Slot.At i) = by_active i
-  by_slot Slot.Nowhere = by_inactive
+  by_slot (Some i) = by_active i
+  by_slot None = by_inactive
 
   pub by_judged : P (judged st store h) (judged st store other)
   unfolding judged

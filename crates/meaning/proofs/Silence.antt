@@ -1,12 +1,11 @@
 -- What a meaning does not rest on: padding, and records of an id that is not active. And where whole records end.
-use Rattle.std.specs.Prelude.{ℕ, zero, suc, ◌≡◌, refl, Bool, true, List, [], ◌∷◌, ◌++◌, map, length, take, drop}
+use Rattle.std.specs.Prelude.{ℕ, zero, suc, ◌≡◌, refl, Bool, true, List, [], ◌∷◌, ◌++◌, map, length, take, drop, None}
 use Rattle.std.proofs.Common.{sym, ap, ap₂, ◌∙◌, subst, arith, eq-eqb, ne_eqb}
 use Rattle.wire.specs.Test.{by_test}
 use Rattle.record.specs.Names.{VERSION, BEGIN_REQUEST}
 use Rattle.record.specs.Split.{Record, Split, front_length, whole_front, split}
 use Rattle.record.proofs.Padding.{bare_header, unpadded_in, unpadded, bare, padding_dropped}
 use Rattle.record.specs.Header.{header_of}
-use Rattle.connection.specs.declared.state.Slot.{Slot}
 use Rattle.connection.specs.declared.state.Frame.{Frame}
 use Rattle.connection.specs.Slots.{find}
 use Rattle.connection.specs.Step.{State, state_of, no_frame, open_with, on_inactive, judged}
@@ -91,7 +90,7 @@ between_is st store k =
 
 -- A record of an id that is neither 0 nor active, and no BEGIN_REQUEST, changes nothing and tells nothing.
 pub inactive_says_nothing : (r : Record) (st : State) (store : List ℕ) → Between st store → r.version ≡ VERSION → (r.id ≡ 0 → ⊥)
-    → find st.conn.table r.id ≡ Slot.Nowhere → (r.kind ≡ BEGIN_REQUEST → ⊥) → record_means st store r ≡ resting st store
+    → find st.conn.table r.id ≡ None → (r.kind ≡ BEGIN_REQUEST → ⊥) → record_means st store r ≡ resting st store
 unfolding header_means content_means judged on_inactive
 inactive_says_nothing r st store k version id none kind = go r.content
   where

@@ -1,6 +1,6 @@
 -- What holds of the pairs of a list. The bound of the definition is seen in `enough` only, and in the proof of
 -- `pairs_step`.
-use Rattle.std.specs.Prelude.{◌≡◌, refl, ℕ, zero, suc, ◌+◌, ◌-◌, ◌≤◌, ◌<◌, true, false, length, take, drop, if◌then◌else◌}
+use Rattle.std.specs.Prelude.{◌≡◌, refl, ℕ, zero, suc, ◌+◌, ◌-◌, ◌≤◌, ◌<◌, true, false, length, take, drop, if◌then◌else◌, Some}
 use Rattle.std.proofs.Common.{sym, ap, ◌∙◌, subst, arith, ⊎_elim}
 use mathlib.Core.List.Memᴰ
 use mathlib.Core.List.{List, [], ◌∷◌, Memᴰ}
@@ -13,7 +13,6 @@ use Rattle.wire.proofs.CompareLaws.{same_is}
 use Rattle.pairs.specs.declared.pair.Pair.{Pair}
 use Rattle.pairs.specs.declared.pair.Read.{Read}
 use Rattle.pair_list.specs.declared.Ending.{Ending}
-use Rattle.pair_list.specs.declared.Found.{Found}
 
 -- no pairs, and an ending
 abbrev pub ended : Ending → Pairs
@@ -59,9 +58,18 @@ pairs_malformed s at place e = pairs_step s at ∙ simp e
 pub pairs_none : (s : List ℕ) (at : ℕ) → at < length s → ((p : Pair) (next : ℕ) → pair_at s at ≡ Read.Pair p next → ⊥) → pairs_from s at ≡ ended (Ending.Malformed at)
 pairs_none s at h none = pairs_malformed s at at (no_pair_lem s at h none)
 
+-- where no pair can be read, no pair is left
+pub pairs_stop : (s : List ℕ) (at : ℕ) → ((p : Pair) (next : ℕ) → pair_at s at ≡ Read.Pair p next → ⊥) → (pairs_from s at).pairs ≡ []
+pairs_stop s at none = ap (λ (ps : Pairs). ps.pairs) (pairs_step s at) ∙ go (pair_at s at) refl
+  where
+    go : (r : Read) → pair_at s at ≡ r → (on_read r (λ p next. and_pairs p (pairs_from s next)) ended).pairs ≡ []
+    go (Read.Pair p next) q = absurd (none p next q)
+    go Read.End q = refl
+    go (Read.Malformed place) q = refl
+
 -- a turn of the search by name, which compares the bytes from the name up to the value
 pub first_next : (s name : List ℕ) (at : ℕ) (p : Pair) (next : ℕ) → pair_at s at ≡ Read.Pair p next
-    → first_in s name (pairs_from s at).pairs ≡ (if same_bytes (take (p.value - p.name) (drop p.name s)) name then Found.At p else first_in s name (pairs_from s next).pairs)
+    → first_in s name (pairs_from s at).pairs ≡ (if same_bytes (take (p.value - p.name) (drop p.name s)) name then Some p else first_in s name (pairs_from s next).pairs)
 unfolding first_in
 first_next s name at p next e =
     let i = pair_in_lem s at p next e in
@@ -70,7 +78,7 @@ first_next s name at p next e =
 
 -- a turn of the search by number
 pub number_next : (s : List ℕ) (k at : ℕ) (p : Pair) (next : ℕ) → pair_at s at ≡ Read.Pair p next
-    → number_in (pairs_from s at).pairs k ≡ (if k =? 0 then Found.At p else number_in (pairs_from s next).pairs (k - 1))
+    → number_in (pairs_from s at).pairs k ≡ (if k =? 0 then Some p else number_in (pairs_from s next).pairs (k - 1))
 unfolding number_in
 number_next s k at p next e = rw (pairs_next s at p next e)
 
@@ -155,7 +163,7 @@ pairs_lie s at p m =
     lies a q next i = record { named = i.named; within = omega arith }
 
 -- a pair found by its name is one of the pairs, and has that name
-pub first_one : (s name : List ℕ) (ps : List Pair) (p : Pair) → first_in s name ps ≡ Found.At p → Memᴰ p ps × (name_of s p ≡ name)
+pub first_one : (s name : List ℕ) (ps : List Pair) (p : Pair) → first_in s name ps ≡ Some p → Memᴰ p ps × (name_of s p ≡ name)
 unfolding first_in
 first_one s name [] p e = let z : ◌≡◌ {A = ℕ} 0 1 = cc in absurd (omega arith)
 first_one s name (q ∷ ps) p e =
@@ -164,7 +172,7 @@ first_one s name (q ∷ ps) p e =
     (λ t. let r = first_one s name ps p (simp t at e) in (Memᴰ.tail r.0, r.1))
 
 -- a pair found by its number is one of the pairs
-pub number_one : (ps : List Pair) (k : ℕ) (p : Pair) → number_in ps k ≡ Found.At p → Memᴰ p ps
+pub number_one : (ps : List Pair) (k : ℕ) (p : Pair) → number_in ps k ≡ Some p → Memᴰ p ps
 unfolding number_in
 number_one [] k p e = let z : ◌≡◌ {A = ℕ} 0 1 = cc in absurd (omega arith)
 number_one (q ∷ ps) k p e =
@@ -173,16 +181,16 @@ number_one (q ∷ ps) k p e =
     (λ t. Memᴰ.tail (number_one ps (k - 1) p (simp t at e)))
 
 -- the pair found by its name lies within the list
-pub first_within : (s name : List ℕ) (p : Pair) → first_named s name ≡ Found.At p → LiesIn s p
+pub first_within : (s name : List ℕ) (p : Pair) → first_named s name ≡ Some p → LiesIn s p
 unfolding first_named
 first_within s name p e = pairs_lie s 0 p (first_one s name (pairs_from s 0).pairs p e).0
 
 -- the pair found by its name has that name
-pub first_has_name : (s name : List ℕ) (p : Pair) → first_named s name ≡ Found.At p → name_of s p ≡ name
+pub first_has_name : (s name : List ℕ) (p : Pair) → first_named s name ≡ Some p → name_of s p ≡ name
 unfolding first_named
 first_has_name s name p e = (first_one s name (pairs_from s 0).pairs p e).1
 
 -- the pair found by its number lies within the list
-pub number_within : (s : List ℕ) (k : ℕ) (p : Pair) → pair_number s k ≡ Found.At p → LiesIn s p
+pub number_within : (s : List ℕ) (k : ℕ) (p : Pair) → pair_number s k ≡ Some p → LiesIn s p
 unfolding pair_number
 number_within s k p e = pairs_lie s 0 p (number_one (pairs_from s 0).pairs k p e)

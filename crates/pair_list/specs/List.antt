@@ -1,12 +1,11 @@
 -- A list of pairs, read from a cursor on.
-use Rattle.std.specs.Prelude.{ℕ, zero, suc, ◌-◌, Bool, true, false, List, [], ◌∷◌, length, if◌then◌else◌}
+use Rattle.std.specs.Prelude.{ℕ, zero, suc, ◌-◌, Bool, true, false, List, [], ◌∷◌, length, if◌then◌else◌, Some, None, Option}
 use Rattle.wire.specs.Test.{◌=?◌}
 use Rattle.pairs.specs.Pair.{pair_at, name_of}
 use Rattle.wire.specs.Compare.{same_bytes}
 use Rattle.pairs.specs.declared.pair.Pair.{Pair}
 use Rattle.pairs.specs.declared.pair.Read.{Read}
 use Rattle.pair_list.specs.declared.Ending.{Ending}
-use Rattle.pair_list.specs.declared.Found.{Found}
 
 -- The pairs up to the end or to the first malformed one, and which of the two it is.
 pub record Pairs : Type 0 where
@@ -53,29 +52,29 @@ unfolding ending_of
 broken_at s = place_of (ending_of s)
 
 -- The first of some pairs with a name, and the one of number k, counted from 0.
-unfoldable pub first_in : List ℕ → List ℕ → List Pair → Found
-first_in s name [] = Found.Nothing
-first_in s name (p ∷ ps) = if same_bytes (name_of s p) name then Found.At p else first_in s name ps
+unfoldable pub first_in : List ℕ → List ℕ → List Pair → Option Pair
+first_in s name [] = None
+first_in s name (p ∷ ps) = if same_bytes (name_of s p) name then Some p else first_in s name ps
 
-unfoldable pub number_in : List Pair → ℕ → Found
-number_in [] k = Found.Nothing
-number_in (p ∷ ps) k = if k =? 0 then Found.At p else number_in ps (k - 1)
+unfoldable pub number_in : List Pair → ℕ → Option Pair
+number_in [] k = None
+number_in (p ∷ ps) k = if k =? 0 then Some p else number_in ps (k - 1)
 
 -- whether one was found
-abbrev pub is_named : Found → Bool
-is_named (Found.At p) = true
-is_named Found.Nothing = false
+abbrev pub is_named : Option Pair → Bool
+is_named (Some p) = true
+is_named None = false
 
 -- The same in a whole list: of a list that is malformed somewhere, the pairs before that place count.
-unfoldable pub first_named : List ℕ → List ℕ → Found
+unfoldable pub first_named : List ℕ → List ℕ → Option Pair
 unfolding pairs_from first_in
 first_named s name = first_in s name (pairs_from s 0).pairs
 
-unfoldable pub pair_number : List ℕ → ℕ → Found
+unfoldable pub pair_number : List ℕ → ℕ → Option Pair
 unfolding pairs_from number_in
 pair_number s k = number_in (pairs_from s 0).pairs k
 
 -- The first pair with a name among those from a cursor on.
-unfoldable pub first_from : List ℕ → ℕ → List ℕ → Found
+unfoldable pub first_from : List ℕ → ℕ → List ℕ → Option Pair
 unfolding pairs_from first_in
 first_from s at name = first_in s name (pairs_from s at).pairs

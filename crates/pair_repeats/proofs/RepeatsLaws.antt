@@ -1,5 +1,5 @@
 -- What holds of a list that repeats no name.
-use Rattle.std.specs.Prelude.{◌≡◌, ℕ, ◌-◌, true, false, take, drop, if◌then◌else◌}
+use Rattle.std.specs.Prelude.{◌≡◌, ℕ, ◌-◌, true, false, take, drop, if◌then◌else◌, Some}
 use Rattle.std.proofs.Common.{sym, ap, ◌∙◌, subst, arith, ⊎_elim}
 use mathlib.Core.List.Memᴰ
 use mathlib.Core.List.{List, [], ◌∷◌, Memᴰ}
@@ -12,7 +12,6 @@ use Rattle.pairs.specs.declared.pair.Pair.{Pair}
 use Rattle.pairs.specs.declared.pair.Read.{Read}
 use Rattle.pair_list.specs.List.{pairs_from, first_in, first_from, first_named, is_named}
 use Rattle.pair_list.proofs.ListLaws.{pairs_next}
-use Rattle.pair_list.specs.declared.Found.{Found}
 use Rattle.pair_repeats.specs.Repeats.{repeats_in, repeats}
 
 -- a round of the test
@@ -44,7 +43,7 @@ there_found s (p ∷ ps) q m =
     (Memᴰ.cases_cons m))
 
 -- Where no name is repeated, each pair is the one that its name finds.
-first_only : (s : List ℕ) (ps : List Pair) (q : Pair) → repeats_in s ps ≡ false → Memᴰ q ps → first_in s (name_of s q) ps ≡ Found.At q
+first_only : (s : List ℕ) (ps : List Pair) (q : Pair) → repeats_in s ps ≡ false → Memᴰ q ps → first_in s (name_of s q) ps ≡ Some q
 unfolding repeats_in first_in
 first_only s [] q h m = absurd (Memᴰ.not-nil m)
 first_only s (p ∷ ps) q h m =
@@ -52,7 +51,7 @@ first_only s (p ∷ ps) q h m =
     (λ f. let z : ◌≡◌ {A = ℕ} 0 1 = cc (simp f at h) in absurd (omega arith))
     (λ f.
     ⊎_elim
-    (λ e. subst (λ (r : Pair). first_in s (name_of s r) (p ∷ ps) ≡ Found.At r) (sym e) (simp (same_refl (name_of s p))))
+    (λ e. subst (λ (r : Pair). first_in s (name_of s r) (p ∷ ps) ≡ Some r) (sym e) (simp (same_refl (name_of s p))))
     (λ n.
     by_test (same_bytes (name_of s p) (name_of s q))
     (λ t.
@@ -63,6 +62,6 @@ first_only s (p ∷ ps) q h m =
     (Memᴰ.cases_cons m))
 
 -- So in a list that repeats no name, a pair with a name is the first with it: there is at most one.
-pub named_once : (s name : List ℕ) (q : Pair) → repeats s ≡ false → Memᴰ q (pairs_from s 0).pairs → name_of s q ≡ name → first_named s name ≡ Found.At q
+pub named_once : (s name : List ℕ) (q : Pair) → repeats s ≡ false → Memᴰ q (pairs_from s 0).pairs → name_of s q ≡ name → first_named s name ≡ Some q
 unfolding repeats first_named
 named_once s name q h m e = ap (λ (n : List ℕ). first_in s n (pairs_from s 0).pairs) (sym e) ∙ first_only s (pairs_from s 0).pairs q h m

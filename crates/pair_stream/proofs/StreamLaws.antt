@@ -1,11 +1,10 @@
 -- What holds of a pair that is written as a stream: one record of it, the loop, and what the call comes to.
-use Rattle.std.specs.Prelude.{ℕ, ◌+◌, ◌-◌, ◌≤◌, ◌<◌, min, ◌≡◌, refl, true, List, ◌++◌, length, take, drop}
+use Rattle.std.specs.Prelude.{ℕ, ◌+◌, ◌-◌, ◌≤◌, ◌<◌, min, ◌≡◌, refl, true, List, ◌++◌, length, take, drop, Ok}
 use Rattle.std.proofs.Common.{sym, ap, ◌∙◌, arith, length-append, length-take, length-drop, length-take-le, zero-add, le-ltb}
 use Rattle.wire.specs.Buffer.{put_at, copied, zeros}
 use Rattle.record.specs.Header.{header_bytes}
 use Rattle.pairs.specs.Length.{length_bytes}
 use Rattle.pairs.specs.Pair.{pair_bytes}
-use Rattle.pair_writer.specs.declared.PairWrote.{PairWrote}
 use Rattle.pair_writer.specs.Write.{MAX_WRITTEN, answered}
 use Rattle.pair_writer.proofs.WriteLaws.{lengths_take}
 use Rattle.pair_stream.specs.Stream.{pair_streamed}
@@ -85,7 +84,7 @@ head name value bytes count e f =
 pub pair_placed : (out : List ℕ) (kind id : ℕ) (name value : List ℕ) (size : ℕ) {n : ℕ} {l : List ℕ} → length name ≤ MAX_WRITTEN → length value ≤ MAX_WRITTEN
     → stream_fits size (length (pair_bytes name value)) 0 (length out) ≡ true
     → ◌≡◌ {A = Placed} (record { next = n; buffer = l }) (stream_placed out 0 kind id (pair_bytes name value) size)
-    → answered (PairWrote.Bytes n) l ≡ pair_streamed out kind id name value size
+    → answered (Ok n) l ≡ pair_streamed out kind id name value size
 unfolding pair_streamed stream_placed
 pair_placed out kind id name value size hn hv fits w =
     let bytes = stream_bytes size kind id (pair_bytes name value) in

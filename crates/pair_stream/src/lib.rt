@@ -8,7 +8,7 @@ ghost use Rattle.record_writer.specs.Written.{Placed, record_length, stream_fits
 ghost use Rattle.pair_writer.specs.Write.{answered};
 ghost use Rattle.pair_stream.specs.Stream.{pair_streamed};
 
-use pair_writer::{PairWrote, length_fields};
+use pair_writer::{PairRefusal, length_fields};
 use record::header::header_bytes;
 use record_writer::{record_length, stream_fits};
 use wire::{copy_into, least};
@@ -107,24 +107,24 @@ pub fn write_pair_stream(
     name: &[u8],
     value: &[u8],
     size: u16,
-) -> PairWrote
+) -> Result<usize, PairRefusal>
     ensures { answered result out.new
         ≡ pair_streamed out.old kind id name.now value.now size }
 {
     let n = name.len();
     let v = value.len();
     if 65535 < n {
-        return PairWrote::TooLong;
+        return Err(PairRefusal::TooLong);
     }
     if 65535 < v {
-        return PairWrote::TooLong;
+        return Err(PairRefusal::TooLong);
     }
     let fields = length_fields(n as u16, v as u16);
     let head = fields.bytes;
     let h = fields.count;
     if !stream_fits(size, h + n + v, 0, out.len()) {
-        return PairWrote::NoRoom;
+        return Err(PairRefusal::NoRoom);
     }
     let z: usize = 0;
-    PairWrote::Bytes(put_records(out, kind, id, &head[z..h], name, value, size))
+    Ok(put_records(out, kind, id, &head[z..h], name, value, size))
 }

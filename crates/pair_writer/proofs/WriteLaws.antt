@@ -1,6 +1,6 @@
 -- What holds of a pair that is written.
 use Rattle.pairs.specs.Pair.{pair_bytes}
-use Rattle.std.specs.Prelude.{◌≡◌, refl, ℕ, ◌+◌, ◌≤◌, ◌<◌, List, [], ◌∷◌, ◌++◌, length, take, drop, if◌then◌else◌}
+use Rattle.std.specs.Prelude.{◌≡◌, refl, ℕ, ◌+◌, ◌≤◌, ◌<◌, List, [], ◌∷◌, ◌++◌, length, take, drop, if◌then◌else◌, Ok, Err, Result}
 use Rattle.std.proofs.Common.{sym, ap, ◌∙◌, arith, length-append, take_at, lt-ltb, le-ltb}
 use Rattle.wire.specs.Test.{◌<?◌, ◌=?◌, by_test}
 use Rattle.wire.specs.Number.{bytes4}
@@ -8,8 +8,7 @@ use Rattle.wire.specs.Buffer.{put_at, copied}
 use Rattle.wire.proofs.BufferLaws.{put_length, put_put, copied_room}
 use Rattle.pairs.specs.Length.{length_bytes}
 use Rattle.pair_writer.specs.Write.{Written, MAX_WRITTEN, answered, pair_written}
-use Rattle.pair_writer.specs.declared.PairWrote.{PairWrote}
-use Rattle.pair_writer.specs.declared.PairWrote.TheVariants.{Bytes, TooLong, NoRoom}
+use Rattle.pair_writer.specs.declared.PairRefusal.{PairRefusal}
 
 -- a length below 128 is one byte
 pub length_short : (n : ℕ) → n < 128 → length_bytes n ≡ n ∷ []
@@ -84,30 +83,30 @@ pair_put out name value a b c {l1} {l2} {l3} ea eb ec h e1 e2 e3 e4 =
 -- a pair of so many bytes that is put into the buffer is what the call comes to
 pub pair_written_lem : (out name value : List ℕ) {size : ℕ} {l : List ℕ} → length name ≤ MAX_WRITTEN → length value ≤ MAX_WRITTEN
     → size ≡ length (pair_bytes name value) → size ≤ length out → l ≡ put_at out 0 (pair_bytes name value)
-    → answered (Bytes size) l ≡ pair_written out name value
+    → answered (Ok size) l ≡ pair_written out name value
 unfolding pair_written
 pair_written_lem out name value {size} {l} hn hv e h put =
     let room : length (pair_bytes name value) ≤ length out = omega arith in
     simp (le-ltb _ _ hn, le-ltb _ _ hv, le-ltb _ _ room, e, put)
 
 -- the answer that a call came to
-abbrev answer_of : Written → PairWrote
-answer_of w = if w.refusal =? 8 then TooLong else if w.refusal =? 6 then NoRoom else Bytes w.bytes
+abbrev answer_of : Written → Result ℕ PairRefusal
+answer_of w = if w.refusal =? 8 then (Err PairRefusal.TooLong) else if w.refusal =? 6 then (Err PairRefusal.NoRoom) else Ok w.bytes
 
 -- it is found again
-answer_back : (r : PairWrote) (l : List ℕ) → answer_of (answered r l) ≡ r
-answer_back (Bytes n) l = refl
-answer_back TooLong l = refl
-answer_back NoRoom l = refl
+answer_back : (r : Result ℕ PairRefusal) (l : List ℕ) → answer_of (answered r l) ≡ r
+answer_back (Ok n) l = refl
+answer_back (Err PairRefusal.TooLong) l = refl
+answer_back (Err PairRefusal.NoRoom) l = refl
 
 -- and so is the buffer
-buffer_back : (r : PairWrote) (l : List ℕ) → (answered r l).buffer ≡ l
-buffer_back (Bytes n) l = refl
-buffer_back TooLong l = refl
-buffer_back NoRoom l = refl
+buffer_back : (r : Result ℕ PairRefusal) (l : List ℕ) → (answered r l).buffer ≡ l
+buffer_back (Ok n) l = refl
+buffer_back (Err PairRefusal.TooLong) l = refl
+buffer_back (Err PairRefusal.NoRoom) l = refl
 
 -- two calls that come to the same have the same answer and the same buffer
-pub answered_once : (r r' : PairWrote) (l l' : List ℕ) → answered r l ≡ answered r' l' → (r ≡ r') × (l ≡ l')
+pub answered_once : (r r' : Result ℕ PairRefusal) (l l' : List ℕ) → answered r l ≡ answered r' l' → (r ≡ r') × (l ≡ l')
 answered_once r r' l l' e = (
   sym (answer_back r l) ∙ ap answer_of e ∙ answer_back r' l',
   sym (buffer_back r l) ∙ ap (λ (w : Written). w.buffer) e ∙ buffer_back r' l',

@@ -1,10 +1,9 @@
 -- The call that writes a pair into a lent buffer.
 use Rattle.pairs.specs.Pair.{pair_bytes}
-use Rattle.std.specs.Prelude.{ℕ, List, length, if◌then◌else◌}
+use Rattle.std.specs.Prelude.{ℕ, List, length, if◌then◌else◌, Ok, Err, Result}
 use Rattle.wire.specs.Test.{◌<?◌}
 use Rattle.wire.specs.Buffer.{put_at}
-use Rattle.pair_writer.specs.declared.PairWrote.{PairWrote}
-use Rattle.pair_writer.specs.declared.PairWrote.TheVariants.{Bytes, TooLong, NoRoom}
+use Rattle.pair_writer.specs.declared.PairRefusal.{PairRefusal}
 
 -- The most bytes of a name or a value that is written.
 abbrev pub MAX_WRITTEN : ℕ
@@ -17,10 +16,10 @@ pub record Written : Type 0 where
   pub buffer : List ℕ
 
 -- The number of each answer in the table of refusals, and the bytes written.
-abbrev pub answered : PairWrote → List ℕ → Written
-answered (Bytes n) buffer = record { refusal = 0; bytes = n; buffer = buffer }
-answered TooLong buffer = record { refusal = 8; bytes = 0; buffer = buffer }
-answered NoRoom buffer = record { refusal = 6; bytes = 0; buffer = buffer }
+abbrev pub answered : Result ℕ PairRefusal → List ℕ → Written
+answered (Ok n) buffer = record { refusal = 0; bytes = n; buffer = buffer }
+answered (Err PairRefusal.TooLong) buffer = record { refusal = 8; bytes = 0; buffer = buffer }
+answered (Err PairRefusal.NoRoom) buffer = record { refusal = 6; bytes = 0; buffer = buffer }
 
 -- 8: name or value too long to write; then 6: output longer than the lent buffer; else the pair at the buffer's start.
 unfoldable pub pair_written : List ℕ → List ℕ → List ℕ → Written

@@ -8,16 +8,15 @@ ghost use Rattle.pair_writer.specs.Write.{answered, pair_written};
 
 use wire::copy_into;
 
-// The bytes written; or the refusals 8, name or value over 65,535 bytes, and 6, the buffer too short.
-#[derive(Clone, Copy)]
-pub enum PairWrote {
-    Bytes(usize),
+// Why a pair is refused: 8, a name or a value has more than 65,535 bytes; 6, the buffer is too short.
+#[derive(Clone, Copy, Debug, PartialEq, Eq)]
+pub enum PairRefusal {
     TooLong,
     NoRoom,
 }
 
 // Both lengths of a pair as they are written: the first `count` of these bytes.
-#[derive(Clone, Copy)]
+#[derive(Clone, Copy, Debug, PartialEq, Eq)]
 pub struct LengthFields {
     pub bytes: [u8; 8],
     pub count: usize,
@@ -37,8 +36,7 @@ fn put_length(out: &mut [u8], at: usize, n: usize) -> usize
         × (out.new ≡ put_at out.old at (length_bytes n)) }
 {
     if n < 128 {
-        let one = [n as u8];
-        copy_into(out, at, &one);
+        copy_into(out, at, &[n as u8]);
         return at + 1;
     }
     let m = n + 2147483648;
@@ -58,8 +56,7 @@ fn put_lengths(out: &mut [u8], n: usize, v: usize) -> usize
     ensures { (result ≡ length (length_bytes n ++ length_bytes v))
         × (out.new ≡ put_at out.old 0 (length_bytes n ++ length_bytes v)) }
 {
-    let z: usize = 0;
-    let middle = put_length(out, z, n);
+    let middle = put_length(out, 0, n);
     put_length(out, middle, v)
 }
 
@@ -70,34 +67,27 @@ pub fn length_fields(n: u16, v: u16) -> LengthFields
 {
     let mut bytes = [0u8; 8];
     let count = put_lengths(&mut bytes, n as usize, v as usize);
-    LengthFields {
-        bytes: bytes,
-        count: count,
-    }
+    LengthFields { bytes, count }
 }
 
 // Writes a pair at the start of out, each length in its shorter form. What lies after it stays.
-pub fn write_pair(out: &mut [u8], name: &[u8], value: &[u8]) -> PairWrote
+#[tactic(auto, using(crate::proofs::WriteLaws::length_takes), unfolding(crate::specs::Write::pair_written))]
+pub fn write_pair(out: &mut [u8], name: &[u8], value: &[u8]) -> Result<usize, PairRefusal>
     ensures { answered result out.new
         ≡ pair_written out.old name.now value.now }
 {
     let n = name.len();
     let v = value.len();
-    if 65535 < n {
-        return PairWrote::TooLong;
-    }
-    if 65535 < v {
-        return PairWrote::TooLong;
+    if 65535 < n || 65535 < v {
+        return Err(PairRefusal::TooLong);
     }
     let size = length_size(n) + length_size(v) + n + v;
     if out.len() < size {
-        return PairWrote::NoRoom;
+        return Err(PairRefusal::NoRoom);
     }
-    let z: usize = 0;
-    let a = put_length(out, z, n);
-    let b = put_length(out, a, v);
-    copy_into(out, b, name);
-    let c = b + n;
-    copy_into(out, c, value);
-    PairWrote::Bytes(size)
+    let next = put_length(out, 0, n);
+    let start = put_length(out, next, v);
+    copy_into(out, start, name);
+    copy_into(out, start + n, value);
+    Ok(size)
 }

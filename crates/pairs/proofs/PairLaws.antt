@@ -1,25 +1,28 @@
 -- What holds of a length and of a pair that were read.
-use Rattle.std.specs.Prelude.{◌≡◌, refl, ℕ, ◌+◌, ◌-◌, ◌≤◌, ◌<◌, List, length}
+use Rattle.std.specs.Prelude.{◌≡◌, refl, ℕ, ◌+◌, ◌-◌, ◌≤◌, ◌<◌, List, length, Some, None, Option, unwrap_or}
 use Rattle.std.proofs.Common.{ap, ◌∙◌, subst, arith, ltb-false, leb-true, leb-false, le-leb}
 use Rattle.wire.specs.Test.{by_test, ◌<?◌, ◌≤?◌}
 use Rattle.wire.specs.Buffer.{byte_at}
 use Rattle.pairs.specs.Length.{length_at}
 use Rattle.pairs.specs.Pair.{on_length, body_at, pair_at}
-use Rattle.pairs.specs.declared.length.Length.{Length}
 use Rattle.pairs.specs.declared.pair.Pair.{Pair}
 use Rattle.pairs.specs.declared.pair.Read.{Read}
 
+-- the same length and the same cursor
+pub same_length : {n next m after : ℕ} → ◌≡◌ {A = Option (ℕ × ℕ)} (Some (n, next)) (Some (m, after)) → (n ≡ m) × (next ≡ after)
+same_length e = (ap (λ (o : Option (ℕ × ℕ)). (unwrap_or o (0, 0)).0) e, ap (λ (o : Option (ℕ × ℕ)). (unwrap_or o (0, 0)).1) e)
+
 -- a length that was read moves the cursor on, and stays within the list
-pub length_next : (s : List ℕ) (at n next : ℕ) → length_at s at ≡ Length.Is n next → (at < next) × (next ≤ length s)
+pub length_next : (s : List ℕ) (at n next : ℕ) → length_at s at ≡ Some (n, next) → (at < next) × (next ≤ length s)
 unfolding length_at
 length_next s at n next e =
     by_test (length s ≤? at)
     (λ t1. let z : ◌≡◌ {A = ℕ} 0 1 = cc (simp t1 at e) in absurd (omega arith))
     (λ t1. by_test (byte_at s at <? 128)
-    (λ t2. let q : at + 1 ≡ next = cc (simp (t1, t2) at e) in omega (arith, leb-false (length s) at t1))
+    (λ t2. let q = (same_length (simp (t1, t2) at e)).1 in omega (arith, leb-false (length s) at t1))
     (λ t2. by_test (length s - at <? 4)
     (λ t3. let z : ◌≡◌ {A = ℕ} 0 1 = cc (simp (t1, t2, t3) at e) in absurd (omega arith))
-    (λ t3. let q : at + 4 ≡ next = cc (simp (t1, t2, t3) at e) in omega (arith, ltb-false (length s - at) 4 t3, leb-false (length s) at t1))))
+    (λ t3. let q = (same_length (simp (t1, t2, t3) at e)).1 in omega (arith, ltb-false (length s - at) 4 t3, leb-false (length s) at t1))))
 
 -- a pair that was read takes two bytes or more, lies within the list, and its name, its value and the cursor after it
 -- adjoin
@@ -60,14 +63,14 @@ read_says s at =
           valued = refl;
         })))
 
-    second : (n a : ℕ) → at < length s → at < a → (m : Length) → length_at s a ≡ m → ReadSays s at (on_length m (λ v b. body_at s at n v b) (Read.Malformed at))
-    second n a h h1 (Length.Is v b) q = let k = length_next s a v b q in body n a v b h h1 k.0 k.1
-    second n a h h1 Length.Malformed q = (refl, h)
+    second : (n a : ℕ) → at < length s → at < a → (m : Option (ℕ × ℕ)) → length_at s a ≡ m → ReadSays s at (on_length m (λ v b. body_at s at n v b) (Read.Malformed at))
+    second n a h h1 (Some (v, b)) q = let k = length_next s a v b q in body n a v b h h1 k.0 k.1
+    second n a h h1 None q = (refl, h)
 
-    first : at < length s → (l : Length) → length_at s at ≡ l
+    first : at < length s → (l : Option (ℕ × ℕ)) → length_at s at ≡ l
         → ReadSays s at (on_length l (λ n a. on_length (length_at s a) (λ v b. body_at s at n v b) (Read.Malformed at)) (Read.Malformed at))
-    first h (Length.Is n a) q = second n a h (length_next s at n a q).0 (length_at s a) refl
-    first h Length.Malformed q = (refl, h)
+    first h (Some (n, a)) q = second n a h (length_next s at n a q).0 (length_at s a) refl
+    first h None q = (refl, h)
 
 -- where a pair that was read lies
 pub pair_in_lem : (s : List ℕ) (at : ℕ) (p : Pair) (next : ℕ) → pair_at s at ≡ Read.Pair p next → PairIn s at p next

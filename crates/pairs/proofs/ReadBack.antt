@@ -1,5 +1,5 @@
 -- What is written is read back, and what is written for a pair that was read is no longer than what was read.
-use Rattle.std.specs.Prelude.{◌≡◌, refl, ℕ, ◌+◌, ◌*◌, ◌-◌, ◌/◌, ◌%◌, ◌≤◌, ◌<◌, true, false, List, ◌∷◌, ◌++◌, length, take, drop, ltb}
+use Rattle.std.specs.Prelude.{◌≡◌, refl, ℕ, ◌+◌, ◌*◌, ◌-◌, ◌/◌, ◌%◌, ◌≤◌, ◌<◌, true, false, List, ◌∷◌, ◌++◌, length, take, drop, ltb, Some, None, Option}
 use Rattle.std.proofs.Common.{ap, subst, arith, append_assoc, length-append, length-take, length-drop, take_at, drop_at, get_or-append-add, ltb-true, lt-ltb, le-ltb}
 use Rattle.std.proofs.Math.Seq.{get_or-append_seam}
 use Rattle.std.proofs.lemmas.Bool.{lt-leb}
@@ -9,9 +9,7 @@ use Rattle.wire.specs.Buffer.{byte_at}
 use Rattle.wire.proofs.Bytes.{AllBytes}
 use Rattle.pairs.specs.Length.{four_at, length_at, length_bytes}
 use Rattle.pairs.specs.Pair.{pair_bytes, on_length, body_at, pair_at, name_of, value_of}
-use Rattle.pairs.proofs.PairLaws.{PairIn, pair_in_lem}
-use Rattle.pairs.specs.declared.length.Length.{Length}
-use Rattle.pairs.specs.declared.length.Length.TheVariants.{Is, Malformed}
+use Rattle.pairs.proofs.PairLaws.{PairIn, pair_in_lem, same_length}
 use Rattle.pairs.specs.declared.pair.Pair.{Pair}
 use Rattle.pairs.specs.declared.pair.Read.{Read}
 
@@ -29,7 +27,7 @@ high_bit : (n : ℕ) → n < 2147483648 → 128 ≤ (n + 2147483648) / 16777216 
 high_bit n h = omega arith
 
 -- A length of one byte, read after other bytes.
-one_read : (front : List ℕ) (b : ℕ) (rest : List ℕ) → b < 128 → length_at (front ++ b ∷ rest) (length front) ≡ Is b (length front + 1)
+one_read : (front : List ℕ) (b : ℕ) (rest : List ℕ) → b < 128 → length_at (front ++ b ∷ rest) (length front) ≡ Some (b, length front + 1)
 unfolding length_at
 one_read front b rest h =
     let more : length front < length (front ++ b ∷ rest) = simp length-append (omega arith) in
@@ -37,7 +35,7 @@ one_read front b rest h =
 
 -- Four bytes, the first with its top bit set, are the length of their number, whatever it is.
 pub four_read : (front : List ℕ) (b3 b2 b1 b0 n : ℕ) (rest : List ℕ) → 128 ≤ b3 → number4 (b3 - 128) b2 b1 b0 ≡ n
-    → length_at (front ++ b3 ∷ b2 ∷ b1 ∷ b0 ∷ rest) (length front) ≡ Is n (length front + 4)
+    → length_at (front ++ b3 ∷ b2 ∷ b1 ∷ b0 ∷ rest) (length front) ≡ Some (n, length front + 4)
 unfolding length_at four_at
 four_read front b3 b2 b1 b0 n rest h e =
     let s : List ℕ = front ++ b3 ∷ b2 ∷ b1 ∷ b0 ∷ rest in
@@ -57,14 +55,14 @@ four_read front b3 b2 b1 b0 n rest h e =
 
 -- A length that was written is read back.
 pub length_read_back : (n : ℕ) (front rest : List ℕ) → n < 2147483648
-    → length_at (front ++ (length_bytes n ++ rest)) (length front) ≡ Is n (length front + length (length_bytes n))
+    → length_at (front ++ (length_bytes n ++ rest)) (length front) ≡ Some (n, length front + length (length_bytes n))
 unfolding length_bytes
 length_read_back n front rest h = by_test (ltb n 128) small large
   where
-    small : ltb n 128 ≡ true → length_at (front ++ (length_bytes n ++ rest)) (length front) ≡ Is n (length front + length (length_bytes n))
+    small : ltb n 128 ≡ true → length_at (front ++ (length_bytes n ++ rest)) (length front) ≡ Some (n, length front + length (length_bytes n))
     small t = simp t (one_read front n rest (ltb-true n 128 t))
 
-    large : ltb n 128 ≡ false → length_at (front ++ (length_bytes n ++ rest)) (length front) ≡ Is n (length front + length (length_bytes n))
+    large : ltb n 128 ≡ false → length_at (front ++ (length_bytes n ++ rest)) (length front) ≡ Some (n, length front + length (length_bytes n))
     large t =
         let m : ℕ = n + 2147483648 in
         let b : 128 ≤ m / 16777216 % 256 = high_bit n h in
@@ -106,8 +104,8 @@ pair_read_back name value front rest hn hv =
     let a : ℕ = length front + length l1 in
     let b : ℕ = a + length l2 in
     let size : length s ≡ b + length name + length value + length rest = simp (length-append, pair_length) (omega arith) in
-    let e1 : length_at s (length front) ≡ Is (length name) a = rw apart (length_read_back (length name) front _ hn) in
-    let e2 : length_at s a ≡ Is (length value) b =
+    let e1 : length_at s (length front) ≡ Some (length name, a) = rw apart (length_read_back (length name) front _ hn) in
+    let e2 : length_at s a ≡ Some (length value, b) =
     rw apart (simp (append_assoc, length-append) at (length_read_back (length value) (front ++ l1) (name ++ (value ++ rest)) hv)) in
     let some : length front < length s = omega (arith, length_some (length name)) in
     let more : length name ≤ length s - b = omega arith in
@@ -138,43 +136,43 @@ value_read_back name value front rest =
 
 -- What is written for a length that was read is no longer than what was read: a byte where it was one, and at most four
 -- where they were four.
-length_no_longer : (s : List ℕ) (at n next : ℕ) → length_at s at ≡ Is n next → at + length (length_bytes n) ≤ next
+length_no_longer : (s : List ℕ) (at n next : ℕ) → length_at s at ≡ Some (n, next) → at + length (length_bytes n) ≤ next
 unfolding length_at length_bytes
 length_no_longer s at n next e =
     by_test (length s ≤? at)
     (λ t1. let z : ◌≡◌ {A = ℕ} 0 1 = cc (simp t1 at e) in absurd (omega arith))
     (λ t1. by_test (byte_at s at <? 128)
     (λ t2.
-    let p : byte_at s at ≡ n = cc (simp (t1, t2) at e) in
-    let q : at + 1 ≡ next = cc (simp (t1, t2) at e) in
+    let p : byte_at s at ≡ n = (same_length (simp (t1, t2) at e)).0 in
+    let q : at + 1 ≡ next = (same_length (simp (t1, t2) at e)).1 in
     rw (← p, t2) (omega arith))
     (λ t2. by_test (length s - at <? 4)
     (λ t3. let z : ◌≡◌ {A = ℕ} 0 1 = cc (simp (t1, t2, t3) at e) in absurd (omega arith))
     (λ t3.
-    let q : at + 4 ≡ next = cc (simp (t1, t2, t3) at e) in
+    let q : at + 4 ≡ next = (same_length (simp (t1, t2, t3) at e)).1 in
     by_test (n <? 128) (λ t4. simp t4 (omega arith)) (λ t4. simp t4 (omega arith)))))
 
 -- A length that was read from bytes can be written.
-length_writable : (s : List ℕ) → AllBytes s → (at n next : ℕ) → length_at s at ≡ Is n next → n < 2147483648
+length_writable : (s : List ℕ) → AllBytes s → (at n next : ℕ) → length_at s at ≡ Some (n, next) → n < 2147483648
 unfolding length_at four_at number4
 length_writable s bytes at n next e =
     by_test (length s ≤? at)
     (λ t1. let z : ◌≡◌ {A = ℕ} 0 1 = cc (simp t1 at e) in absurd (omega arith))
     (λ t1. by_test (byte_at s at <? 128)
     (λ t2.
-    let p : byte_at s at ≡ n = cc (simp (t1, t2) at e) in
+    let p : byte_at s at ≡ n = (same_length (simp (t1, t2) at e)).0 in
     omega (arith, ltb-true (byte_at s at) 128 t2))
     (λ t2. by_test (length s - at <? 4)
     (λ t3. let z : ◌≡◌ {A = ℕ} 0 1 = cc (simp (t1, t2, t3) at e) in absurd (omega arith))
     (λ t3.
-    let p : (byte_at s at - 128) * 16777216 + byte_at s (at + 1) * 65536 + byte_at s (at + 2) * 256 + byte_at s (at + 3) ≡ n = cc (simp (t1, t2, t3) at e) in
+    let p : (byte_at s at - 128) * 16777216 + byte_at s (at + 1) * 65536 + byte_at s (at + 2) * 256 + byte_at s (at + 3) ≡ n = (same_length (simp (t1, t2, t3) at e)).0 in
     omega (arith, bytes at, bytes (at + 1), bytes (at + 2), bytes (at + 3)))))
 
 -- The two lengths that a pair was read by.
 record Lengths (s : List ℕ) (at : ℕ) (p : Pair) : Type 0 where
   second : ℕ
-  named : length_at s at ≡ Is p.name_len second
-  valued : length_at s second ≡ Is p.value_len p.name
+  named : length_at s at ≡ Some (p.name_len, second)
+  valued : length_at s second ≡ Some (p.value_len, p.name)
 
 lengths : (s : List ℕ) (at : ℕ) (p : Pair) (next : ℕ) → pair_at s at ≡ Read.Pair p next → Lengths s at p
 unfolding pair_at
@@ -183,7 +181,7 @@ lengths s at p next e =
     (λ t. let z : ◌≡◌ {A = ℕ} 0 1 = cc (simp t at e) in absurd (omega arith))
     (λ t. first (length_at s at) refl (simp t at e))
   where
-    body : (n a v b : ℕ) → length_at s at ≡ Is n a → length_at s a ≡ Is v b → body_at s at n v b ≡ Read.Pair p next → Lengths s at p
+    body : (n a v b : ℕ) → length_at s at ≡ Some (n, a) → length_at s a ≡ Some (v, b) → body_at s at n v b ≡ Read.Pair p next → Lengths s at p
     body n a v b q1 q2 e =
         by_test (length s - b <? n)
         (λ t1. let z : ◌≡◌ {A = ℕ} 0 1 = cc (simp t1 at e) in absurd (omega arith))
@@ -193,15 +191,15 @@ lengths s at p next e =
         let q : record { name = b; name_len = n; value = b + n; value_len = v } ≡ p = cc (simp (t1, t2) at e) in
         subst (Lengths s at) q (record { second = a; named = q1; valued = q2 })))
 
-    second : (n a : ℕ) → length_at s at ≡ Is n a → (m : Length) → length_at s a ≡ m
+    second : (n a : ℕ) → length_at s at ≡ Some (n, a) → (m : Option (ℕ × ℕ)) → length_at s a ≡ m
         → on_length m (λ v b. body_at s at n v b) (Read.Malformed at) ≡ Read.Pair p next → Lengths s at p
-    second n a q1 (Is v b) q2 e = body n a v b q1 q2 e
-    second n a q1 Malformed q2 e = let z : ◌≡◌ {A = ℕ} 0 1 = cc in absurd (omega arith)
+    second n a q1 (Some (v, b)) q2 e = body n a v b q1 q2 e
+    second n a q1 None q2 e = let z : ◌≡◌ {A = ℕ} 0 1 = cc in absurd (omega arith)
 
-    first : (l : Length) → length_at s at ≡ l
+    first : (l : Option (ℕ × ℕ)) → length_at s at ≡ l
         → on_length l (λ n a. on_length (length_at s a) (λ v b. body_at s at n v b) (Read.Malformed at)) (Read.Malformed at) ≡ Read.Pair p next → Lengths s at p
-    first (Is n a) q e = second n a q (length_at s a) refl e
-    first Malformed q e = let z : ◌≡◌ {A = ℕ} 0 1 = cc in absurd (omega arith)
+    first (Some (n, a)) q e = second n a q (length_at s a) refl e
+    first None q e = let z : ◌≡◌ {A = ℕ} 0 1 = cc in absurd (omega arith)
 
 -- A part of a list has its length.
 part_length : (s : List ℕ) (at n : ℕ) → at + n ≤ length s → length (take n (drop at s)) ≡ n

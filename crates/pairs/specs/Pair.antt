@@ -1,15 +1,14 @@
 -- A name-value pair in a list (FastCGI 1.0, section 3.4): both lengths, then the name, then the value.
-use Rattle.std.specs.Prelude.{ℕ, ◌+◌, ◌-◌, List, ◌++◌, length, take, drop, if◌then◌else◌}
+use Rattle.std.specs.Prelude.{ℕ, ◌+◌, ◌-◌, List, ◌++◌, length, take, drop, if◌then◌else◌, Some, None, Option}
 use Rattle.wire.specs.Test.{◌<?◌, ◌≤?◌}
 use Rattle.pairs.specs.Length.{length_at, length_bytes}
-use Rattle.pairs.specs.declared.length.Length.{Length}
 use Rattle.pairs.specs.declared.pair.Pair.{Pair}
 use Rattle.pairs.specs.declared.pair.Read.{Read}
 
 -- with a length that was read, or else
-abbrev pub on_length : Length → (ℕ → ℕ → Read) → Read → Read
-on_length (Length.Is n next) f other = f n next
-on_length Length.Malformed f other = other
+abbrev pub on_length : Option (ℕ × ℕ) → (ℕ → ℕ → Read) → Read → Read
+on_length (Some (n, next)) f other = f n next
+on_length None f other = other
 
 -- Name and value of n and v bytes at a cursor, if the list has so many; the place is that of the pair's first byte.
 abbrev pub body_at : List ℕ → ℕ → ℕ → ℕ → ℕ → Read

@@ -4,14 +4,8 @@ ghost use Rattle.pairs.specs.Length.{four_at, length_at};
 
 use wire::number_of_four;
 
-// A length and the cursor after it, or none that can be read.
-#[derive(Clone, Copy)]
-pub enum Length {
-    Is(usize, usize),
-    Malformed,
-}
-
 // The number of a length in four bytes, its top bit dropped.
+#[tactic(auto, unfolding(crate::specs::Length::four_at))]
 fn four_at(list: &[u8], at: usize) -> usize
     requires { (at + 4 ≤ length list.now) × (128 ≤ get_or list.now at 0) }
     ensures { result ≡ four_at list.now at }
@@ -19,19 +13,19 @@ fn four_at(list: &[u8], at: usize) -> usize
     number_of_four(list[at] - 128, list[at + 1], list[at + 2], list[at + 3]) as usize
 }
 
-pub fn read_length(list: &[u8], at: usize) -> Length
+#[tactic(auto, unfolding(crate::specs::Length::length_at))]
+pub fn read_length(list: &[u8], at: usize) -> Option<(usize, usize)>
     ensures { result ≡ length_at list.now at }
 {
     if list.len() <= at {
-        return Length::Malformed;
+        return None;
     }
     let first = list[at];
     if first < 128 {
-        return Length::Is(first as usize, at + 1);
+        return Some((first as usize, at + 1));
     }
     if list.len() - at < 4 {
-        return Length::Malformed;
+        return None;
     }
-    let n = four_at(list, at);
-    Length::Is(n, at + 4)
+    Some((four_at(list, at), at + 4))
 }

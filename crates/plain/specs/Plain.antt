@@ -1,8 +1,7 @@
 -- The plain receiver (request [14]): a whole connection in one list of bytes, record by record. There are no phases
 -- here, no slots and no store. It is written from the text of the rules (docs/RULES.md) and shares with the stepping
 -- receiver the reading of pairs, and the type of events with its numbers; that both come to the same is a theorem.
-use Rattle.std.specs.Prelude.{ℕ, zero, suc, ◌+◌, ◌*◌, ◌%◌, Bool, true, false, List, [], ◌∷◌, ◌++◌, length, take, drop, get_or, set, if◌then◌else◌}
-use Rattle.std.proofs.Math.Option.{Option, none, some}
+use Rattle.std.specs.Prelude.{ℕ, zero, suc, ◌+◌, ◌*◌, ◌%◌, Bool, true, false, List, [], ◌∷◌, ◌++◌, length, take, drop, get_or, set, if◌then◌else◌, Some, Option, None}
 use Rattle.wire.specs.Test.{◌<?◌, ◌≤?◌, ◌=?◌}
 use Rattle.pair_list.specs.List.{well_formed, broken_at, first_named, is_named}
 use Rattle.pair_repeats.specs.Repeats.{repeats}
@@ -129,8 +128,8 @@ on_params r n x =
 
 -- What was shown against the length that the list states: CONTENT_LENGTH for STDIN, FCGI_DATA_LENGTH for DATA.
 unfoldable pub against : ℕ → Option ℕ → Measure
-against shown none = Measure.Unstated
-against shown (some n) =
+against shown None = Measure.Unstated
+against shown (Some n) =
     if shown =? n then Measure.Exact
     else if shown <? n then Measure.Short
     else Measure.Over

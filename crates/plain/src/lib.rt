@@ -15,7 +15,7 @@ ghost use Rattle.plain.specs.Promise.{ROOM, Sound, Passes, NextRecord, Reads};
 use crate::rules::says;
 use crate::table::{AREA, ENTRIES, Table, Tells, empty_table};
 use connection::event::{Close, Event, Stream};
-use wire::{least, number_of_two};
+use wire::number_of_two;
 
 // The last word: open between two records, cut inside one, or closed.
 #[derive(Clone, Copy)]
@@ -66,14 +66,10 @@ fn event_in(bytes: &[u8], k: usize, store: &mut [u8]) -> Answer
     let mut left = k;
     let mut at: usize = 0;
     while at < bytes.len() {
-        let end = bytes.len();
-        let heard = read_record(table, store, &bytes[at..end], left);
+        let heard = read_record(table, store, &bytes[at..], left);
         table = heard.table;
-        let next = heard.next;
-        match next {
-            Next::Answer(answer) => {
-                return answer;
-            }
+        match heard.next {
+            Next::Answer(answer) => return answer,
             Next::Record { size, left: still } => {
                 at += size;
                 left = still;
@@ -89,18 +85,19 @@ fn read_record(table: Table, store: &mut [u8], bytes: &[u8], left: usize) -> Hea
     ensures { Reads table store.old bytes.now left result store.new }
 {
     if bytes.len() < 8 {
-        let next = Next::Answer(Answer::Last(LastWord::Cut));
-        return Heard { table, next };
+        return Heard {
+            table,
+            next: Next::Answer(Answer::Last(LastWord::Cut)),
+        };
     }
     let n = number_of_two(bytes[4], bytes[5]) as usize;
     let size = 8 + n + bytes[6] as usize;
-    let from: usize = 8;
-    let to = from + least(n, bytes.len() - from);
-    let said = says(table, store, bytes, &bytes[from..to]);
-    let after = said.table;
-    let tells = said.tells;
-    let next = pass(tells, &bytes[from..to], left, size, bytes.len());
-    Heard { table: after, next }
+    let content = &bytes[8..8 + n.min(bytes.len() - 8)];
+    let said = says(table, store, bytes, content);
+    Heard {
+        table: said.table,
+        next: pass(said.tells, content, left, size, bytes.len()),
+    }
 }
 
 // Passes the events of a record, or finds the one that is asked for among them. x is the record's content; the record
@@ -118,8 +115,11 @@ fn pass(tells: Tells, x: &[u8], left: usize, size: usize, all: usize) -> Next
         }
         Tells::Bytes { id, stream } => {
             if left < x.len() {
-                let byte = x[left];
-                return Next::Answer(Answer::Byte { id, stream, byte });
+                return Next::Answer(Answer::Byte {
+                    id,
+                    stream,
+                    byte: x[left],
+                });
             }
             next_record(left - x.len(), size, all)
         }

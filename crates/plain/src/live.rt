@@ -2,7 +2,7 @@
 // by value and its list as a slice. n is the content length in the header, x the content, or as much as there is.
 ghost use Rattle.std.specs.Prelude.{◌≡◌, true, List, ℕ, ◌≤◌, length};
 ghost use Rattle.connection.specs.Codes.{event_of, fault_cause, stream_type};
-ghost use Rattle.stated_length.specs.Stated.{stated_in, stated_by};
+ghost use Rattle.stated_length.specs.Stated.{stated_in};
 ghost use Rattle.plain.specs.Plain.{on_live, is_stream, on_stream, on_params, params_end, on_body, length_name};
 ghost use Rattle.plain.specs.Plain.{against as measured, fault as faulted, abort as aborted};
 ghost use Rattle.plain.specs.Plain.{ends as ended, next_turn};
@@ -13,7 +13,8 @@ use crate::table::{ABORT, AREA, BEGIN, DATA, Entry, PARAMS, STDIN, Tells};
 use connection::event::{Event, Fault, Measure, Stream};
 use pair_list::{Ending, list_ending};
 use pair_repeats::list_repeats;
-use stated_length::{Stated, stated_in};
+use stated_length::stated_in;
+use std::cmp::Ordering;
 
 // The entry after a record, by how many bytes of the content its list grows, and what the record tells.
 #[derive(Clone, Copy)]
@@ -65,9 +66,8 @@ fn on_params(e: Entry, list: &[u8], n: u16, x: &[u8]) -> Change
     if n == 0 {
         return params_end(e, list);
     }
-    let mut after = e;
-    after.length = (list.len() + x.len()) as u16;
-    changed(after, x.len(), Tells::Nothing)
+    let length = (list.len() + x.len()) as u16;
+    changed(Entry { length, ..e }, x.len(), Tells::Nothing)
 }
 
 // PARAMS end: the list is malformed, or else a name comes twice in it, or else it is ready.
@@ -76,17 +76,20 @@ fn params_end(e: Entry, list: &[u8]) -> Change
     ensures { (x : List ℕ) → Becomes e list.now x result
         (params_end (request_of e list.now)) }
 {
-    let ending = list_ending(list);
-    let Ending::Malformed(place) = ending else {
-        if list_repeats(list) {
-            return fault(e, Fault::Repeated);
-        }
-        let id = e.id;
-        let length = e.length;
-        return ends(e, Event::Ready { id, length });
-    };
-    let at = place as u16;
-    fault(e, Fault::Malformed { at })
+    if let Ending::Malformed(place) = list_ending(list) {
+        let at = place as u16;
+        return fault(e, Fault::Malformed { at });
+    }
+    if list_repeats(list) {
+        return fault(e, Fault::Repeated);
+    }
+    ends(
+        e,
+        Event::Ready {
+            id: e.id,
+            length: e.length,
+        },
+    )
 }
 
 // Rule 9: STDIN or DATA in its turn.
@@ -107,14 +110,13 @@ fn on_body(e: Entry, list: &[u8], stream: Stream, n: u16, x: &[u8]) -> Change
             },
         );
     }
-    let mut after = e;
-    after.shown = e.shown + x.len();
-    changed(after, 0, Tells::Bytes { id, stream })
+    let shown = e.shown + x.len();
+    changed(Entry { shown, ..e }, 0, Tells::Bytes { id, stream })
 }
 
 // The length that the list states for a stream.
-fn stated_for(list: &[u8], stream: Stream) -> Stated
-    ensures { stated_by result ≡ stated_in list.now (length_name (stream_type stream)) }
+fn stated_for(list: &[u8], stream: Stream) -> Option<u32>
+    ensures { result ≡ stated_in list.now (length_name (stream_type stream)) }
 {
     match stream {
         Stream::Stdin => stated_in(list, b"CONTENT_LENGTH"),
@@ -123,40 +125,39 @@ fn stated_for(list: &[u8], stream: Stream) -> Stated
 }
 
 // What was shown against that length.
-fn against(shown: usize, stated: Stated) -> Measure
-    ensures { result ≡ measured shown (stated_by stated) }
+#[tactic(auto, unfolding(crate::specs::Plain::against))]
+fn against(shown: usize, stated: Option<u32>) -> Measure
+    ensures { result ≡ measured shown stated }
 {
-    let Stated::Length(length) = stated else {
+    let Some(length) = stated else {
         return Measure::Unstated;
     };
-    let n = length as usize;
-    if shown == n {
-        return Measure::Exact;
+    match shown.cmp(&(length as usize)) {
+        Ordering::Less => Measure::Short,
+        Ordering::Equal => Measure::Exact,
+        Ordering::Greater => Measure::Over,
     }
-    if shown < n {
-        return Measure::Short;
-    }
-    Measure::Over
 }
 
 // A fault spends the request, and its parameters and counts are lost.
-fn fault(e: Entry, f: Fault) -> Change
+fn fault(e: Entry, fault: Fault) -> Change
     ensures { (list x : List ℕ) → Live e list → Becomes e list x result
-        (faulted (request_of e list) (fault_cause f)) }
+        (faulted (request_of e list) (fault_cause fault)) }
 {
-    let mut after = e;
-    after.spent = true;
-    after.length = 0;
-    after.shown = 0;
-    changed(after, 0, Tells::Event(Event::Fault { id: e.id, fault: f }))
+    let after = Entry {
+        spent: true,
+        length: 0,
+        shown: 0,
+        ..e
+    };
+    changed(after, 0, Tells::Event(Event::Fault { id: e.id, fault }))
 }
 
 // An abort spends it, and nothing is lost.
 fn abort(e: Entry) -> Change
     ensures { (list x : List ℕ) → Live e list → Becomes e list x result (aborted (request_of e list)) }
 {
-    let mut after = e;
-    after.spent = true;
+    let after = Entry { spent: true, ..e };
     changed(after, 0, Tells::Event(Event::Abort { id: e.id }))
 }
 
@@ -165,13 +166,20 @@ fn ends(e: Entry, event: Event) -> Change
     ensures { (list x : List ℕ) → Live e list → Becomes e list x result
         (ended (request_of e list) (event_of event)) }
 {
-    let mut after = e;
-    after.turn = next_turn(e.role, e.turn);
-    after.shown = 0;
-    changed(after, 0, Tells::Event(event))
+    let turn = next_turn(e.role, e.turn);
+    changed(
+        Entry {
+            turn,
+            shown: 0,
+            ..e
+        },
+        0,
+        Tells::Event(event),
+    )
 }
 
 // After PARAMS comes STDIN, but not for an authorizer (role 2); after STDIN comes DATA for a filter (role 3) alone.
+#[tactic(auto, unfolding(crate::specs::Plain::next_turn))]
 fn next_turn(role: u16, turn: u8) -> u8
     ensures { result ≡ next_turn role turn }
 {

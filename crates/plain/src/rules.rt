@@ -14,7 +14,7 @@ use crate::table::{
 };
 use connection::event::{Close, Event, Status};
 use connection::request::Role;
-use pair_list::{Ending, Found, first_named, list_ending};
+use pair_list::{Ending, first_named, list_ending};
 use wire::{copy_into, number_of_two};
 
 // A record by its header, which is the first eight of these bytes.
@@ -42,6 +42,7 @@ pub fn says(table: Table, store: &mut [u8], header: &[u8], x: &[u8]) -> Said
 }
 
 // ---- rules 2 and 3: id 0
+#[tactic(auto, unfolding(crate::specs::Plain::on_management))]
 fn on_management(kind: u8, n: u16, x: &[u8]) -> Tells
     requires { length x.now ≤ n }
     ensures { (rs : List Request) → said_by result rs x.now ≡ on_management rs kind n x.now }
@@ -63,36 +64,29 @@ fn on_query(n: u16, x: &[u8]) -> Tells
     if x.len() < n as usize {
         return Tells::Nothing;
     }
-    let ending = list_ending(x);
-    let Ending::Malformed(place) = ending else {
-        return Tells::Event(query(x));
-    };
-    let at = place as u16;
-    Tells::Close(Close::QueryMalformed { at })
+    if let Ending::Malformed(place) = list_ending(x) {
+        let at = place as u16;
+        return Tells::Close(Close::QueryMalformed { at });
+    }
+    Tells::Event(query(x))
 }
 
 // Which variables it names.
+#[tactic(auto, unfolding(crate::specs::Plain::query))]
 fn query(x: &[u8]) -> Event
     ensures { event_of result ≡ query_of x.now }
 {
-    let max_conns = has_name(x, b"FCGI_MAX_CONNS");
-    let max_reqs = has_name(x, b"FCGI_MAX_REQS");
-    let mpxs_conns = has_name(x, b"FCGI_MPXS_CONNS");
     Event::Query {
-        max_conns,
-        max_reqs,
-        mpxs_conns,
+        max_conns: has_name(x, b"FCGI_MAX_CONNS"),
+        max_reqs: has_name(x, b"FCGI_MAX_REQS"),
+        mpxs_conns: has_name(x, b"FCGI_MPXS_CONNS"),
     }
 }
 
 fn has_name(list: &[u8], name: &[u8]) -> bool
     ensures { result ≡ is_named (first_named list.now name.now) }
 {
-    let found = first_named(list, name);
-    match found {
-        Found::At(_) => true,
-        Found::Nothing => false,
-    }
+    first_named(list, name).is_some()
 }
 
 // ---- rule 4: an id that is not active
@@ -162,14 +156,12 @@ fn on_active(table: Table, store: &mut [u8], i: usize, kind: u8, n: u16, x: &[u8
     }
     let start = i * AREA;
     let end = start + e.length as usize;
-    let c = on_live(e, &store[start..end], kind, n, x);
-    let from: usize = 0;
-    let kept = c.kept;
-    copy_into(store, end, &x[from..kept]);
-    let new = c.after;
-    let tells = c.tells;
-    let count = table.count;
-    comes_to(with_entry(table, i, new, count), tells)
+    let change = on_live(e, &store[start..end], kind, n, x);
+    copy_into(store, end, &x[..change.kept]);
+    comes_to(
+        with_entry(table, i, change.after, table.count),
+        change.tells,
+    )
 }
 
 fn comes_to(table: Table, tells: Tells) -> Said

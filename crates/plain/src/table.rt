@@ -79,9 +79,10 @@ pub fn new_entry(id: u16, role: u16) -> Entry
 pub fn empty_table() -> Table
     ensures { result ≡ empty_table }
 {
-    let any = new_entry(0, 0);
-    let entries = [any; ENTRIES];
-    Table { entries, count: 0 }
+    Table {
+        entries: [new_entry(0, 0); ENTRIES],
+        count: 0,
+    }
 }
 
 // The place of the first entry with that id; past the last where none has it.
@@ -89,16 +90,12 @@ pub fn place_of(table: Table, id: u16) -> usize
     requires { table.count ≤ 16 }
     ensures { (store : List ℕ) → result ≡ place_of (requests_of table store) id }
 {
-    let count = table.count;
-    let mut i: usize = 0;
-    while i < count {
-        let e = table.entries[i];
-        if e.id == id {
+    for i in 0..table.count {
+        if table.entries[i].id == id {
             return i;
         }
-        i += 1;
     }
-    i
+    table.count
 }
 
 // The table with that entry in place i, and so many entries taken.

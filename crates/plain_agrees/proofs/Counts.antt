@@ -1,9 +1,8 @@
 -- The two counts of what was shown. The plain receiver counts the bytes of the stream whose turn it is, and its count
 -- has no largest number; the stepping one keeps a count for STDIN and one for DATA, and each stays at MOST. No list
 -- can state as much as MOST, so both measure the same.
-use Rattle.std.specs.Prelude.{ℕ, ◌+◌, ◌≤◌, ◌<◌, ◌≡◌, refl, false, List, ltb, eqb}
+use Rattle.std.specs.Prelude.{ℕ, ◌+◌, ◌≤◌, ◌<◌, ◌≡◌, refl, false, List, ltb, eqb, Some, None, Option}
 use Rattle.std.proofs.Common.{sym, ap, ◌∙◌, arith, lt-ltb, le-ltb, ltb-true, ltb-false, eqb-true, ne_eqb}
-use Rattle.std.proofs.Math.Option.{Option, none, some}
 use Rattle.std.proofs.lemmas.Bool.{eqb-false}
 use Rattle.wire.specs.Test.{by_test}
 use Rattle.stated_length.specs.Stated.{LARGEST, stated_in}
@@ -48,7 +47,7 @@ unfolding counted
 counted_high n l = simp (le-ltb (0 + n) MOST (omega arith))
 
 -- the same tests in another order
-same_tests : (n m : ℕ) → measured n (some m) ≡ against n (some m)
+same_tests : (n m : ℕ) → measured n (Some m) ≡ against n (Some m)
 unfolding measured against
 same_tests n m =
     by_test (ltb n m)
@@ -64,7 +63,7 @@ same_tests n m =
         (λ w. absurd (eqb-false n m e (omega (arith, ltb-false n m t, ltb-false m n w))))
 
 -- Both are over what any list can state.
-both_over : (n m : ℕ) → MOST ≤ n → m ≤ LARGEST → measured MOST (some m) ≡ against n (some m)
+both_over : (n m : ℕ) → MOST ≤ n → m ≤ LARGEST → measured MOST (Some m) ≡ against n (Some m)
 unfolding measured against
 both_over n m l h =
     simp (
@@ -81,10 +80,10 @@ unfolding measured against
 same_measure n list name = go (stated_in list name) refl
   where
     go : (o : Option ℕ) → stated_in list name ≡ o → measured (counted 0 n) o ≡ against n o
-    go none e = refl
-    go (some m) e =
+    go None e = refl
+    go (Some m) e =
         by_test (ltb n MOST)
-        (λ t. ap (λ (k : ℕ). measured k (some m)) (counted_low n (ltb-true n MOST t)) ∙ same_tests n m)
+        (λ t. ap (λ (k : ℕ). measured k (Some m)) (counted_low n (ltb-true n MOST t)) ∙ same_tests n m)
         (λ t.
         let l = ltb-false n MOST t in
-        ap (λ (k : ℕ). measured k (some m)) (counted_high n l) ∙ both_over n m l (stated_largest list name m e))
+        ap (λ (k : ℕ). measured k (Some m)) (counted_high n l) ∙ both_over n m l (stated_largest list name m e))

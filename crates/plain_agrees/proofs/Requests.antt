@@ -1,6 +1,7 @@
 -- The requests of the plain receiver beside the table and the store of the stepping one: as long as nothing is
 -- finished, the request in place i of the list is the one in slot i.
-use Rattle.std.specs.Prelude.{ℕ, zero, suc, ◌+◌, ◌≤◌, ◌<◌, ◌%◌, ◌/◌, ◌≡◌, refl, Bool, true, false, List, [], ◌∷◌, ◌++◌, length, get_or, set, ltb, eqb, if◌then◌else◌}
+use Rattle.connection.specs.Slots.{Slot}
+use Rattle.std.specs.Prelude.{ℕ, zero, suc, ◌+◌, ◌≤◌, ◌<◌, ◌%◌, ◌/◌, ◌≡◌, refl, Bool, true, false, List, [], ◌∷◌, ◌++◌, length, get_or, set, ltb, eqb, if◌then◌else◌, Some, None}
 use Rattle.std.proofs.Common.{sym, ap, ◌∙◌, arith, length-append, length-set, get_or-set_same, get_or-set_other, lt-ltb, le-ltb, ltb-true, ltb-false, eqb-true}
 use Rattle.std.proofs.Math.ListN.{get_or-append}
 use Rattle.std.proofs.lemmas.List.{get_or_at}
@@ -9,7 +10,6 @@ use Rattle.wire.specs.Test.{by_test, ◌<?◌, ◌=?◌}
 use Rattle.slot_word.specs.Word.{taken, lowest_free}
 use Rattle.slot_word.proofs.WordLaws.{least_free, least_below}
 use Rattle.connection.specs.declared.state.Table.{Table}
-use Rattle.connection.specs.declared.state.Slot.{Slot}
 use Rattle.connection.specs.declared.request.Request.{Request}
 use Rattle.connection.specs.Sizes.{SLOTS, AREA, STORE}
 use Rattle.connection.specs.Codes.{role_number}
@@ -41,10 +41,10 @@ pub record SameRequests (rs : List PlainRequest) (t : Table) (store : List ℕ) 
 
 -- ---- the place of an id
 abbrev slot_from : ℕ → List PlainRequest → ℕ → Slot
-slot_from i rs id = if place_of rs id <? length rs then Slot.At (i + place_of rs id) else Slot.Nowhere
+slot_from i rs id = if place_of rs id <? length rs then Some (i + place_of rs id) else None
 
 slot_if : (b b' : Bool) (m n : ℕ) → b ≡ b' → m ≡ n
-    → ◌≡◌ {A = Slot} (if b then Slot.At m else Slot.Nowhere) (if b' then Slot.At n else Slot.Nowhere)
+    → ◌≡◌ {A = Slot} (if b then Some m else None) (if b' then Some n else None)
 slot_if b b' m n p q = rw (p, q)
 
 ltb_suc : (m n : ℕ) → ltb m n ≡ ltb (suc m) (suc n)
@@ -54,14 +54,14 @@ ltb_suc m n =
     (λ e. e ∙ sym (le-ltb (suc m) (suc n) (omega (arith, ltb-false m n e))))
 
 slot_next : (i : ℕ) (r : PlainRequest) (rs : List PlainRequest) (id : ℕ)
-    → slot_from i (r ∷ rs) id ≡ (if r.id =? id then Slot.At i else slot_from (i + 1) rs id)
+    → slot_from i (r ∷ rs) id ≡ (if r.id =? id then Some i else slot_from (i + 1) rs id)
 unfolding place_of
 slot_next i r rs id =
     by_test (eqb r.id id)
     (λ e.
     let z : i + 0 ≡ i = omega arith in
     let l = lt-ltb 0 (suc (length rs)) (omega arith) in
-    simp (e, l) (ap Slot.At z))
+    simp (e, l) (ap Some z))
     (λ e. simp e (slot_if _ _ _ _ (sym (ltb_suc (place_of rs id) (length rs))) (omega arith)))
 
 find_from_lem : (n i id : ℕ) (rs : List PlainRequest) (ids : List ℕ) (o : ℕ) → length rs ≤ n
@@ -93,7 +93,7 @@ find_from_lem (suc n) i id (r ∷ rs) ids o few used free =
     (λ j l m.
     let y : i + 1 + j ≡ i + suc j = omega arith in
     ap (λ k. taken k o) y ∙ free (suc j) (omega arith) (omega arith)) in
-    simp (f, g) (ap (λ s. if eqb r.id id then Slot.At i else s) ih) ∙ sym (slot_next i r rs id)
+    simp (f, g) (ap (λ s. if eqb r.id id then Some i else s) ih) ∙ sym (slot_next i r rs id)
 
 id_of_slot : (t : Table) (i : ℕ) → (request_at t i).id ≡ get_or t.ids i 0
 unfolding request_at
@@ -101,7 +101,7 @@ id_of_slot t i = refl
 
 -- An id has the same place in both.
 pub find_place : (rs : List PlainRequest) (t : Table) (store : List ℕ) (id : ℕ) → SameRequests rs t store
-    → find t id ≡ (if place_of rs id <? length rs then Slot.At (place_of rs id) else Slot.Nowhere)
+    → find t id ≡ (if place_of rs id <? length rs then Some (place_of rs id) else None)
 find_place rs t store id a =
     find_from_lem SLOTS 0 id rs t.ids t.occupied a.few
     (λ j l.
@@ -110,7 +110,7 @@ find_place rs t store id a =
     (ap (λ k. taken k t.occupied) z ∙ a.used j l, n))
     (λ j l m. let z : 0 + j ≡ j = omega arith in ap (λ k. taken k t.occupied) z ∙ a.free j l m)
     ∙ (let z : 0 + place_of rs id ≡ place_of rs id = omega arith in
-    ap (λ k. if place_of rs id <? length rs then Slot.At k else Slot.Nowhere) z)
+    ap (λ k. if place_of rs id <? length rs then Some k else None) z)
 
 -- ---- the lowest free slot
 least_le : (k o : ℕ) → lowest_free k o ≤ k

@@ -1,16 +1,16 @@
 -- What the calls with a queue answer, read in the rules' numbers and values.
-use Rattle.std.specs.Prelude.{ℕ, Bool, true, false, List}
+use Rattle.std.specs.Prelude.{ℕ, Bool, true, false, List, Ok, Err, Result, ⊤}
 use Rattle.connection.specs.Codes.{refusal_number}
-use Rattle.queue.specs.declared.answer.Queued.{Queued}
 use Rattle.queue.specs.declared.answer.Queueing.{Queueing as QueueCall}
 use Rattle.queue.specs.declared.answer.PumpResult.{PumpResult}
 use Rattle.queue.specs.declared.answer.Pumped.{Pumped as PumpCall}
 use Rattle.queue.specs.Calls.{lent, Queueing, Pumped}
+use Rattle.connection.specs.declared.answer.Refusal.{Refusal}
 
 -- the refusal of a queued call, 0 for none
-abbrev pub queued_number : Queued → ℕ
-queued_number Queued.Waits = 0
-queued_number (Queued.Refused why) = refusal_number why
+abbrev pub queued_number : Result ⊤ Refusal → ℕ
+queued_number (Ok tt) = 0
+queued_number (Err why) = refusal_number why
 
 -- a queued call, with what is lent as it left it
 abbrev pub queued_by : QueueCall → List ℕ → List ℕ → List ℕ → List ℕ → List ℕ → Queueing

@@ -2,16 +2,9 @@
 use connection::answer::Refusal;
 use connection::state::Conn;
 
-// What was said waits, or why the call is refused.
-#[derive(Clone, Copy)]
-pub enum Queued {
-    Waits,
-    Refused(Refusal),
-}
-
 #[derive(Clone, Copy)]
 pub struct Queueing {
-    pub result: Queued,
+    pub result: Result<(), Refusal>,
     pub conn: Conn,
 }
 

@@ -1,6 +1,6 @@
 -- What the admission of a call with a queue says of its refusal: of a call that is let through, the slot, and that its
 -- own rows decide; of a refused one, the row.
-use Rattle.std.specs.Prelude.{ℕ, zero, suc, ◌+◌, ◌≤◌, ◌<◌, Bool, false, not, List, ◌∷◌, length, if◌then◌else◌}
+use Rattle.std.specs.Prelude.{ℕ, zero, suc, ◌+◌, ◌≤◌, ◌<◌, Bool, false, not, List, ◌∷◌, length, if◌then◌else◌, Some, Ok, Err}
 use Rattle.std.proofs.Math.Path.{◌≡◌, sym, ap}
 use Rattle.std.proofs.Common.{◌∙◌, arith, leb-true, eqb-true, eq-eqb}
 use Rattle.std.proofs.Math.Bool.{true}
@@ -8,7 +8,6 @@ use Rattle.std.proofs.lemmas.Bool.{eqb-false}
 use Rattle.wire.specs.Test.{◌≤?◌, ◌=?◌, by_test}
 use Rattle.slot_word.specs.Word.{taken}
 use Rattle.connection.specs.declared.answer.Refusal.{Refusal}
-use Rattle.connection.specs.declared.state.Slot.{Slot}
 use Rattle.connection.specs.Sizes.{SLOTS, STORE}
 use Rattle.connection.specs.Codes.{refusal_number}
 use Rattle.connection.specs.Refusal.{Row, ◌when◌, holds_in, refusal}
@@ -18,7 +17,6 @@ use Rattle.connection.specs.Calls as C
 use Rattle.connection.proofs.Laws.SlotsLaws.{find_at, found_true}
 use Rattle.connection.proofs.Laws.ShapeLaws.{and_true}
 use Rattle.codes.proofs.Laws.{refusal_some}
-use Rattle.call_admit.specs.declared.Admitted.{Admitted}
 use Rattle.call_admit.specs.Admission.{Admission, admitted_by, call_admission}
 use Rattle.call_admit.proofs.AdmissionLaws.{let_through, refused_by_lem}
 use Rattle.queue_slot.specs.Wait.{ROOM, some_waits}
@@ -67,7 +65,7 @@ fits_count waits occupied i e low =
 pub record Through (m : QueueMemory) (id i : ℕ) : Type 0 where
   pub shape : queue_in_shape m ≡ true
   pub is_open : (conn_of m).«open» ≡ true
-  pub found : find (conn_of m).table id ≡ Slot.At i
+  pub found : find (conn_of m).table id ≡ Some i
   pub slot : slot_of m id ≡ i
   pub low : i < SLOTS
   pub few : count_at m.waits i ≤ ROOM
@@ -92,7 +90,7 @@ module _ (m : QueueMemory) (id : ℕ) where
       (λ s. simp (fits, own, s) (simp s at e))
 
   -- The row of a call that is refused by 9, 1 or 3, whatever its other rows are, if row 2 is not among them.
-  pub refused_by_row : (why : Refusal) (rows : List Row) → admitted_by (Admitted.Refused why) ≡ queue_admission (conn_of m) m.waits id
+  pub refused_by_row : (why : Refusal) (rows : List Row) → admitted_by (Err why) ≡ queue_admission (conn_of m) m.waits id
       → holds_in 2 rows ≡ false → refusal (rows_of m id rows) ≡ refusal_number why
   unfolding queue_admission call_admission queue_in_shape
   refused_by_row why rows e own =
@@ -104,7 +102,7 @@ module _ (m : QueueMemory) (id : ℕ) where
       by_test (in_shape c) (λ s. simp (own, s, fits) n) (λ s. simp (own, s) n))
 
   -- A call that is let through has its slot.
-  pub through_at : (i : ℕ) → admitted_by (Admitted.At i) ≡ queue_admission (conn_of m) m.waits id → Through m id i
+  pub through_at : (i : ℕ) → admitted_by (Ok i) ≡ queue_admission (conn_of m) m.waits id → Through m id i
   unfolding queue_admission call_admission queue_in_shape C.call_refusal
   through_at i e =
       let c = conn_of m in
@@ -121,16 +119,16 @@ module _ (m : QueueMemory) (id : ℕ) where
       (λ fits. let z : ◌≡◌ {A = ℕ} 0 9 = ap (λ (a : Admission). a.refusal) (simp fits at e) in absurd (omega arith))
     where
       facts : waits_fit SLOTS m.waits (conn_of m).table.occupied 0 ≡ true → in_shape (conn_of m) ≡ true → (conn_of m).«open» ≡ true
-          → (j : ℕ) × (find (conn_of m).table id ≡ Slot.At j) → i ≡ C.slot_of (conn_of m) id → Through m id i
+          → (j : ℕ) × (find (conn_of m).table id ≡ Some j) → i ≡ C.slot_of (conn_of m) id → Through m id i
       facts fits s o f e =
           let slot : slot_of m id ≡ f.0 = rw f.1 in
-          let found : find (conn_of m).table id ≡ Slot.At i = f.1 ∙ ap Slot.At (sym (e ∙ slot)) in
+          let found : find (conn_of m).table id ≡ Some i = f.1 ∙ ap Some (sym (e ∙ slot)) in
           let low : i < SLOTS = (find_at (conn_of m).table id i found).low in
           record { shape = simp (s, fits); is_open = o; found = found; slot = sym e; low = low; few = fits_count m.waits (conn_of m).table.occupied i fits low }
 
   -- ---- the same of a call that is lent the store
   -- refused by 2, 9, 1 or 3
-  pub lent_refused_by_row : (why : Refusal) (rows : List Row) → admitted_by (Admitted.Refused why) ≡ queue_lent_admission (conn_of m) m.waits m.memory.store id
+  pub lent_refused_by_row : (why : Refusal) (rows : List Row) → admitted_by (Err why) ≡ queue_lent_admission (conn_of m) m.waits m.memory.store id
       → holds_in 2 rows ≡ false → refusal ((2 when not (length m.memory.store =? STORE)) ∷ rows_of m id rows) ≡ refusal_number why
   unfolding queue_lent_admission
   lent_refused_by_row why rows e own =
@@ -140,7 +138,7 @@ module _ (m : QueueMemory) (id : ℕ) where
       size_refuses (not (length m.memory.store =? STORE)) (rows_of m id rows) (simp t) ∙ ap (λ (a : Admission). a.refusal) (sym (simp t at e)))
 
   -- let through: the store has its size, too
-  pub lent_through_at : (i : ℕ) → admitted_by (Admitted.At i) ≡ queue_lent_admission (conn_of m) m.waits m.memory.store id
+  pub lent_through_at : (i : ℕ) → admitted_by (Ok i) ≡ queue_lent_admission (conn_of m) m.waits m.memory.store id
       → (length m.memory.store ≡ STORE) × Through m id i
   unfolding queue_lent_admission
   lent_through_at i e =

@@ -1,12 +1,11 @@
 -- Every move of a station with a queue is heard as it was meant, and keeps what the two ends have in common.
-use Rattle.std.specs.Prelude.{ℕ, ◌<◌, ◌≡◌, true, false, List, [], eqb}
+use Rattle.std.specs.Prelude.{ℕ, ◌<◌, ◌≡◌, true, false, List, [], eqb, Some}
 use Rattle.std.proofs.Math.Path.{refl}
 use Rattle.std.proofs.Common.{sym, ap, ◌∙◌, subst, eqb-true}
 use Rattle.wire.specs.Test.{by_test}
 use Rattle.wire.proofs.Bytes.{AllBytes}
 use Rattle.connection.specs.declared.answer.Output.{Output}
 use Rattle.slot_word.specs.Word.{taken}
-use Rattle.connection.specs.declared.state.Slot.{Slot}
 use Rattle.connection.specs.declared.state.Table.{Table}
 use Rattle.connection.specs.Event.{Event as StationEvent}
 use Rattle.connection.specs.Sizes.{SLOTS}
@@ -53,7 +52,7 @@ module _ (m : QueueMemory) (t : Table) (v : List ℕ) (fine : Fine m) (nothing :
 
   -- ---- straight calls
   -- Where nothing waits of the request that is called, a call is heard as it is without a queue.
-  by_call : (id : ℕ) → id < 65536 → (n : Memory) (bytes : List ℕ) (l : List Note) → ((i : ℕ) → find s id ≡ Slot.At i → atoms_in (wait_at m i) ≡ []) → KeepsNothing (with_memory m n)
+  by_call : (id : ℕ) → id < 65536 → (n : Memory) (bytes : List ℕ) (l : List Note) → ((i : ℕ) → find s id ≡ Some i → atoms_in (wait_at m i) ≡ []) → KeepsNothing (with_memory m n)
       → CallHeard id s t v bytes l n.state.conn.table → OperationHeard m t v bytes l (with_memory m n)
   by_call id hi n bytes l quiet none k =
       record {
@@ -66,10 +65,10 @@ module _ (m : QueueMemory) (t : Table) (v : List ℕ) (fine : Fine m) (nothing :
       }
 
   -- nothing waits in the slot of an id, so nothing waits of it, and it is open at the server's end as it is here
-  quiet_at : (id : ℕ) → anything (wait_at m (T.slot_of m id)) ≡ false → (i : ℕ) → find s id ≡ Slot.At i → atoms_in (wait_at m i) ≡ []
+  quiet_at : (id : ℕ) → anything (wait_at m (T.slot_of m id)) ≡ false → (i : ℕ) → find s id ≡ Some i → atoms_in (wait_at m i) ≡ []
   quiet_at id e i found = nothing_waits (wait_at m i) (ap (λ (j : ℕ). anything (wait_at m j)) (sym (slot_found (conn_of m) id i found)) ∙ e)
 
-  mine_at : (id : ℕ) → anything (wait_at m (T.slot_of m id)) ≡ false → (i : ℕ) → find s id ≡ Slot.At i → OpenWith t id (request_at s i).state
+  mine_at : (id : ℕ) → anything (wait_at m (T.slot_of m id)) ≡ false → (i : ℕ) → find s id ≡ Some i → OpenWith t id (request_at s i).state
   mine_at id e i found = sends_silent t id (wait_at m i) (request_at s i).state (quiet_at id e i found) (a id i found)
 
   none_called : (id : ℕ) (x : Asking) → KeepsNothing (queue_called m id x).left

@@ -1,5 +1,5 @@
 -- A turn of the pump is heard as it was meant, record by record.
-use Rattle.std.specs.Prelude.{ℕ, zero, suc, ◌≤◌, ◌<◌, ◌≡◌, Bool, true, false, length, take, get_or, eqb}
+use Rattle.std.specs.Prelude.{ℕ, zero, suc, ◌≤◌, ◌<◌, ◌≡◌, Bool, true, false, length, take, get_or, eqb, Some}
 use Rattle.std.proofs.Math.Path.{refl}
 use Rattle.std.proofs.Common.{sym, ap, ◌∙◌, subst, arith, drop_of_length-le, take_all}
 use mathlib.Core.List.{List, [], ◌∷◌, ◌++◌, flatten, append-nil}
@@ -14,7 +14,6 @@ use Rattle.machine_queue.specs.Pump.{next_waiting}
 use Rattle.machine_queue.proofs.Pumping.{waiting_below}
 use Rattle.connection.specs.declared.answer.Output.{Output}
 use Rattle.connection.specs.declared.request.Request.{Request}
-use Rattle.connection.specs.declared.state.Slot.{Slot}
 use Rattle.connection.specs.declared.state.Table.{Table}
 use Rattle.connection.specs.Sizes.{SLOTS, CHUNK}
 use Rattle.connection.specs.Codes.{output_type}
@@ -75,7 +74,7 @@ both_heard m k n t v x y l p f g =
     }
 
 -- ---- data in one record
-data_heard : (t : Table) (v : List ℕ) → Ready (idle t true v) 0 → (id j : ℕ) → find t id ≡ Slot.At j → id < 65536 → (o : Output) → is_ended o (request_at t j).state ≡ false
+data_heard : (t : Table) (v : List ℕ) → Ready (idle t true v) 0 → (id j : ℕ) → find t id ≡ Some j → id < 65536 → (o : Output) → is_ended o (request_at t j).state ≡ false
     → (x : List ℕ) → 0 < length x → length x ≤ CHUNK → Heard t v (record_bytes (output_type o) id x) t v (showing id (output_type o) x)
 data_heard t v ready id j found hi o live x more small =
     let k = output_type o in
@@ -111,7 +110,7 @@ unfolding C.released
 freed_table m i = refl
 
 -- ---- one record of slot i
-module _ (m : QueueMemory) (fine : Fine m) (is_open : (conn_of m).«open» ≡ true) (id i : ℕ) (found : find (conn_of m).table id ≡ Slot.At i) (t : Table) (v : List ℕ) (ready : Ready (idle t true v) 0) (a : QueueAgree m t) where
+module _ (m : QueueMemory) (fine : Fine m) (is_open : (conn_of m).«open» ≡ true) (id i : ℕ) (found : find (conn_of m).table id ≡ Some i) (t : Table) (v : List ℕ) (ready : Ready (idle t true v) 0) (a : QueueAgree m t) where
   abbrev s : Table
   s = (conn_of m).table
 

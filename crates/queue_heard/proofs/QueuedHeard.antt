@@ -1,5 +1,5 @@
 -- Of a queued call nothing is written, and the two ends agree as before: what comes to wait goes behind what waits.
-use Rattle.std.specs.Prelude.{ℕ, ◌<◌, ◌≡◌, Bool, true, false, eqb}
+use Rattle.std.specs.Prelude.{ℕ, ◌<◌, ◌≡◌, Bool, true, false, eqb, Some}
 use Rattle.std.proofs.Math.Path.{refl, ap, subst}
 use Rattle.std.proofs.Common.{sym, ◌∙◌, arith}
 use mathlib.Core.List.{List, [], ◌∷◌, ◌++◌, map}
@@ -10,7 +10,6 @@ use Rattle.connection.specs.declared.answer.Output.{Output}
 use Rattle.connection.specs.declared.request.RequestState.{RequestState}
 use Rattle.connection.specs.declared.request.Request.{Request}
 use Rattle.connection.specs.declared.state.Conn.{Conn}
-use Rattle.connection.specs.declared.state.Slot.{Slot}
 use Rattle.connection.specs.declared.state.Table.{Table}
 use Rattle.connection.specs.Refusal.{refusal}
 use Rattle.connection.specs.Slots.{request_at, find}
@@ -54,7 +53,7 @@ unfolding wait_at
 conn_wait m c j = refl
 
 -- ---- a request put back, and what waits of it
-module _ (m : QueueMemory) (t : Table) (id i : ℕ) (found : find (conn_of m).table id ≡ Slot.At i) (roomy : Roomy m) (sized : S.Sized (conn_of m).table) (a : QueueAgree m t) where
+module _ (m : QueueMemory) (t : Table) (id i : ℕ) (found : find (conn_of m).table id ≡ Some i) (roomy : Roomy m) (sized : S.Sized (conn_of m).table) (a : QueueAgree m t) where
   abbrev s : Table
   s = (conn_of m).table
 

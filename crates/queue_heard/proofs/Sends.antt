@@ -1,14 +1,13 @@
 -- What a station with a queue and the server's end have in common: each request that is active at the station is open at
 -- the server's end, and what waits of it leads from the ended streams there to those of the station. How changes of
 -- either end keep that.
-use Rattle.std.specs.Prelude.{ℕ, ◌<◌, ◌≡◌, refl, true, [], eqb}
+use Rattle.std.specs.Prelude.{ℕ, ◌<◌, ◌≡◌, refl, true, [], eqb, Some}
 use Rattle.std.proofs.Common.{sym, ap, ◌∙◌, subst, eqb-true}
 use Rattle.std.proofs.lemmas.Bool.{eqb-false}
 use Rattle.wire.specs.Test.{by_test}
 use Rattle.connection.specs.declared.request.RequestState.{RequestState}
 use Rattle.connection.specs.declared.request.Request.{Request}
 use Rattle.connection.specs.declared.state.Conn.{Conn}
-use Rattle.connection.specs.declared.state.Slot.{Slot}
 use Rattle.connection.specs.declared.state.Table.{Table}
 use Rattle.connection.specs.Sizes.{SLOTS}
 use Rattle.connection.specs.Slots.{request_at, put_request, free_slot, no_requests, find}
@@ -61,18 +60,18 @@ sends_silent t id w m e s = open_on_ends t id 0 s.state m (subst (λ l. Flow l s
 
 -- ---- one slot of the station changes
 -- the request of an id in slot i, with what waits there, and the others
-module _ (m n : QueueMemory) (t u : Table) (id i : ℕ) (found : find (conn_of m).table id ≡ Slot.At i) (a : QueueAgree m t) (spares : Spares id t u)
+module _ (m n : QueueMemory) (t u : Table) (id i : ℕ) (found : find (conn_of m).table id ≡ Some i) (a : QueueAgree m t) (spares : Spares id t u)
     (same : (k : ℕ) → k < SLOTS → (k ≡ i → ⊥) → wait_at n k ≡ wait_at m k) where
   abbrev s : Table
   s = (conn_of m).table
 
-  others : (b k : ℕ) → (k ≡ i → ⊥) → find s b ≡ Slot.At k → Sends u b (wait_at n k) (request_at s k).state
+  others : (b k : ℕ) → (k ≡ i → ⊥) → find s b ≡ Some k → Sends u b (wait_at n k) (request_at s k).state
   others b k ne e =
       let low = (find_at s b k e).low in
       subst (λ w. Sends u b w (request_at s k).state) (sym (same k low ne))
       (sends_there t u b (wait_at m k) (request_at s k).state (λ r o. spares b r (λ z. ne (one_slot s b id k i e found z)) o) (a b k e))
 
-  own_of : (r : RequestState) → Sends u id (wait_at n i) r → (b : ℕ) → find s b ≡ Slot.At i → Sends u b (wait_at n i) r
+  own_of : (r : RequestState) → Sends u id (wait_at n i) r → (b : ℕ) → find s b ≡ Some i → Sends u b (wait_at n i) r
   own_of r own b e = subst (λ (c : ℕ). Sends u c (wait_at n i) r) (one_id s id b i i found e refl) own
 
   -- the table stays
@@ -82,7 +81,7 @@ module _ (m n : QueueMemory) (t u : Table) (id i : ℕ) (found : find (conn_of m
       there : Each s (λ b k. Sends u b (wait_at n k))
       there b k f =
           by_test (eqb k i)
-          (λ x. let is : k ≡ i = eqb-true k i x in subst (λ (c : ℕ). Sends u b (wait_at n c) (request_at s c).state) (sym is) (own_of (request_at s i).state own b (f ∙ ap Slot.At is)))
+          (λ x. let is : k ≡ i = eqb-true k i x in subst (λ (c : ℕ). Sends u b (wait_at n c) (request_at s c).state) (sym is) (own_of (request_at s i).state own b (f ∙ ap Some is)))
           (λ x. others b k (eqb-false k i x) f)
 
   -- the request is put back
@@ -110,7 +109,7 @@ with_agree m n u nothing a =
     (λ o. none_agree (with_memory m n) u (ap (λ (c : Conn). c.table) (nothing.connection o)))
 
 -- A straight call of a request of which nothing waits.
-pub call_sends : (m : QueueMemory) (id : ℕ) (t u : Table) {s' : Table} → S.Sized (conn_of m).table → ((i : ℕ) → find (conn_of m).table id ≡ Slot.At i → atoms_in (wait_at m i) ≡ [])
+pub call_sends : (m : QueueMemory) (id : ℕ) (t u : Table) {s' : Table} → S.Sized (conn_of m).table → ((i : ℕ) → find (conn_of m).table id ≡ Some i → atoms_in (wait_at m i) ≡ [])
     → Changes id (conn_of m).table t u s' → QueueAgree m t → Each s' (λ b k. Sends u b (wait_at m k))
 call_sends m id t u sized quiet (Stays e) a = subst (λ (x : Table). QueueAgree m x) (sym e) a
 call_sends m id t u sized quiet (Puts i r found same spares own) a =

@@ -4,7 +4,7 @@
 -- the one without a queue. A queued say or end leaves of state and store what a straight one leaves whose buffer is
 -- just long enough. New is the queued finish: it spends its request and skips the rest of its record, and every
 -- list stays.
-use Rattle.std.specs.Prelude.{◌≡◌, List, ◌⊎◌, Bool, true, ℕ, length, take, set, eqb, if◌then◌else◌}
+use Rattle.std.specs.Prelude.{◌≡◌, List, ◌⊎◌, Bool, true, ℕ, length, take, set, eqb, if◌then◌else◌, Some}
 use Rattle.std.proofs.Math.Path.{refl, ap, sym, subst}
 use Rattle.std.proofs.Common.{ap₂, ◌∙◌, inl, inr, arith}
 use Rattle.std.proofs.Math.Bool.{false}
@@ -18,7 +18,6 @@ use Rattle.machine.proofs.ShapeSlots.{written_or_not, slots_kept, absent_kept}
 use Rattle.connection.specs.declared.request.Due.{Due}
 use Rattle.connection.specs.declared.request.Life.{Life}
 use Rattle.connection.specs.declared.request.Request.{Request}
-use Rattle.connection.specs.declared.state.Slot.{Slot}
 use Rattle.connection.specs.declared.answer.Output.{Output}
 use Rattle.connection.specs.Refusal.{refusal}
 use Rattle.connection.specs.Slots.{request_at, held_at, find}
@@ -163,7 +162,7 @@ slots_of m = loaded_slots m.state.conn.table m.store
 abbrev reading_of : Memory → Reading receiver
 reading_of m = loaded_reading m.state.conn.frame m.state.gathered
 
-module _ (m : Memory) (is_open : m.state.conn.«open» ≡ true) (id i : ℕ) (found : find m.state.conn.table id ≡ Slot.At i) where
+module _ (m : Memory) (is_open : m.state.conn.«open» ≡ true) (id i : ℕ) (found : find m.state.conn.table id ≡ Some i) where
   -- the request of the id
   abbrev own : Held
   own = held_at m.state.conn.table m.store i
@@ -227,7 +226,7 @@ rows_open true early ended a b = both_ways true refl b
 rows_open false early ended a b = (a, b)
 
 -- What a straight call of an active request comes to.
-pub result_found : (m : Memory) (id i : ℕ) (a : Argument) → Steady m → m.state.conn.«open» ≡ true → find m.state.conn.table id ≡ Slot.At i → called m id a ≡ result_at m i a
+pub result_found : (m : Memory) (id i : ℕ) (a : Argument) → Steady m → m.state.conn.«open» ≡ true → find m.state.conn.table id ≡ Some i → called m id a ≡ result_at m i a
 result_found m id i a z o f = found_result m id i a (lent_found m z id i o f) (call_found m z id i o f) (slot_found m.state.conn id i f)
 
 -- ---- every call
@@ -253,7 +252,7 @@ module _ (R : ℕ) where
 
   -- A request put back as a straight call leaves it that writes on a stream.
   stream_holds : (m : Memory) (id i : ℕ) (a : Argument) (o : Output) (bytes : List ℕ) (after : Request) (h : History) → m.state.conn.«open» ≡ true
-      → find m.state.conn.table id ≡ Slot.At i → Of.no_output (request_at m.state.conn.table i) ≡ false → Of.is_ended o (request_at m.state.conn.table i).state ≡ false
+      → find m.state.conn.table id ≡ Some i → Of.no_output (request_at m.state.conn.table i) ≡ false → Of.is_ended o (request_at m.state.conn.table i).state ≡ false
       → (result_at m i a).memory
       ≡ with_request m i (Of.writes (Of.output_refusal (request_at m.state.conn.table i) o bytes bytes) bytes after (request_at m.state.conn.table i) bytes).request
       → change_by R id (called m id a).answer ≡ Keeps → Holds R m h → Holds R (with_request m i after) h

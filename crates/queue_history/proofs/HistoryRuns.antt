@@ -4,7 +4,7 @@
 -- A step is the one without a queue. A record of the pump that is END leaves of state and store what a straight
 -- finish leaves whose buffer is just long enough, and other records leave them as they are. That END of R was
 -- written is read from the bytes of a turn.
-use Rattle.std.specs.Prelude.{◌≡◌, Bool, not, length, get_or, if◌then◌else◌}
+use Rattle.std.specs.Prelude.{◌≡◌, Bool, not, length, get_or, if◌then◌else◌, Some}
 use Rattle.std.proofs.Math.Path.{refl, ap, ap₂, subst}
 use Rattle.std.proofs.Common.{sym, ◌∙◌, arith, eq-eqb, le-ltb}
 use mathlib.Core.List.{List, [], ◌∷◌, ◌++◌, flatten, append-nil}
@@ -21,7 +21,6 @@ use Rattle.machine.specs.Machine.{request_in}
 use Rattle.machine_queue.specs.Pump.{next_waiting}
 use Rattle.machine_queue.proofs.Pumping.{waiting_below}
 use Rattle.connection.specs.declared.request.Request.{Request}
-use Rattle.connection.specs.declared.state.Slot.{Slot}
 use Rattle.connection.specs.Sizes.{SLOTS}
 use Rattle.connection.specs.Codes.{output_type}
 use Rattle.connection.specs.Slots.{request_at, find}
@@ -90,7 +89,7 @@ module _ (R : ℕ) where
   finish_way m id i false w h e k = rw (eq-eqb w.refusal 0 e) at k
 
   -- So END of the request in slot i leaves none of R's if it is R's, or if the connection closes.
-  released_holds : (m : QueueMemory) (id i : ℕ) (h : History) → (conn_of m).«open» ≡ true → find (conn_of m).table id ≡ Slot.At i → Holds R m.memory h
+  released_holds : (m : QueueMemory) (id i : ℕ) (h : History) → (conn_of m).«open» ≡ true → find (conn_of m).table id ≡ Some i → Holds R m.memory h
       → Holds R (released_slot (served_last m i) i (request_at (conn_of m).table i).state.keep).memory (changed (drops_if (or (not (request_at (conn_of m).table i).state.keep) (eqb id R))) h)
   unfolding memory_after result_at
   released_holds m id i h o f k =
@@ -124,7 +123,7 @@ module _ (R : ℕ) where
   none_holds m h k =
       by_test (conn_of m).«open» (λ o. holds_as m [] h true false o (ap end_waits (records_none R)) k) (λ o. holds_as m [] h false false o (ap end_waits (records_none R)) (holds_closed m.memory h o k))
 
-  module _ (m : QueueMemory) (fine : Fine m) (o : (conn_of m).«open» ≡ true) (id i : ℕ) (f : find (conn_of m).table id ≡ Slot.At i) (h : History) (k : Holds R m.memory h) where
+  module _ (m : QueueMemory) (fine : Fine m) (o : (conn_of m).«open» ≡ true) (id i : ℕ) (f : find (conn_of m).table id ≡ Some i) (h : History) (k : Holds R m.memory h) where
     -- the request that is served, whose id is a number of two bytes
     abbrev request : Request
     request = request_at (conn_of m).table i

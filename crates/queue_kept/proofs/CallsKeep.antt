@@ -3,7 +3,8 @@
 --
 -- A straight say or end, and a queued one, change the output marks of their request alone. So the fact stays, or R
 -- goes by a straight finish. A queued finish spends its request: the fact stays if that does not change it.
-use Rattle.std.specs.Prelude.{◌≡◌, List, Bool, true, false, ℕ, eqb, if◌then◌else◌}
+use Rattle.connection.specs.Slots.{Slot}
+use Rattle.std.specs.Prelude.{◌≡◌, List, Bool, true, false, ℕ, eqb, if◌then◌else◌, Some, None}
 use Rattle.std.proofs.Math.Path.{refl}
 use Rattle.std.proofs.Common.{ap, ap₂, sym, ◌∙◌, subst, eqb-true}
 use Rattle.std.proofs.Math.Option.{Option, none, some}
@@ -11,7 +12,6 @@ use Rattle.std.proofs.lemmas.Bool.{eqb-false}
 use Rattle.wire.specs.Test.{by_test}
 use Rattle.connection.specs.declared.request.Request.{Request}
 use Rattle.connection.specs.declared.state.Table.{Table}
-use Rattle.connection.specs.declared.state.Slot.{Slot}
 use Rattle.connection.specs.declared.state.Conn.{Conn}
 use Rattle.connection.specs.declared.answer.Output.{Output}
 use Rattle.connection.specs.Request.{Held}
@@ -58,7 +58,7 @@ ended_id r o = refl
 module _ {A : Type 0} (f : Request → A) (R : ℕ) where
   -- A request put back with its id changes the fact of R's only where it is R's and changes it there.
   put_fact : (m : Memory) (i : ℕ) (r : Request) → Sized m.state.conn.table → r.id ≡ (request_at m.state.conn.table i).id
-      → (m.state.conn.«open» ≡ true → find m.state.conn.table R ≡ Slot.At i → f r ≡ f (request_at m.state.conn.table i))
+      → (m.state.conn.«open» ≡ true → find m.state.conn.table R ≡ Some i → f r ≡ f (request_at m.state.conn.table i))
       → fact_of f (request_of R (with_request m i r)) ≡ fact_of f (request_of R m)
   unfolding request_of
   put_fact m i r sized id same = by_test m.state.conn.«open» (λ o. rw (o, find_put t i r R id) (go o (find t R) refl)) (λ o. rw o)
@@ -66,19 +66,19 @@ module _ {A : Type 0} (f : Request → A) (R : ℕ) where
       t : Table
       t = m.state.conn.table
 
-      here : m.state.conn.«open» ≡ true → (j : ℕ) → find t R ≡ Slot.At j → f (request_at (put_request t i r) j) ≡ f (request_at t j)
+      here : m.state.conn.«open» ≡ true → (j : ℕ) → find t R ≡ Some j → f (request_at (put_request t i r) j) ≡ f (request_at t j)
       here o j e =
           by_test (eqb j i)
           (λ k.
           let q : j ≡ i = eqb-true j i k in
           subst (λ n. f (request_at (put_request t n r) j) ≡ f (request_at t j)) q
-          (ap f (request_of_put t j r sized (find_at t R j e).low) ∙ same o (e ∙ ap (λ n. Slot.At n) q) ∙ ap (λ n. f (request_at t n)) (sym q)))
+          (ap f (request_of_put t j r sized (find_at t R j e).low) ∙ same o (e ∙ ap (λ n. Some n) q) ∙ ap (λ n. f (request_at t n)) (sym q)))
           (λ k. ap f (request_of_other t i j r (eqb-false j i k)))
 
       go : m.state.conn.«open» ≡ true → (s : Slot) → find t R ≡ s
           → fact_of f (on_slot s (λ j. some (held_at (put_request t i r) m.store j)) none) ≡ fact_of f (on_slot s (λ j. some (held_at t m.store j)) none)
-      go o Slot.Nowhere e = refl
-      go o (Slot.At j) e = ap some (here o j e)
+      go o None e = refl
+      go o (Some j) e = ap some (here o j e)
 
   -- nor does a skipped rest of a record
   skip_fact : (m : Memory) (i : ℕ) → fact_of f (request_of R (skipped m i)) ≡ fact_of f (request_of R m)
@@ -86,7 +86,7 @@ module _ {A : Type 0} (f : Request → A) (R : ℕ) where
   skip_fact m i = refl
 
   -- R's request is the one in its slot
-  found_at : (m : Memory) (i : ℕ) → m.state.conn.«open» ≡ true → find m.state.conn.table R ≡ Slot.At i → request_of R m ≡ some (held_at m.state.conn.table m.store i)
+  found_at : (m : Memory) (i : ℕ) → m.state.conn.«open» ≡ true → find m.state.conn.table R ≡ Some i → request_of R m ≡ some (held_at m.state.conn.table m.store i)
   unfolding request_of
   found_at m i o e = rw (o, e)
 

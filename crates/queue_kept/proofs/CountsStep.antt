@@ -1,6 +1,7 @@
 -- A step changes R's counts as it tells: it closes the connection, or opens R, or leaves R active or not as it was,
 -- with its counts changed by what is heard.
-use Rattle.std.specs.Prelude.{◌≡◌, refl, List, Bool, true, false, ℕ, ◌+◌, ◌<◌, length, eqb, leb, if◌then◌else◌}
+use Rattle.connection.specs.Slots.{Slot}
+use Rattle.std.specs.Prelude.{◌≡◌, refl, List, Bool, true, false, ℕ, ◌+◌, ◌<◌, length, eqb, leb, if◌then◌else◌, Some, None}
 use Rattle.std.proofs.Math.Path.{ap, sym, subst}
 use Rattle.std.proofs.Common.{◌∙◌, arith}
 use Rattle.std.proofs.Math.Option.{none, some}
@@ -14,7 +15,6 @@ use Rattle.connection.specs.declared.request.Role.{Role}
 use Rattle.connection.specs.declared.request.Request.{Request}
 use Rattle.connection.specs.declared.request.Shown.{Shown}
 use Rattle.connection.specs.declared.state.Table.{Table}
-use Rattle.connection.specs.declared.state.Slot.{Slot}
 use Rattle.connection.specs.declared.state.Conn.{Conn}
 use Rattle.connection.specs.Sizes.{SLOTS, AREA}
 use Rattle.connection.specs.Event.{Event}
@@ -38,7 +38,7 @@ use Rattle.queue_kept.specs.QueueCounts.{counts_of_r, opens_r, with_heard, count
 -- From b a step leaves c and tells this: it closes the connection; or opens R; or R is found as before.
 data Whereabouts (R : ℕ) (b c : Conn) : Event → Type 0 where
   Shuts : (cause : Cause) → c.«open» ≡ false → Whereabouts R b c (Event.Closed cause)
-  Opens : (k role : ℕ) (keep : Bool) → c.«open» ≡ true → find c.table R ≡ Slot.At k → Whereabouts R b c (Event.Open R role keep)
+  Opens : (k role : ℕ) (keep : Bool) → c.«open» ≡ true → find c.table R ≡ Some k → Whereabouts R b c (Event.Open R role keep)
   Stays : (e : Event) → c.«open» ≡ b.«open» → find c.table R ≡ find b.table R → is_closing e ≡ false → opens_r R e ≡ false → Whereabouts R b c e
 
 -- an event of no active request closes and opens nothing
@@ -84,10 +84,10 @@ module _ (t : Table) (id : ℕ) (role : Role) (keep : Bool) (sized : Sized t) (l
   after = take_slot t (free_slot_of t) (opened id role keep)
 
   -- It is found.
-  opened_found : (s : Slot) → find after id ≡ s → (k : ℕ) × (find after id ≡ Slot.At k)
+  opened_found : (s : Slot) → find after id ≡ s → (k : ℕ) × (find after id ≡ Some k)
   unfolding request_at opened
-  opened_found (Slot.At k) e = (k, e)
-  opened_found Slot.Nowhere e =
+  opened_found (Some k) e = (k, e)
+  opened_found None e =
       absurd (find_nowhere after id e (free_slot_of t)
       (record { low = low; slot_taken = taken_of_take t (free_slot_of t) (opened id role keep) low; has_id = ap (λ (x : Request). x.id) (request_of_take t (free_slot_of t) (opened id role keep) sized low) }))
 
@@ -123,13 +123,13 @@ module _ (t : Table) (id : ℕ) (role : Role) (keep : Bool) (sized : Sized t) (l
     other_found : Distinct t → find after R ≡ find t R
     other_found distinct = go (find t R) refl
       where
-        there : (i : ℕ) → find t R ≡ Slot.At i → (s : Slot) → find after R ≡ s → s ≡ Slot.At i
-        there i e Slot.Nowhere f = absurd (find_nowhere after R f i (held_after_lem i (find_at t R i e)))
-        there i e (Slot.At j) f = ap (λ (n : ℕ). Slot.At n) (distinct R j i (held_before j (find_at after R j f)) (find_at t R i e))
+        there : (i : ℕ) → find t R ≡ Some i → (s : Slot) → find after R ≡ s → s ≡ Some i
+        there i e None f = absurd (find_nowhere after R f i (held_after_lem i (find_at t R i e)))
+        there i e (Some j) f = ap (λ (n : ℕ). Some n) (distinct R j i (held_before j (find_at after R j f)) (find_at t R i e))
 
         go : (s : Slot) → find t R ≡ s → find after R ≡ s
-        go Slot.Nowhere e = nowhere_find after R (λ j h. find_nowhere t R e j (held_before j h))
-        go (Slot.At i) e = there i e (find after R) refl
+        go None e = nowhere_find after R (λ j h. find_nowhere t R e j (held_before j h))
+        go (Some i) e = there i e (find after R) refl
 
 -- ---- every step
 -- A step leaves R so, from every memory whose table has a place for each slot.
@@ -157,17 +157,17 @@ whereabouts R st store piece sized =
         let w = opened_found t id role keep sized low (find (after t id role keep sized low) id) refl in
         let q : id ≡ R = eqb-true id R e in
         subst (λ n. Whereabouts R st.conn (open_with (after t id role keep sized low) f) (Event.Open n (role_number role) keep)) (sym q)
-        (Opens w.0 (role_number role) keep refl (subst (λ n. find (after t id role keep sized low) n ≡ Slot.At w.0) q w.1)))
+        (Opens w.0 (role_number role) keep refl (subst (λ n. find (after t id role keep sized low) n ≡ Some w.0) q w.1)))
         (λ e. Stays (Event.Open id (role_number role) keep) (sym fits.is_open) (other_found t id role keep sized low R (eqb-false id R e) (shaped st.conn fits.shape).table.distinct) refl e)
 
 -- ---- the counts
 -- R's counts, where it is active
-counts_at : (R : ℕ) (m : Memory) (i : ℕ) → m.state.conn.«open» ≡ true → find m.state.conn.table R ≡ Slot.At i → counts_of_r R m ≡ some (request_at m.state.conn.table i).state.shown
+counts_at : (R : ℕ) (m : Memory) (i : ℕ) → m.state.conn.«open» ≡ true → find m.state.conn.table R ≡ Some i → counts_of_r R m ≡ some (request_at m.state.conn.table i).state.shown
 unfolding request_of
 counts_at R m i o f = rw (o, f)
 
 -- and none, where it is not
-counts_nowhere : (R : ℕ) (m : Memory) → find m.state.conn.table R ≡ Slot.Nowhere → counts_of_r R m ≡ none
+counts_nowhere : (R : ℕ) (m : Memory) → find m.state.conn.table R ≡ None → counts_of_r R m ≡ none
 unfolding request_of
 counts_nowhere R m f = by_test m.state.conn.«open» (λ o. rw (o, f)) (λ o. rw o)
 
@@ -196,7 +196,7 @@ step_told R m piece sized = go (step_of m piece).event refl (whereabouts R m.sta
     x = used_of m piece
 
     -- where a slot holds R, with these counts before
-    follows : (e : Event) → (step_of m piece).event ≡ e → (c : Shown) → CountsOf R c b → n.state.conn.«open» ≡ true → (k : ℕ) → find n.state.conn.table R ≡ Slot.At k
+    follows : (e : Event) → (step_of m piece).event ≡ e → (c : Shown) → CountsOf R c b → n.state.conn.«open» ≡ true → (k : ℕ) → find n.state.conn.table R ≡ Some k
         → counts_of_r R n ≡ some (shown_after R c (heard_of e x))
     follows e same c k o i f = counts_at R n i o f ∙ ap some (step_counts R c m.state m.store piece sized k o i f ∙ ap (λ d. shown_after R c (heard_of d x)) same)
 
@@ -204,15 +204,15 @@ step_told R m piece sized = go (step_of m piece).event refl (whereabouts R m.sta
     stays : (e : Event) → (step_of m piece).event ≡ e → n.state.conn.«open» ≡ b.«open» → find n.state.conn.table R ≡ find b.table R → (o : Bool) → b.«open» ≡ o → (s : Slot) → find b.table R ≡ s
         → counts_of_r R n ≡ with_heard R (heard_of e x) (counts_of_r R m)
     stays e same p q false o s f = counts_closed R n (p ∙ o) ∙ ap (with_heard R (heard_of e x)) (sym (counts_closed R m o))
-    stays e same p q true o Slot.Nowhere f = counts_nowhere R n (q ∙ f) ∙ ap (with_heard R (heard_of e x)) (sym (counts_nowhere R m f))
-    stays e same p q true o (Slot.At i) f =
+    stays e same p q true o None f = counts_nowhere R n (q ∙ f) ∙ ap (with_heard R (heard_of e x)) (sym (counts_nowhere R m f))
+    stays e same p q true o (Some i) f =
         follows e same (request_at b.table i).state.shown (λ u j g. let d : j ≡ i = cc (g, f) in ap (λ (k : ℕ). (request_at b.table k).state.shown) d) (p ∙ o) i (q ∙ f)
         ∙ ap (with_heard R (heard_of e x)) (sym (counts_at R m i o f))
 
     -- some counts, whether R is active or not
     before : (s : Slot) → find b.table R ≡ s → (c : Shown) × CountsOf R c b
-    before Slot.Nowhere f = (unshown, λ u j g. let z : ◌≡◌ {A = ℕ} 0 1 = cc (f, g) in absurd (omega arith))
-    before (Slot.At i) f = ((request_at b.table i).state.shown, λ u j g. let d : j ≡ i = cc (g, f) in ap (λ (k : ℕ). (request_at b.table k).state.shown) d)
+    before None f = (unshown, λ u j g. let z : ◌≡◌ {A = ℕ} 0 1 = cc (f, g) in absurd (omega arith))
+    before (Some i) f = ((request_at b.table i).state.shown, λ u j g. let d : j ≡ i = cc (g, f) in ap (λ (k : ℕ). (request_at b.table k).state.shown) d)
 
     go : (e : Event) → (step_of m piece).event ≡ e → Whereabouts R b n.state.conn e → counts_of_r R n ≡ (if is_closing e then none else counts_told R e x (counts_of_r R m))
     go e same (Shuts cause o) = counts_closed R n o

@@ -1,6 +1,7 @@
 -- R's request stays through a finish of another and through a turn of the pump, with its whole area, or it goes; and
 -- which of the two is told.
-use Rattle.std.specs.Prelude.{◌≡◌, ◌⊎◌, Bool, not, length, get_or, eqb, if◌then◌else◌}
+use Rattle.connection.specs.Slots.{Slot}
+use Rattle.std.specs.Prelude.{◌≡◌, ◌⊎◌, Bool, not, length, get_or, eqb, if◌then◌else◌, Some, None}
 use Rattle.std.proofs.Math.Path.{refl, ap}
 use Rattle.std.proofs.Common.{ap₂, sym, ◌∙◌, subst, inl, inr, arith}
 use mathlib.Core.List.{List, [], ◌∷◌, ◌++◌, flatten, append-nil}
@@ -19,7 +20,6 @@ use Rattle.machine_queue.specs.Pump.{next_waiting}
 use Rattle.machine_queue.proofs.Pumping.{waiting_below}
 use Rattle.connection.specs.declared.request.Request.{Request}
 use Rattle.connection.specs.declared.state.Table.{Table}
-use Rattle.connection.specs.declared.state.Slot.{Slot}
 use Rattle.connection.specs.declared.state.Conn.{Conn}
 use Rattle.connection.specs.Sizes.{SLOTS, AREA}
 use Rattle.connection.specs.Codes.{output_type}
@@ -49,7 +49,7 @@ use Rattle.queue_history.proofs.TurnEnds.{end_either, stream_read, end_read, clo
 use Rattle.queue_kept.specs.Going.{goes_in}
 
 -- ---- a slot that is given back
-module _ (R : ℕ) (m : Memory) (id i : ℕ) (fits : Fits m.state.conn m.store) (found : find m.state.conn.table id ≡ Slot.At i) where
+module _ (R : ℕ) (m : Memory) (id i : ℕ) (fits : Fits m.state.conn m.store) (found : find m.state.conn.table id ≡ Some i) where
   -- the slots before
   abbrev t : Table
   t = m.state.conn.table
@@ -59,11 +59,11 @@ module _ (R : ℕ) (m : Memory) (id i : ℕ) (fits : Fits m.state.conn m.store) 
   distinct = (shaped m.state.conn fits.shape).table.distinct
 
   -- it was R's
-  own_nowhere : id ≡ R → find (free_slot t i) R ≡ Slot.Nowhere
+  own_nowhere : id ≡ R → find (free_slot t i) R ≡ None
   own_nowhere e = nowhere_find (free_slot t i) R (λ j h. let w = free_holds t i R j h in w.other (distinct R j i w.held (subst (λ n. Holds t n i) e (find_at t id i found))))
 
   -- it was another's: R is not in it
-  elsewhere : (id ≡ R → ⊥) → (j : ℕ) → find t R ≡ Slot.At j → j ≡ i → ⊥
+  elsewhere : (id ≡ R → ⊥) → (j : ℕ) → find t R ≡ Some j → j ≡ i → ⊥
   elsewhere n j e q = n (sym (find_at t id i found).has_id ∙ subst (λ k. get_or t.ids k 0 ≡ R) q (find_at t R j e).has_id)
 
   -- so R is found as before
@@ -72,8 +72,8 @@ module _ (R : ℕ) (m : Memory) (id i : ℕ) (fits : Fits m.state.conn m.store) 
   other_found n = go (find t R) refl
     where
       go : (s : Slot) → find t R ≡ s → find (free_slot t i) R ≡ s
-      go Slot.Nowhere e = nowhere_find (free_slot t i) R (λ j h. find_nowhere t R e j (free_holds t i R j h).held)
-      go (Slot.At j) e =
+      go None e = nowhere_find (free_slot t i) R (λ j h. find_nowhere t R e j (free_holds t i R j h).held)
+      go (Some j) e =
           let own = find_at t R j e in
           let d = elsewhere n j e in
           only_slot (free_slot t i) (λ k a b x y. distinct k a b (free_holds t i k a x).held (free_holds t i k b y).held) R j
@@ -95,8 +95,8 @@ module _ (R : ℕ) (m : Memory) (id i : ℕ) (fits : Fits m.state.conn m.store) 
 
       go : (id ≡ R → ⊥) → (s : Slot) → find t R ≡ s
           → on_slot s (λ j. some (held_at (free_slot t i) (put_area m.store i x) j)) none ≡ on_slot s (λ j. some (held_at t m.store j)) none
-      go n Slot.Nowhere e = refl
-      go n (Slot.At j) e =
+      go n None e = refl
+      go n (Some j) e =
           let d = elsewhere n j e in
           ap₂ (λ (r : Request) (a : List ℕ). some (record { request = r; area = a })) (other_of_free t i j d) (area_of_other m.store i x fits.size (find_at t id i found).low size j d)
 
@@ -145,7 +145,7 @@ module _ (R : ℕ) where
       let f = ap end_waits (records_none R) in
       by_test (conn_of n).«open» (λ o. after_as m [] n true false o f (ap (request_of R) same)) (λ o. after_as m [] n false false o f (closed_request n.memory o))
 
-  module _ (m : QueueMemory) (fine : Fine m) (o : (conn_of m).«open» ≡ true) (id i : ℕ) (f : find (conn_of m).table id ≡ Slot.At i) where
+  module _ (m : QueueMemory) (fine : Fine m) (o : (conn_of m).«open» ≡ true) (id i : ℕ) (f : find (conn_of m).table id ≡ Some i) where
     -- the request that is served
     abbrev request : Request
     request = request_at (conn_of m).table i

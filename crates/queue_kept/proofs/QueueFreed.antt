@@ -2,11 +2,11 @@
 --
 -- After an operation that tells that R goes (`Going`), by END of R or by a close, no slot has R's id, R is observed
 -- no more, and nothing of R waits.
-use Rattle.std.specs.Prelude.{◌≡◌, refl, [], true, ℕ}
+use Rattle.connection.specs.Slots.{Slot}
+use Rattle.std.specs.Prelude.{◌≡◌, refl, [], true, ℕ, Some, None}
 use Rattle.std.proofs.Common.{ap, ◌∙◌, arith}
 use Rattle.std.proofs.Math.Option.{Option, none, some}
 use Rattle.wire.specs.Test.{by_test}
-use Rattle.connection.specs.declared.state.Slot.{Slot}
 use Rattle.connection.specs.declared.state.Conn.{Conn}
 use Rattle.connection.specs.Request.{Held}
 use Rattle.connection.specs.Slots.{held_at, find, on_slot}
@@ -22,7 +22,7 @@ use Rattle.queue_kept.proofs.QueueSpent.{run_fine}
 
 -- R is nowhere: no slot has its id, it is observed no more, and nothing of it waits.
 pub record Nowhere (R : ℕ) (m : QueueMemory) : Type 0 where
-  pub unfound : find (conn_of m).table R ≡ Slot.Nowhere
+  pub unfound : find (conn_of m).table R ≡ None
   pub inactive : request_of R m.memory ≡ none
   pub nothing_waits : waits_of R m ≡ []
 
@@ -32,16 +32,16 @@ no_counts none e = refl
 no_counts (some h) e = let z : ◌≡◌ {A = ℕ} 0 1 = cc in absurd (omega arith)
 
 -- who is not active on an open connection is found in no slot
-open_unfound : (R : ℕ) (m : Memory) → m.state.conn.«open» ≡ true → request_of R m ≡ none → find m.state.conn.table R ≡ Slot.Nowhere
+open_unfound : (R : ℕ) (m : Memory) → m.state.conn.«open» ≡ true → request_of R m ≡ none → find m.state.conn.table R ≡ None
 unfolding request_of
 open_unfound R m o e = go (find m.state.conn.table R) (rw o at e)
   where
-    go : (s : Slot) → on_slot s (λ i. some (held_at m.state.conn.table m.store i)) none ≡ none → s ≡ Slot.Nowhere
-    go Slot.Nowhere e = refl
-    go (Slot.At i) e = let z : ◌≡◌ {A = ℕ} 0 1 = cc in absurd (omega arith)
+    go : (s : Slot) → on_slot s (λ i. some (held_at m.state.conn.table m.store i)) none ≡ none → s ≡ None
+    go None e = refl
+    go (Some i) e = let z : ◌≡◌ {A = ℕ} 0 1 = cc in absurd (omega arith)
 
 -- of whom nothing is found, nothing waits
-unfound_waits : (R : ℕ) (m : QueueMemory) → find (conn_of m).table R ≡ Slot.Nowhere → waits_of R m ≡ []
+unfound_waits : (R : ℕ) (m : QueueMemory) → find (conn_of m).table R ≡ None → waits_of R m ≡ []
 unfolding waits_of
 unfound_waits R m f = by_test (conn_of m).«open» (λ o. rw (o, f)) (λ o. rw o)
 

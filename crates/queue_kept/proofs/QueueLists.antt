@@ -2,7 +2,7 @@
 --
 -- After any run, the list of a request whose PARAMS have ended, and that is not faulted, is well formed and repeats
 -- no name, between its queued finish and its END, too. So a value by name has at most one match.
-use Rattle.std.specs.Prelude.{◌≡◌, true, ℕ, eqb}
+use Rattle.std.specs.Prelude.{◌≡◌, true, ℕ, eqb, Some}
 use Rattle.std.proofs.Common.{ap, sym, ◌∙◌, subst, eqb-true}
 use mathlib.Core.List.{List, [], ◌∷◌, Memᴰ}
 use Rattle.wire.specs.Test.{by_test}
@@ -10,7 +10,6 @@ use Rattle.wire.proofs.Bytes.{take_bytes}
 use Rattle.pairs.specs.Pair.{name_of, value_of}
 use Rattle.pairs.specs.declared.pair.Pair.{Pair}
 use Rattle.pair_list.specs.List.{pairs_from, first_named}
-use Rattle.pair_list.specs.declared.Found.{Found}
 use Rattle.pair_repeats.proofs.RepeatsLaws.{named_once}
 use Rattle.machine.specs.Slots.{HeldBy, slot_at}
 use Rattle.machine.specs.Timeline.{RequestCall, CountCall, CallItem}
@@ -110,7 +109,7 @@ asked_in r id = held_at (conn_of (ending r)).table (ending r).memory.store (T.sl
 -- A pair that matches: it is the first one found by its name, and its value is what value answers, for every
 -- fallback.
 pub record Matches (r : QueueRun) (id : ℕ) (name : List ℕ) (q : Pair) : Type 0 where
-  pub found : first_named (list_of (asked_in r id)) name ≡ Found.At q
+  pub found : first_named (list_of (asked_in r id)) name ≡ Some q
   pub answered : (fallback : List ℕ) → queue_value (ending r) id name fallback ≡ value_of (list_of (asked_in r id)) q
 
 -- the list of the request that a call is about that is let through

@@ -2,7 +2,7 @@
 --
 -- So from a queued finish on, until END is written or the connection closes, no step tells anything of its request:
 -- no data, no end, no ready, no fault and no abort.
-use Rattle.std.specs.Prelude.{◌≡◌, refl, List, [], ◌∷◌, ◌++◌, true, false, ℕ, zero, suc, ◌<◌, take, eqb}
+use Rattle.std.specs.Prelude.{◌≡◌, refl, List, [], ◌∷◌, ◌++◌, true, false, ℕ, zero, suc, ◌<◌, take, eqb, Some}
 use Rattle.std.proofs.Common.{ap, ap₂, sym, ◌∙◌, subst, arith, eq-eqb, eqb-true, ne_eqb}
 use Rattle.std.proofs.Math.Option.{some}
 use Rattle.wire.specs.Test.{by_test}
@@ -11,7 +11,6 @@ use Rattle.machine.specs.Machine.{Slots}
 use Rattle.machine.specs.Shape.{ReadingOk, WellShaped}
 use Rattle.connection.specs.declared.request.Due.{Due}
 use Rattle.connection.specs.declared.request.Request.{Request}
-use Rattle.connection.specs.declared.state.Slot.{Slot}
 use Rattle.connection.specs.Event.{Event}
 use Rattle.connection.specs.Request.{Held, is_spent, with_life}
 use Rattle.connection.specs.Refusal.{refusal}
@@ -67,7 +66,7 @@ finish_through m id status e =
 pub record Retired (m : QueueMemory) (id status : ℕ) : Type 0 where
   pub slot : ℕ
   pub is_open : (conn_of m).«open» ≡ true
-  pub found : find (conn_of m).table id ≡ Slot.At slot
+  pub found : find (conn_of m).table id ≡ Some slot
   pub left : (queue_after m (CallFor id (D.ToFinish status))).memory ≡ retired_by m.memory slot
 
 -- It is so.
@@ -80,7 +79,7 @@ finish_retires m id status e =
     record { slot = q.slot; is_open = q.is_open; found = q.found; left = finish_leaves m id status q.slot (eq-eqb (refusal rows) 0 k) q.at }
 
 -- there the request is active and spent
-retired_spent : (R : ℕ) (m : Memory) (i : ℕ) → Sized m.state.conn.table → m.state.conn.«open» ≡ true → find m.state.conn.table R ≡ Slot.At i → ActiveSpent R (retired_by m i)
+retired_spent : (R : ℕ) (m : Memory) (i : ℕ) → Sized m.state.conn.table → m.state.conn.«open» ≡ true → find m.state.conn.table R ≡ Some i → ActiveSpent R (retired_by m i)
 unfolding request_of
 retired_spent R m i sized o f =
     let t = m.state.conn.table in
@@ -213,7 +212,7 @@ finished_tells_nothing R status r os p some_id e g =
     }
 
 -- R's slot says whether it is between its finish and its END
-leaving_at : (R : ℕ) (m : QueueMemory) (i : ℕ) → (conn_of m).«open» ≡ true → find (conn_of m).table R ≡ Slot.At i → leaving_of R m ≡ true → last_at m.waits i ≡ true
+leaving_at : (R : ℕ) (m : QueueMemory) (i : ℕ) → (conn_of m).«open» ≡ true → find (conn_of m).table R ≡ Some i → leaving_of R m ≡ true → last_at m.waits i ≡ true
 unfolding leaving_of
 leaving_at R m i o f e = rw (o, f) at e
 

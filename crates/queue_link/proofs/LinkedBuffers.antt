@@ -1,9 +1,9 @@
 -- The buffer that is lent to a call of a request between its finish and its END: it comes back as it was.
-use Rattle.std.specs.Prelude.{◌≡◌, refl, List, [], ◌∷◌, Bool, true, false, not, ℕ, eqb}
+use Rattle.connection.specs.Slots.{Slot}
+use Rattle.std.specs.Prelude.{◌≡◌, refl, List, [], ◌∷◌, Bool, true, false, not, ℕ, eqb, Some, None}
 use Rattle.std.proofs.Common.{arith}
 use Rattle.std.proofs.Math.ListN.{length}
 use Rattle.wire.specs.Test.{by_test, ◌<?◌, ◌=?◌}
-use Rattle.connection.specs.declared.state.Slot.{Slot}
 use Rattle.connection.specs.declared.answer.Output.{Output}
 use Rattle.connection.specs.Sizes.{SLOTS, STORE}
 use Rattle.connection.specs.Refusal.{◌when◌, refusal}
@@ -34,8 +34,8 @@ unfolding leaving_of
 leaving_slot m id e = by_test (conn_of m).«open» (λ o. go (find (conn_of m).table id) (rw o at e)) (λ o. let z : ◌≡◌ {A = ℕ} 0 1 = cc (rw o at e) in absurd (omega arith))
   where
     go : (s : Slot) → on_slot s (λ i. last_at m.waits i) false ≡ true → last_at m.waits (on_slot s (λ i. i) SLOTS) ≡ true
-    go (Slot.At i) d = d
-    go Slot.Nowhere d = let z : ◌≡◌ {A = ℕ} 0 1 = cc in absurd (omega arith)
+    go (Some i) d = d
+    go None d = let z : ◌≡◌ {A = ℕ} 0 1 = cc in absurd (omega arith)
 
 -- row 5 holds, if none before it
 five : (shape closed inactive room waits : Bool)

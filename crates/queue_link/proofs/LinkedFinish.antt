@@ -1,5 +1,6 @@
 -- Queued finish on the whole state is the machine's; calls that are refused by 1 and 3; every call.
-use Rattle.std.specs.Prelude.{◌≡◌, List, [], ◌∷◌, ◌++◌, true, false, not, ℕ, suc, ◌<◌, length, set, take, eqb, ltb, if◌then◌else◌}
+use Rattle.connection.specs.Slots.{Slot}
+use Rattle.std.specs.Prelude.{◌≡◌, List, [], ◌∷◌, ◌++◌, true, false, not, ℕ, suc, ◌<◌, length, set, take, eqb, ltb, if◌then◌else◌, Some, None}
 use Rattle.std.proofs.Math.Path.{refl, ap, ap₂, sym, subst}
 use Rattle.std.proofs.Common.{◌∙◌, arith, eq-eqb, ne_eqb}
 use Rattle.std.proofs.Math.Option.{none, some}
@@ -7,7 +8,6 @@ use Rattle.wire.specs.Test.{by_test}
 use Rattle.machine.specs.Timeline.{RequestCall, CallItem}
 use Rattle.connection.specs.declared.request.Request.{Request}
 use Rattle.connection.specs.declared.state.Table.{Table}
-use Rattle.connection.specs.declared.state.Slot.{Slot}
 use Rattle.connection.specs.declared.answer.Output.{Output}
 use Rattle.connection.specs.Sizes.{SLOTS, STORE}
 use Rattle.connection.specs.Request.{Held}
@@ -92,7 +92,7 @@ pub spent_list : (r : Request) → SameList r (spent_by r)
 unfolding spent_by
 spent_list r = record { id = refl; length = refl }
 
-module _ (m : QueueMemory) (g : Good m) (is_open : (conn_of m).«open» ≡ true) (id i : ℕ) (found : find (conn_of m).table id ≡ Slot.At i) where
+module _ (m : QueueMemory) (g : Good m) (is_open : (conn_of m).«open» ≡ true) (id i : ℕ) (found : find (conn_of m).table id ≡ Some i) where
   abbrev z : QueueSteady m
   z = g.steady
 
@@ -261,7 +261,7 @@ closed_called m id (D.ToSay out content) h f y o = rw (eq-eqb (length m.queue) Q
 closed_called m id (D.ToEnd out) h f y o = rw (h, o)
 closed_called m id (D.ToFinish status) h f y o = rw (h, o)
 
-absent_called : (m : QueueMemory) (id : ℕ) (a : Asking) → Good m → (conn_of m).«open» ≡ true → find (conn_of m).table id ≡ Slot.Nowhere → queue_called m id a ≡ refused_with m 3 a
+absent_called : (m : QueueMemory) (id : ℕ) (a : Asking) → Good m → (conn_of m).«open» ≡ true → find (conn_of m).table id ≡ None → queue_called m id a ≡ refused_with m 3 a
 unfolding queue_called refused lent_refusal straight_say straight_end straight_finish say_refusal T.queue_say T.queue_end T.queue_finish
 absent_called m id (D.Straight (ForRead q)) g o f = let h = queue_shape m g.steady in let l = eq-eqb (length m.memory.store) STORE g.steady.steady.sizes.full in rw (queue_replied_or_refused m id q, l, h, o, f)
 absent_called m id (D.Straight (ForSay out content buffer)) g o f = let h = queue_shape m g.steady in unsaid m id out content buffer 2 (rw (h, o, f))
@@ -282,7 +282,7 @@ closed_is m id a g o =
       good = subst (λ (r : QueueResult). Good r.left) (sym c) g;
     }
 
-absent_is : (m : QueueMemory) (id : ℕ) (a : Asking) → Good m → (conn_of m).«open» ≡ true → find (conn_of m).table id ≡ Slot.Nowhere → CallIs m id a
+absent_is : (m : QueueMemory) (id : ℕ) (a : Asking) → Good m → (conn_of m).«open» ≡ true → find (conn_of m).table id ≡ None → CallIs m id a
 unfolding on_item answer_in request_called
 absent_is m id a g o f =
     let c = absent_called m id a g o f in
@@ -298,7 +298,7 @@ absent_is m id a g o f =
     }
 
 -- ---- every call
-found_is : (m : QueueMemory) (id i : ℕ) (a : Asking) → Good m → WellShaped queueing_receiver ends_laws (loaded_queue m) → (conn_of m).«open» ≡ true → find (conn_of m).table id ≡ Slot.At i → CallIs m id a
+found_is : (m : QueueMemory) (id i : ℕ) (a : Asking) → Good m → WellShaped queueing_receiver ends_laws (loaded_queue m) → (conn_of m).«open» ≡ true → find (conn_of m).table id ≡ Some i → CallIs m id a
 found_is m id i (D.Straight a) g w o f = straight_is m g o id i f a
 found_is m id i (D.ToSay out content) g w o f = queue_say_is m g o id i f out content
 found_is m id i (D.ToEnd out) g w o f = queue_end_is m g o id i f out w
@@ -309,5 +309,5 @@ pub call_is : (m : QueueMemory) (id : ℕ) (a : Asking) → Good m → WellShape
 call_is m id a g w = by_test (conn_of m).«open» (λ o. go o (find (conn_of m).table id) refl) (λ o. closed_is m id a g o)
   where
     go : (conn_of m).«open» ≡ true → (s : Slot) → find (conn_of m).table id ≡ s → CallIs m id a
-    go o (Slot.At i) f = found_is m id i a g w o f
-    go o Slot.Nowhere f = absent_is m id a g o f
+    go o (Some i) f = found_is m id i a g w o f
+    go o None f = absent_is m id a g o f

@@ -1,5 +1,5 @@
 -- Queued say and end on the whole state are the machine's, with their answers, and keep what every state fulfils.
-use Rattle.std.specs.Prelude.{◌≡◌, List, [], Bool, ℕ, ◌+◌, ◌≤◌, ◌<◌, set, eqb, if◌then◌else◌}
+use Rattle.std.specs.Prelude.{◌≡◌, List, [], Bool, ℕ, ◌+◌, ◌≤◌, ◌<◌, set, eqb, if◌then◌else◌, Some}
 use Rattle.std.proofs.Math.Path.{refl, ap, sym, subst}
 use Rattle.std.proofs.Common.{◌∙◌, arith, eqb-true}
 use Rattle.std.proofs.Math.Bool.{true, false, not}
@@ -9,7 +9,6 @@ use Rattle.std.proofs.lemmas.Bool.{eqb-false}
 use Rattle.wire.specs.Test.{by_test}
 use Rattle.connection.specs.Refusal.{refusal}
 use Rattle.connection.specs.declared.request.Request.{Request}
-use Rattle.connection.specs.declared.state.Slot.{Slot}
 use Rattle.connection.specs.declared.answer.Output.{Output}
 use Rattle.connection.specs.Sizes.{SLOTS}
 use Rattle.connection.specs.Request.{Held}
@@ -58,7 +57,7 @@ decided_answer (Closes n) i q id b T F = refl
 abbrev refusal_among : T.Queueing → ℕ
 refusal_among q = q.refusal
 
-module _ (m : QueueMemory) (g : Good m) (is_open : (conn_of m).«open» ≡ true) (id i : ℕ) (found : find (conn_of m).table id ≡ Slot.At i) where
+module _ (m : QueueMemory) (g : Good m) (is_open : (conn_of m).«open» ≡ true) (id i : ℕ) (found : find (conn_of m).table id ≡ Some i) where
   abbrev z : QueueSteady m
   z = g.steady
 

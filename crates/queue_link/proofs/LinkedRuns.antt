@@ -1,6 +1,7 @@
 -- A run with a queue is the machine's run of its timeline, where a turn of the pump is its serves; what waits of R,
 -- whether R is leaving and R's request are the machine's.
-use Rattle.std.specs.Prelude.{◌≡◌, List, [], ◌∷◌, ◌++◌, Bool, true, false, ℕ, eqb, if◌then◌else◌}
+use Rattle.connection.specs.Slots.{Slot}
+use Rattle.std.specs.Prelude.{◌≡◌, List, [], ◌∷◌, ◌++◌, Bool, true, false, ℕ, eqb, if◌then◌else◌, Some, None}
 use Rattle.std.proofs.Math.Path.{refl, ap, sym}
 use Rattle.std.proofs.Common.{◌∙◌, subst}
 use Rattle.std.proofs.Math.Option.{Option, none, some}
@@ -13,7 +14,6 @@ use Rattle.machine.specs.Shape.{ItemsOk, ItemsEnd, ItemsMore, WellShaped}
 use Rattle.machine.proofs.ShapeKept.{shape_after, items_all}
 use Rattle.machine_queue.specs.Waiting.{is_leaving, waits_in, core_of}
 use Rattle.connection.specs.declared.state.Table.{Table}
-use Rattle.connection.specs.declared.state.Slot.{Slot}
 use Rattle.connection.specs.Request.{Held}
 use Rattle.connection.specs.Slots.{held_at, find, on_slot}
 use Rattle.wire.proofs.Bytes.{AllBytes, take_bytes}
@@ -172,8 +172,8 @@ run_is (o ∷ os) m k p =
 found_some : (t : Table) (store : List ℕ) (f : Waiting) (s : Slot) (o : Lookup Queued) → o ≡ on_slot s (λ i. FoundAt i (queued (held_at t store i) (f i))) Absent
     → request_found queueing_receiver o ≡ on_slot s (λ i. some (queued (held_at t store i) (f i))) none
 unfolding request_found
-found_some t store f (Slot.At i) o e = rw e
-found_some t store f Slot.Nowhere o e = rw e
+found_some t store f (Some i) o e = rw e
+found_some t store f None o e = rw e
 
 request_open : (R : ℕ) (m : QueueMemory) → (conn_of m).«open» ≡ true → request_in queueing_receiver R (loaded_queue m) ≡ on_slot (find (conn_of m).table R) (λ i. some (queued (held_at (conn_of m).table m.memory.store i) (waiting_of m i))) none
 unfolding request_in
@@ -183,8 +183,8 @@ request_open R m o =
     ap (request_in queueing_receiver R) there ∙ found_some (conn_of m).table m.memory.store (waiting_of m) (find (conn_of m).table R) (lookup R (lift_slots (waiting_of m) T)) (lift_lookup_lem (waiting_of m) R T ∙ go (find (conn_of m).table R) (lookup R T) (lookup_loaded (conn_of m).table m.memory.store R))
   where
     go : (s : Slot) (o : Lookup Held) → o ≡ found_as (conn_of m).table m.memory.store s → lift_lookup (waiting_of m) o ≡ on_slot s (λ i. FoundAt i (queued (held_at (conn_of m).table m.memory.store i) (waiting_of m i))) Absent
-    go (Slot.At i) o e = rw e
-    go Slot.Nowhere o e = rw e
+    go (Some i) o e = rw e
+    go None o e = rw e
 
 request_closed : (R : ℕ) (m : QueueMemory) → (conn_of m).«open» ≡ false → request_in queueing_receiver R (loaded_queue m) ≡ none
 unfolding request_in
@@ -201,8 +201,8 @@ module _ (R : ℕ) (m : QueueMemory) where
 
   leaving_slot : (s : Slot) → is_leaving queueing_receiver waiting_queue (there s) ≡ on_slot s (λ i. last_at m.waits i) false
   unfolding is_leaving
-  leaving_slot (Slot.At i) = last i
-  leaving_slot Slot.Nowhere = refl
+  leaving_slot (Some i) = last i
+  leaving_slot None = refl
 
   leaving_open : (conn_of m).«open» ≡ true → leaving_of R m ≡ on_slot (find (conn_of m).table R) (λ i. last_at m.waits i) false
   unfolding leaving_of
@@ -220,8 +220,8 @@ module _ (R : ℕ) (m : QueueMemory) where
 
   waits_slot : (s : Slot) → waits_in queueing_receiver waiting_queue (there s) ≡ on_slot s (λ i. atoms_in (wait_at m i)) []
   unfolding waits_in
-  waits_slot (Slot.At i) = refl
-  waits_slot Slot.Nowhere = refl
+  waits_slot (Some i) = refl
+  waits_slot None = refl
 
   waits_open : (conn_of m).«open» ≡ true → waits_of R m ≡ on_slot (find (conn_of m).table R) (λ i. atoms_in (wait_at m i)) []
   unfolding waits_of
@@ -239,8 +239,8 @@ module _ (R : ℕ) (m : QueueMemory) where
 
   core_slot : (s : Slot) → core_of queueing_receiver waiting_queue (there s) ≡ on_slot s (λ i. some (held_at (conn_of m).table m.memory.store i)) none
   unfolding core_of
-  core_slot (Slot.At i) = refl
-  core_slot Slot.Nowhere = refl
+  core_slot (Some i) = refl
+  core_slot None = refl
 
   held_open : (conn_of m).«open» ≡ true → Run.request_of R m.memory ≡ on_slot (find (conn_of m).table R) (λ i. some (held_at (conn_of m).table m.memory.store i)) none
   unfolding Run.request_of

@@ -1,12 +1,11 @@
 -- Straight calls on the whole state are the machine's: refused because of what waits, or as before.
-use Rattle.std.specs.Prelude.{◌≡◌, refl, List, [], ◌∷◌, ◌++◌, true, ℕ, length}
+use Rattle.std.specs.Prelude.{◌≡◌, refl, List, [], ◌∷◌, ◌++◌, true, ℕ, length, Some}
 use Rattle.std.proofs.Math.Path.{ap, sym, subst}
 use Rattle.std.proofs.Common.{ap₂, ◌∙◌}
 use Rattle.std.proofs.Math.Option.{Option, none, some}
 use Rattle.machine.specs.Slots.{Vacant, HeldBy}
 use Rattle.machine.specs.Timeline.{RequestCall, CallItem}
 use Rattle.machine.specs.Machine.{Slots, Reading, Open, CallOutcome, Stays, Retires, Leaves, Closes, Observation, RequestEvent, NoticeEvent, CloseEvent, CountAnswer, CallAnswer, call_decided, request_called, on_item, state_after, observations, as_list}
-use Rattle.connection.specs.declared.state.Slot.{Slot}
 use Rattle.connection.specs.Request.{Held}
 use Rattle.connection.specs.Slots.{find}
 use Rattle.connection.specs.Arguments.{ValueIs, Argument, Answer, RepliedWith}
@@ -126,7 +125,7 @@ as_before m id a = record { left = with_memory m (called m.memory id a).memory; 
 abbrev pub as_is : QueueMemory → Answer → QueueResult
 as_is m n = record { left = m; answer = D.Straightly n }
 
-module _ (m : QueueMemory) (g : Good m) (is_open : (conn_of m).«open» ≡ true) (id i : ℕ) (found : find (conn_of m).table id ≡ Slot.At i) where
+module _ (m : QueueMemory) (g : Good m) (is_open : (conn_of m).«open» ≡ true) (id i : ℕ) (found : find (conn_of m).table id ≡ Some i) where
   abbrev z : QueueSteady m
   z = g.steady
 

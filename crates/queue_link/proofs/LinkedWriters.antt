@@ -1,12 +1,11 @@
 -- Straight say, end and finish on the whole state are the machine's: row 5 while END waits, row 10 last.
-use Rattle.std.specs.Prelude.{◌≡◌, List, [], ◌∷◌, Bool, not, ℕ, ◌<◌, length, eqb, ltb, if◌then◌else◌}
+use Rattle.std.specs.Prelude.{◌≡◌, List, [], ◌∷◌, Bool, not, ℕ, ◌<◌, length, eqb, ltb, if◌then◌else◌, Some}
 use Rattle.std.proofs.Math.Path.{refl, ap, ap₂}
 use Rattle.std.proofs.Common.{sym, ◌∙◌, inr}
 use Rattle.std.proofs.Math.Bool.{true, false}
 use borrow.Author.Tests.{eqb-true, eq-eqb, eqb-false}
 use Rattle.wire.specs.Test.{by_test}
 use Rattle.machine.specs.Machine.{Stays, Leaves, Closes}
-use Rattle.connection.specs.declared.state.Slot.{Slot}
 use Rattle.connection.specs.declared.answer.Output.{Output}
 use Rattle.connection.specs.Sizes.{SLOTS, STORE}
 use Rattle.connection.specs.Request.{Held}
@@ -54,7 +53,7 @@ finish_refusal_lem keep h w = by_test (eqb w.refusal 0) (λ e. rw e (go keep (sy
     go true e = e
     go false e = e
 
-module _ (m : QueueMemory) (g : Good m) (is_open : (conn_of m).«open» ≡ true) (id i : ℕ) (found : find (conn_of m).table id ≡ Slot.At i) where
+module _ (m : QueueMemory) (g : Good m) (is_open : (conn_of m).«open» ≡ true) (id i : ℕ) (found : find (conn_of m).table id ≡ Some i) where
   abbrev z : QueueSteady m
   z = g.steady
 

@@ -1,5 +1,6 @@
 -- What was written of R in calls, turns and whole runs.
-use Rattle.std.specs.Prelude.{◌≡◌, Bool, not, ℕ, zero, suc, ◌*◌, ◌≤◌, ◌<◌, get_or, take, eqb, ltb, if◌then◌else◌}
+use Rattle.connection.specs.Slots.{Slot}
+use Rattle.std.specs.Prelude.{◌≡◌, Bool, not, ℕ, zero, suc, ◌*◌, ◌≤◌, ◌<◌, get_or, take, eqb, ltb, if◌then◌else◌, Some, None}
 use Rattle.std.proofs.Math.Path.{refl, ap, sym, subst}
 use Rattle.std.proofs.Common.{ap₂, ◌∙◌, arith, length-append, eqb-true, ltb-false}
 use mathlib.Core.List.{List, [], ◌∷◌, ◌++◌, flatten, append-nil}
@@ -21,7 +22,6 @@ use Rattle.machine.proofs.RunLaws.{observations_append, observed_append}
 use Rattle.machine_queue.proofs.Appends.{written_all_append}
 use Rattle.machine_queue.specs.Waiting.{written_in, written_all}
 use Rattle.connection.specs.declared.request.Request.{Request}
-use Rattle.connection.specs.declared.state.Slot.{Slot}
 use Rattle.connection.specs.Sizes.{SLOTS, STORE}
 use Rattle.connection.specs.Codes.{output_type}
 use Rattle.connection.specs.Slots.{request_at, find}
@@ -86,7 +86,7 @@ step_writes R f (CallAnswer id a n v w ∷ os) = step_writes R f os
 -- ---- a call
 module _ (R : ℕ) (m : QueueMemory) (k : Fine m) where
   -- the id of an active request is a number of two bytes
-  pub found_below : (id i : ℕ) → (conn_of m).«open» ≡ true → find (conn_of m).table id ≡ Slot.At i → id < 65536
+  pub found_below : (id i : ℕ) → (conn_of m).«open» ≡ true → find (conn_of m).table id ≡ Some i → id < 65536
   found_below id i o f =
       let z = k.good.steady in
       let y = k.good.roomy in
@@ -102,12 +102,12 @@ module _ (R : ℕ) (m : QueueMemory) (k : Fine m) where
       subst (λ s. Own R id (told_bytes R (answer_in (on_item queueing_receiver s (CallItem (RequestCall id (asked a)))).1))) (sym shut) (own_refusal_lem R 1 id a))
     where
       go : (conn_of m).«open» ≡ true → (s : Slot) → find (conn_of m).table id ≡ s → Own R id (told_bytes R (answer_in (on_item queueing_receiver (loaded_queue m) (CallItem (RequestCall id (asked a)))).1))
-      go o Slot.Nowhere f =
+      go o None f =
           let T = loaded_slots (conn_of m).table m.memory.store in
           let there : loaded_queue m ≡ Open (lift_slots (waiting_of m) T) (lift_reading (loaded_reading (conn_of m).frame m.memory.state.gathered)) = ap (lift_connection (waiting_of m)) (open_loaded m.memory o) in
           let e : lookup id (lift_slots (waiting_of m) T) ≡ Absent = lift_lookup_lem (waiting_of m) id T ∙ rw (lookup_loaded (conn_of m).table m.memory.store id, f) in
           subst (λ s. Own R id (told_bytes R (answer_in (on_item queueing_receiver s (CallItem (RequestCall id (asked a)))).1))) (sym there) (rw e (own_refusal_lem R 3 id a))
-      go o (Slot.At i) f =
+      go o (Some i) f =
           let z = k.good.steady in
           let y = k.good.roomy in
           let r = L.mine m z y o id i f in
@@ -150,7 +150,7 @@ pub record Pumps (R : ℕ) (m : QueueMemory) (id i : ℕ) : Type 0 where
   pub piece : Piece R id (pump_slot m i).bytes
   pub fits : length (pump_slot m i).bytes ≤ 520
 
-module _ (R : ℕ) (m : QueueMemory) (k : Fine m) (o : (conn_of m).«open» ≡ true) (id i : ℕ) (f : find (conn_of m).table id ≡ Slot.At i) where
+module _ (R : ℕ) (m : QueueMemory) (k : Fine m) (o : (conn_of m).«open» ≡ true) (id i : ℕ) (f : find (conn_of m).table id ≡ Some i) where
   abbrev mine : Queued
   mine = L.mine m k.good.steady k.good.roomy o id i f
 
@@ -196,7 +196,7 @@ module _ (R : ℕ) (m : QueueMemory) (k : Fine m) (o : (conn_of m).«open» ≡ 
       }
 
 -- ---- a turn
-pub slot_fine : (m : QueueMemory) (k : Fine m) (o : (conn_of m).«open» ≡ true) (id i : ℕ) (f : find (conn_of m).table id ≡ Slot.At i) → Fine (pump_slot m i).left
+pub slot_fine : (m : QueueMemory) (k : Fine m) (o : (conn_of m).«open» ≡ true) (id i : ℕ) (f : find (conn_of m).table id ≡ Some i) → Fine (pump_slot m i).left
 slot_fine m k o id i f =
     let e = P.serve_loaded m k.good.steady k.good.roomy o id i f in
     record {

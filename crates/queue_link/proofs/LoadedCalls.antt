@@ -1,7 +1,7 @@
 -- A queued call on the whole state is the machine's call of the request in its slot.
 use Rattle.std.proofs.Math.Path.{◌≡◌, refl, ap, sym}
 use Rattle.std.proofs.Common.{◌∙◌, arith}
-use Rattle.std.specs.Prelude.{List, [], ◌++◌, map, Bool, ℕ, ◌+◌, ◌≤◌, ◌<◌, set, if◌then◌else◌}
+use Rattle.std.specs.Prelude.{List, [], ◌++◌, map, Bool, ℕ, ◌+◌, ◌≤◌, ◌<◌, set, if◌then◌else◌, Some}
 use Rattle.std.proofs.Math.Bool.{true, false, not}
 use Rattle.std.proofs.Math.ListN.{length}
 use Rattle.std.proofs.Math.Dec.{eqb, ltb}
@@ -13,7 +13,6 @@ use Rattle.machine.specs.Machine.{Slots, Reading, Open, Stays, call_decided, req
 use Rattle.connection.specs.Refusal.{refusal}
 use Rattle.connection.specs.declared.request.Request.{Request}
 use Rattle.connection.specs.declared.state.Table.{Table}
-use Rattle.connection.specs.declared.state.Slot.{Slot}
 use Rattle.connection.specs.declared.answer.Output.{Output}
 use Rattle.connection.specs.Request.{Held}
 use Rattle.connection.specs.RequestCalls as Of
@@ -50,7 +49,7 @@ pub room_fits_of : (w : Wait) (content : List ℕ) → has_room_for w content �
 unfolding has_room_for
 room_fits_of w content h = leb-true (w.count + length content) ROOM h
 
-module _ (m : QueueMemory) (z : QueueSteady m) (y : Roomy m) (is_open : (conn_of m).«open» ≡ true) (id i : ℕ) (found : find (conn_of m).table id ≡ Slot.At i) where
+module _ (m : QueueMemory) (z : QueueSteady m) (y : Roomy m) (is_open : (conn_of m).«open» ≡ true) (id i : ℕ) (found : find (conn_of m).table id ≡ Some i) where
   abbrev pub table : Table
   table = (conn_of m).table
 

@@ -1,5 +1,5 @@
 -- A record of the pump on the whole state is the machine's serve of the request in that slot.
-use Rattle.std.specs.Prelude.{◌≡◌, Bool, ℕ, ◌<◌, length, take, if◌then◌else◌}
+use Rattle.std.specs.Prelude.{◌≡◌, Bool, ℕ, ◌<◌, length, take, if◌then◌else◌, Some}
 use Rattle.std.proofs.Math.Path.{refl, ap, sym}
 use Rattle.std.proofs.Common.{ap₂, ◌∙◌, length-set}
 use mathlib.Core.List.{List, []}
@@ -11,7 +11,6 @@ use Rattle.record_writer.specs.Written.{record_bytes}
 use Rattle.machine.specs.Slots.{Vacant, HeldBy}
 use Rattle.machine.specs.Timeline.{RequestCall, CallItem}
 use Rattle.machine.specs.Machine.{Skip, ToBegin, ToQuery, ToSlot, Slots, Reading, AtHeader, PastHeader, Open, Closed, Leaves, Closes, target_without, reading_without, call_decided, on_item}
-use Rattle.connection.specs.declared.state.Slot.{Slot}
 use Rattle.machine_queue.specs.Pump.{slot_after}
 use Rattle.connection.specs.Sizes.{SLOTS}
 use Rattle.connection.specs.Request.{Held}
@@ -49,7 +48,7 @@ lift_without i (PastHeader (ToSlot j k) c p) = go (lib.Dec.eqb i j)
     go true = refl
     go false = refl
 
-module _ (m : QueueMemory) (z : QueueSteady m) (y : Roomy m) (is_open : (conn_of m).«open» ≡ true) (id i : ℕ) (found : find (conn_of m).table id ≡ Slot.At i) where
+module _ (m : QueueMemory) (z : QueueSteady m) (y : Roomy m) (is_open : (conn_of m).«open» ≡ true) (id i : ℕ) (found : find (conn_of m).table id ≡ Some i) where
   abbrev slots : Slots receiver
   slots = L.slots m z y is_open id i found
 

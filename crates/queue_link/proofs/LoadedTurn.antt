@@ -1,5 +1,5 @@
 -- A turn of the pump on the whole state is a list of the machine's serves.
-use Rattle.std.specs.Prelude.{◌≡◌, Bool, ℕ, zero, suc, ◌<◌, length, get_or, set, eqb, ltb, if◌then◌else◌}
+use Rattle.std.specs.Prelude.{◌≡◌, Bool, ℕ, zero, suc, ◌<◌, length, get_or, set, eqb, ltb, if◌then◌else◌, Some}
 use Rattle.std.proofs.Math.Path.{refl}
 use Rattle.std.proofs.Common.{ap, sym, ◌∙◌, subst, arith, eqb-true, ltb-true}
 use mathlib.Core.List.{List, [], ◌∷◌}
@@ -12,7 +12,6 @@ use Rattle.machine.specs.Machine.{Slots, state_after}
 use Rattle.machine.specs.Timeline.{RequestCall, CallItem, Item}
 use Rattle.machine_queue.specs.Pump.{slot_after, next_waiting}
 use Rattle.machine_queue.proofs.Pumping.{waiting_below}
-use Rattle.connection.specs.declared.state.Slot.{Slot}
 use Rattle.connection.specs.Sizes.{SLOTS}
 use Rattle.connection.specs.Request.{Held}
 use Rattle.connection.specs.Slots.{request_at, find}
@@ -69,7 +68,7 @@ pub record Good (m : QueueMemory) : Type 0 where
   pub steady : QueueSteady m
   pub roomy : Roomy m
 
-module _ (m : QueueMemory) (k : Good m) (is_open : (conn_of m).«open» ≡ true) (id i : ℕ) (found : find (conn_of m).table id ≡ Slot.At i) where
+module _ (m : QueueMemory) (k : Good m) (is_open : (conn_of m).«open» ≡ true) (id i : ℕ) (found : find (conn_of m).table id ≡ Some i) where
   abbrev z : QueueSteady m
   z = k.steady
 
@@ -215,7 +214,7 @@ waits_taken : (m : QueueMemory) (i : ℕ) → QueueSteady m → i < SLOTS → (c
 waits_taken m i z h o w = by_test (taken i (conn_of m).table.occupied) (λ e. e) (λ e. let q : ◌≡◌ {A = ℕ} 0 1 = cc (slot_free m i z o h e, w) in absurd (omega arith))
 
 -- and it is found
-pub waits_found_lem : (m : QueueMemory) (i : ℕ) → QueueSteady m → i < SLOTS → (conn_of m).«open» ≡ true → anything (wait_at m i) ≡ true → find (conn_of m).table (get_or (conn_of m).table.ids i 0) ≡ Slot.At i
+pub waits_found_lem : (m : QueueMemory) (i : ℕ) → QueueSteady m → i < SLOTS → (conn_of m).«open» ≡ true → anything (wait_at m i) ≡ true → find (conn_of m).table (get_or (conn_of m).table.ids i 0) ≡ Some i
 waits_found_lem m i z h o w =
     only_slot (conn_of m).table (shaped (conn_of m) z.steady.shape).table.distinct (get_or (conn_of m).table.ids i 0) i
     (record { low = h; slot_taken = waits_taken m i z h o w; has_id = refl })

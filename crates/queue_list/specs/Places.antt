@@ -1,6 +1,5 @@
 -- Where the answers of calls that read lie in the store, and reading on from a place, with what waits in shape.
-use Rattle.std.specs.Prelude.{ℕ, List, length, if◌then◌else◌}
-use Rattle.std.proofs.Math.Option.{Option, none}
+use Rattle.std.specs.Prelude.{ℕ, List, length, if◌then◌else◌, None, Option}
 use Rattle.connection.specs.declared.state.Conn.{Conn}
 use Rattle.call_list.specs.Listing.{listing}
 use Rattle.call_list.specs.Part.{value_place}
@@ -9,7 +8,7 @@ use Rattle.queue_admit.specs.Admission.{is_barred}
 
 -- where value's answer lies: none where the call is refused
 unfoldable pub queue_value_place : Conn → List ℕ → List ℕ → ℕ → List ℕ → Option ℕ
-queue_value_place c waits store id name = if is_barred waits c.table.occupied (length store) then none else value_place c store id name
+queue_value_place c waits store id name = if is_barred waits c.table.occupied (length store) then None else value_place c store id name
 
 -- where a request's list lies: at 0, without bytes, where the call is refused
 unfoldable pub queue_list_place : Conn → List ℕ → List ℕ → ℕ → ℕ

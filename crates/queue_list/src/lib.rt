@@ -2,28 +2,56 @@
 // lent beside the state: they answer as without a queue, but for row 9, which is wider.
 #![tactic(auto)]
 
-ghost use Rattle.std.specs.Prelude.{◌≡◌, List, ℕ};
+ghost use Rattle.std.specs.Prelude.{◌≡◌, List, ℕ, length, Ok, Err, if◌then◌else◌};
+ghost use Rattle.connection.specs.Sizes.{SLOTS};
+ghost use Rattle.connection.specs.declared.answer.Refusal.{Refusal};
 ghost use Rattle.call_count.specs.Answer.{counted_by};
 ghost use Rattle.call_request.specs.Answer.{request_by};
 ghost use Rattle.call_value.specs.Answer.{source_by, numbered_by};
 ghost use Rattle.call_list.specs.Part.{PartAt, PartOrElse};
 ghost use Rattle.call_walk.specs.Place.{read_by};
 ghost use Rattle.queue.specs.Calls.{lent, queue_value, queue_source, queue_pair, queue_walk, queue_request, queue_count};
+ghost use Rattle.queue.specs.Calls.{waits_fit};
+ghost use Rattle.queue_admit.specs.Admission.{is_barred};
 ghost use Rattle.queue_list.specs.Places.{queue_value_place, queue_list_place, queue_read_from};
 
-use call_count::{Count, active_count as count_alone};
-use call_request::{RequestAnswer, request_of as request_alone};
+use call_count::active_count as count_alone;
+use call_request::request_of as request_alone;
 use call_value::{
-    Numbered, Source, pair_at as pair_alone, value as value_alone, value_source as source_alone,
+    Source, pair_at as pair_alone, value as value_alone, value_source as source_alone,
 };
 use call_walk::{
-    ReadFrom, Walk, list_of as list_alone, list_refusal as refusal_alone, pair_from as from_alone,
+    Walk, list_of as list_alone, list_refusal as refusal_alone, pair_from as from_alone,
 };
 use connection::answer::Refusal;
+use connection::request::Request;
 use connection::state::Conn;
+use pairs::pair::{Pair, Read};
 use queue::sizes::WAITS;
 use queue_admit::is_barred;
 use wait_numbers::waits_fit;
+
+// Row 9's part on what waits, of a call that is not lent the store.
+fn fit(c: Conn, waits: &[u16; WAITS]) -> Result<(), Refusal>
+    ensures { result
+        ≡ (if waits_fit SLOTS waits.now c.table.occupied 0 then Ok tt else Err Refusal.OutOfShape) }
+{
+    if waits_fit(waits, c.table.occupied) {
+        return Ok(());
+    }
+    Err(Refusal::OutOfShape)
+}
+
+// The same of a call that is lent the store, if that has its size: before it comes row 2.
+fn heeded(c: Conn, waits: &[u16; WAITS], store: &[u8]) -> Result<(), Refusal>
+    ensures { result
+        ≡ (if is_barred waits.now c.table.occupied (length store.now) then Err Refusal.OutOfShape else Ok tt) }
+{
+    if is_barred(waits, c.table.occupied, store.len()) {
+        return Err(Refusal::OutOfShape);
+    }
+    Ok(())
+}
 
 // The value of the first pair with that name, as a part of the store; the fallback where there is none, and where
 // the call is refused (2, 9, 1, 3, 4).
@@ -48,25 +76,31 @@ pub fn value<'a>(
 }
 
 // Where value finds its answer, or why it is refused.
-pub fn value_source(c: Conn, waits: &[u16; WAITS], store: &[u8], id: u16, name: &[u8]) -> Source
+pub fn value_source(
+    c: Conn,
+    waits: &[u16; WAITS],
+    store: &[u8],
+    id: u16,
+    name: &[u8],
+) -> Result<Source, Refusal>
     ensures { (gathered marks queue : List ℕ) → source_by result
         ≡ queue_source (lent c gathered store.now waits.now marks queue) id name.now }
 {
-    if is_barred(waits, c.table.occupied, store.len()) {
-        return Source::Refused(Refusal::OutOfShape);
-    }
-    source_alone(c, store, id, name)
+    heeded(c, waits, store).and(source_alone(c, store, id, name))
 }
 
 // The pair of number k, counted from 0. Refusals 2, 9, 1, 3, 4, 7.
-pub fn pair_at(c: Conn, waits: &[u16; WAITS], store: &[u8], id: u16, k: usize) -> Numbered
+pub fn pair_at(
+    c: Conn,
+    waits: &[u16; WAITS],
+    store: &[u8],
+    id: u16,
+    k: usize,
+) -> Result<Pair, Refusal>
     ensures { (gathered marks queue : List ℕ) → numbered_by result
         ≡ queue_pair (lent c gathered store.now waits.now marks queue) id k }
 {
-    if is_barred(waits, c.table.occupied, store.len()) {
-        return Numbered::Refused(Refusal::OutOfShape);
-    }
-    pair_alone(c, store, id, k)
+    heeded(c, waits, store).and(pair_alone(c, store, id, k))
 }
 
 // The list of the request that a call names, as the part of the store that it is; an empty part when refused.
@@ -76,8 +110,7 @@ pub fn list_of<'a>(c: Conn, waits: &[u16; WAITS], store: &'a [u8], id: u16) -> &
         × PartAt store.entry result (queue_list_place c waits.now store.now id) }
 {
     if is_barred(waits, c.table.occupied, store.len()) {
-        let z: usize = 0;
-        return &store[z..z];
+        return &store[..0];
     }
     list_alone(c, store, id)
 }
@@ -101,46 +134,40 @@ pub fn walk_pairs<'a>(c: Conn, waits: &[u16; WAITS], store: &'a [u8], id: u16) -
         × PartAt store.entry result.list (queue_list_place c waits.now store.now id)
         × (result.place ≡ 0) }
 {
-    let list = list_of(c, waits, store, id);
-    let refusal = list_refusal(c, waits, store, id);
     Walk {
-        list,
+        list: list_of(c, waits, store, id),
         place: 0,
-        refusal,
+        refusal: list_refusal(c, waits, store, id),
     }
 }
 
 // Reading on from a place of a request's list, for callers that hold a store and a number and no walk. Refused as the
 // walk is (2, 9, 1, 3, 4).
-pub fn pair_from(c: Conn, waits: &[u16; WAITS], store: &[u8], id: u16, place: usize) -> ReadFrom
+pub fn pair_from(
+    c: Conn,
+    waits: &[u16; WAITS],
+    store: &[u8],
+    id: u16,
+    place: usize,
+) -> Result<Read, Refusal>
     ensures { read_by result ≡ queue_read_from c waits.now store.now id place }
 {
-    if is_barred(waits, c.table.occupied, store.len()) {
-        return ReadFrom::Refused(Refusal::OutOfShape);
-    }
-    from_alone(c, store, id, place)
+    heeded(c, waits, store).and(from_alone(c, store, id, place))
 }
 
 // The request of an id: its id, the length of its list, and its state. From a queued finish until END is written it is
 // spent, and the streams whose ends wait are ended. Refusals 9, 1, 3.
-pub fn request_of(c: Conn, waits: &[u16; WAITS], id: u16) -> RequestAnswer
+pub fn request_of(c: Conn, waits: &[u16; WAITS], id: u16) -> Result<Request, Refusal>
     ensures { (gathered store marks queue : List ℕ) → request_by result
         ≡ queue_request (lent c gathered store waits.now marks queue) id }
 {
-    let t = c.table;
-    if waits_fit(waits, t.occupied) {
-        return request_alone(c, id);
-    }
-    RequestAnswer::Refused(Refusal::OutOfShape)
+    fit(c, waits).and(request_alone(c, id))
 }
 
 // The number of active requests (rows 9 and 1).
-pub fn active_count(c: Conn, waits: &[u16; WAITS]) -> Count
+pub fn active_count(c: Conn, waits: &[u16; WAITS]) -> Result<u32, Refusal>
     ensures { (gathered store marks queue : List ℕ) → counted_by result
         ≡ queue_count (lent c gathered store waits.now marks queue) }
 {
-    if waits_fit(waits, c.table.occupied) {
-        return count_alone(c);
-    }
-    Count::Refused(Refusal::OutOfShape)
+    fit(c, waits).and(count_alone(c))
 }

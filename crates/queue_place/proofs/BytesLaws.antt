@@ -1,11 +1,10 @@
 -- The bytes of the store at the place that is told are those that `value` answers, or those of the walk.
-use Rattle.std.specs.Prelude.{ℕ, zero, suc, ◌+◌, ◌-◌, ◌≤◌, ◌≡◌, refl, List, [], ◌∷◌, length, take, drop}
+use Rattle.std.specs.Prelude.{ℕ, zero, suc, ◌+◌, ◌-◌, ◌≤◌, ◌≡◌, refl, List, [], ◌∷◌, length, take, drop, Some, None, Option}
 use Rattle.std.proofs.Common.{sym, ap, ◌∙◌, arith, take-take, drop-drop}
 use Rattle.std.proofs.Math.Bool.{true, false}
 use Rattle.wire.specs.Test.{◌=?◌, by_test}
 use Rattle.pairs.specs.Pair.{value_of}
 use Rattle.pairs.specs.declared.pair.Pair.{Pair}
-use Rattle.pair_list.specs.declared.Found.{Found}
 use Rattle.pair_list.specs.List.{first_named}
 use Rattle.pair_list.proofs.ListLaws.{first_within}
 use Rattle.call_list.specs.Listing.{Listing, part_of, listing}
@@ -76,7 +75,7 @@ module _ (m : QueueMemory) (id : ℕ) where
       let z : false ≡ true = simp (source_free m id name t, source_listed (conn_of m) store id name, u) at e in
       apart z))
     where
-      there : (p : Pair) → first_named list name ≡ Found.At p
+      there : (p : Pair) → first_named list name ≡ Some p
           → Holds store (lies_at (listed.from + p.value) (length (value_of list p))) (value_of list p)
       there p f =
           let w = listing_within (conn_of m) store id in
@@ -90,9 +89,9 @@ module _ (m : QueueMemory) (id : ℕ) where
             same = rw n (sym (part_of_part store listed.from k p.value p.value_len fits));
           }
 
-      look : barred m ≡ false → (listed.refusal =? 0) ≡ true → (f : Found) → first_named list name ≡ f
+      look : barred m ≡ false → (listed.refusal =? 0) ≡ true → (f : Option Pair) → first_named list name ≡ f
           → Holds store (value_lies m id name) (queue_value m id name fallback)
-      look t u (Found.At p) f =
+      look t u (Some p) f =
           simp (
             t,
             source_free m id name t,
@@ -105,6 +104,6 @@ module _ (m : QueueMemory) (id : ℕ) where
             f,
           )
           (there p f)
-      look t u Found.Nothing f =
+      look t u None f =
           let z : false ≡ true = simp (source_free m id name t, source_listed (conn_of m) store id name, u, f) at e in
           apart z

@@ -1,12 +1,11 @@
 -- Where a value and a list lie, by whether the call is barred, and by what is listed.
-use Rattle.std.specs.Prelude.{ℕ, ◌+◌, ◌-◌, ◌≤◌, ◌≡◌, true, false, take, drop}
+use Rattle.std.specs.Prelude.{ℕ, ◌+◌, ◌-◌, ◌≤◌, ◌≡◌, true, false, take, drop, Some, None}
 use Rattle.std.proofs.Common.{subst, arith, length-take, length-drop}
 use mathlib.Core.List.{List, []}
 use Rattle.std.proofs.Math.ListN.{length}
 use Rattle.codes.proofs.Laws.{refusal_some}
 use Rattle.pairs.specs.Pair.{value_of}
 use Rattle.pairs.specs.declared.pair.Pair.{Pair}
-use Rattle.pair_list.specs.declared.Found.{Found}
 use Rattle.pair_list.specs.List.{first_named}
 use Rattle.pair_list.proofs.ListLaws.{first_within}
 use Rattle.connection.specs.declared.answer.Refusal.{Refusal}
@@ -68,12 +67,12 @@ module _ (m : QueueMemory) (id : ℕ) where
         simp (walk_free m id free, walk_listed (conn_of m) store id, l, free, n)
 
     -- No pair of that name in it.
-    pub value_absent : (name : List ℕ) → first_named list name ≡ Found.Nothing → value_lies m id name ≡ nowhere 0
+    pub value_absent : (name : List ℕ) → first_named list name ≡ None → value_lies m id name ≡ nowhere 0
     unfolding value_lies
     value_absent name f = simp (source_free m id name free, source_listed (conn_of m) store id name, l, f)
 
     -- A pair of that name: its value lies in the list, and so in the store.
-    pub value_lies_lem : (name : List ℕ) (p : Pair) → first_named list name ≡ Found.At p
+    pub value_lies_lem : (name : List ℕ) (p : Pair) → first_named list name ≡ Some p
         → value_lies m id name ≡ lies_at (from + p.value) p.value_len
     unfolding value_lies queue_value_place value_place
     value_lies_lem name p f =

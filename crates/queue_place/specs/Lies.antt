@@ -1,12 +1,11 @@
 -- Where the value of a name, and a request's list, lie in the store: for callers that cannot be handed a part of it.
-use Rattle.std.specs.Prelude.{ℕ, Bool, true, false, List, [], length, if◌then◌else◌}
-use Rattle.std.proofs.Math.Option.{Option, none, some}
+use Rattle.std.specs.Prelude.{ℕ, Bool, true, false, List, [], length, if◌then◌else◌, Some, None, Ok, Err, Result, Option}
 use Rattle.wire.specs.Test.{◌=?◌}
 use Rattle.connection.specs.Codes.{refusal_number}
 use Rattle.connection.specs.RequestCalls as Of
 use Rattle.queue.specs.Calls.{QueueMemory, conn_of, queue_value, queue_source, queue_walk}
 use Rattle.queue_list.specs.Places.{queue_value_place, queue_list_place}
-use Rattle.queue_place.specs.declared.Place.{Place}
+use Rattle.connection.specs.declared.answer.Refusal.{Refusal}
 
 -- The refusal, 0 for none; whether there is what was asked for; from which byte of the store on, and how many bytes.
 pub record Lies : Type 0 where
@@ -21,15 +20,15 @@ lies_at offset size = record { refusal = 0; found = true; offset = offset; size 
 abbrev pub nowhere : ℕ → Lies
 nowhere refusal = record { refusal = refusal; found = false; offset = 0; size = 0 }
 
-abbrev pub lies_by : Place → Lies
-lies_by (Place.At offset size) = lies_at offset size
-lies_by Place.Nothing = nowhere 0
-lies_by (Place.Refused r) = nowhere (refusal_number r)
+abbrev pub lies_by : (Result (Option (ℕ × ℕ)) Refusal) → Lies
+lies_by (Ok (Some (offset, size))) = lies_at offset size
+lies_by (Ok None) = nowhere 0
+lies_by (Err r) = nowhere (refusal_number r)
 
 -- a place that there is
 abbrev pub placed : Option ℕ → ℕ
-placed (some place) = place
-placed none = 0
+placed (Some place) = place
+placed None = 0
 
 -- what was found in the store, in the fallback, or not at all
 abbrev pub by_source : Of.Source → Lies → Lies

@@ -1,11 +1,11 @@
 -- A turn goes on: one record more, or nothing waits.
+use Rattle.connection.specs.Slots.{Slot}
 use Rattle.std.specs.Prelude.{◌≡◌, refl, ℕ, suc, ◌+◌, ◌*◌, ◌-◌, ◌≤◌, ◌<◌, List, [], length, get_or}
 use Rattle.std.proofs.Common.{sym, ap, ◌∙◌, subst, arith}
 use Rattle.std.proofs.Math.Option.{none, some}
 use Rattle.wire.specs.Buffer.{put_at}
 use Rattle.wire.proofs.BufferLaws.{put_length}
 use Rattle.connection.specs.declared.state.Conn.{Conn}
-use Rattle.connection.specs.declared.state.Slot.{Slot}
 use Rattle.connection.specs.Sizes.{SLOTS}
 use Rattle.queue_slot.specs.Wait.{anything}
 use Rattle.queue.specs.Numbers.{NEXT}

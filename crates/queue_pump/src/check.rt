@@ -11,19 +11,15 @@ use connection::answer::Refusal;
 use connection::sizes::STORE;
 use connection::state::Conn;
 use queue::sizes::{PUMPED, QUEUE, WAITS};
-use request_output::Check;
 use wait_numbers::waits_fit;
 
 // Row 9: the state and what waits are in shape.
 pub fn is_fit<'a>(c: Conn, waits: &'a [u16; WAITS]) -> bool
     ensures { result ≡ (in_shape c and waits_fit SLOTS waits.now c.table.occupied 0) }
 {
-    let t = c.table;
-    let f = c.frame;
-    if in_shape(&t.ids, &t.lengths, t.occupied, f) {
-        return waits_fit(waits, t.occupied);
-    }
-    false
+    let table = c.table;
+    in_shape(&table.ids, &table.lengths, table.occupied, c.frame)
+        && waits_fit(waits, table.occupied)
 }
 
 // Rows 2, 9, 1 and 6. The last is tested as a quotient, so that no product can overflow.
@@ -34,23 +30,23 @@ pub fn pump_check(
     open: bool,
     out: usize,
     allowance: usize,
-) -> Check
+) -> Result<(), Refusal>
     ensures { check_number result ≡ pump_rows store queue fits «open» out allowance }
 {
     if store != STORE {
-        return Check::Refused(Refusal::StoreSize);
+        return Err(Refusal::StoreSize);
     }
     if queue != QUEUE {
-        return Check::Refused(Refusal::StoreSize);
+        return Err(Refusal::StoreSize);
     }
     if !fits {
-        return Check::Refused(Refusal::OutOfShape);
+        return Err(Refusal::OutOfShape);
     }
     if !open {
-        return Check::Refused(Refusal::Closed);
+        return Err(Refusal::Closed);
     }
     if out / PUMPED < allowance {
-        return Check::Refused(Refusal::NoRoom);
+        return Err(Refusal::NoRoom);
     }
-    Check::Passed
+    Ok(())
 }

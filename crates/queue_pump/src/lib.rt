@@ -24,14 +24,13 @@ use conn_frame::closed;
 use connection::answer::Output;
 use connection::request::Request;
 use connection::sizes::AREA;
-use connection::state::{Conn, Slot};
+use connection::state::Conn;
 use queue::answer::{PumpResult, Pumped};
 use queue::sizes::{QUEUE, ROOM, WAITS};
 use queue_slot::{Ends, Numbers};
 use record::body::end_body;
 use record::names;
 use record_writer::write_record;
-use request_output::Check;
 use slot_table::request_at;
 use wait_numbers::{first_slot, keep_waits, next_waiting, numbers_at, put_next, slot_after};
 use wait_slot::{forget_slot, put_front, run_at, stream_at, take_run};
@@ -80,29 +79,20 @@ fn serve_data(
         (λ m. beside m waits.new marks.new queue.new)
         out.old out.new at result }
 {
-    let k = run_at(marks, i, count);
+    let run = run_at(marks, i, count);
     let kind = output_type(stream_at(marks, i));
-    let a = i * ROOM;
-    let e = a + k;
-    let next = write_record(out, at, kind, id, &queue[a..e]);
-    take_run(waits, marks, queue, i, k);
+    let start = i * ROOM;
+    let next = write_record(out, at, kind, id, &queue[start..start + run]);
+    take_run(waits, marks, queue, i, run);
     next
 }
 
 // END alone waits: no end, no data.
+#[tactic(auto, unfolding(crate::specs::Serving::only_end))]
 fn only_end(front: Ends, count: usize, last: bool) -> bool
     ensures { result ≡ only_end front count last }
 {
-    if count != 0 {
-        return false;
-    }
-    match front {
-        Ends::None => last,
-        Ends::Out => false,
-        Ends::Err => false,
-        Ends::OutErr => false,
-        Ends::ErrOut => false,
-    }
+    count == 0 && matches!(front, Ends::None) && last
 }
 
 // What waits first in slot i by these numbers, which is not END, is written and taken out.
@@ -123,18 +113,16 @@ fn serve_front(
         (λ m. beside m waits.new marks.new queue.new)
         out.old out.new at result }
 {
-    let front = n.front;
-    let count = n.count;
-    match front {
+    match n.front {
         Ends::Out => serve_end(waits, i, Ends::None, Output::Stdout, id, out, at),
         Ends::Err => serve_end(waits, i, Ends::None, Output::Stderr, id, out, at),
         Ends::OutErr => serve_end(waits, i, Ends::Err, Output::Stdout, id, out, at),
         Ends::ErrOut => serve_end(waits, i, Ends::Out, Output::Stderr, id, out, at),
         Ends::None => {
-            if count == 0 {
+            if n.count == 0 {
                 return at;
             }
-            serve_data(waits, marks, queue, i, count, id, out, at)
+            serve_data(waits, marks, queue, i, n.count, id, out, at)
         }
     }
 }
@@ -165,24 +153,20 @@ fn serve_last(
 {
     let body = end_body(status, names::REQUEST_COMPLETE);
     let next = write_record(out, at, names::END_REQUEST, r.id, &body);
-    let state = r.state;
-    if state.keep {
-        let a = i * AREA;
-        let e = a + AREA;
-        clear(&mut store[a..e]);
+    if r.state.keep {
+        let start = i * AREA;
+        clear(&mut store[start..start + AREA]);
         forget_slot(waits, i);
-        let conn = release(c, i);
         return One {
-            conn: conn,
-            next: next,
+            conn: release(c, i),
+            next,
         };
     }
     clear(store);
     keep_waits(waits, true, false);
-    let conn = closed();
     One {
-        conn: conn,
-        next: next,
+        conn: closed(),
+        next,
     }
 }
 
@@ -204,20 +188,14 @@ fn serve_slot(
         (lent result.conn gathered store.new waits.new marks.new queue.new)
         out.old out.new at result.next }
 {
-    let t = c.table;
-    let r = request_at(t, i);
-    let after = slot_after(i);
-    put_next(waits, after as u16);
+    let r = request_at(c.table, i);
+    put_next(waits, slot_after(i) as u16);
     let n = numbers_at(waits, i);
-    let front = n.front;
-    if only_end(front, n.count, n.last) {
+    if only_end(n.front, n.count, n.last) {
         return serve_last(c, store, waits, i, r, n.status, out, at);
     }
     let next = serve_front(waits, marks, queue, i, n, r.id, out, at);
-    One {
-        conn: c,
-        next: next,
-    }
+    One { conn: c, next }
 }
 
 // A turn on its way: the connection, the records and bytes written, and how many records are still allowed, which is
@@ -244,25 +222,15 @@ fn pump_next(
         out.old result store.new waits.new marks.new queue.new
         out.new }
 {
-    let conn = t.conn;
-    let slot = next_waiting(waits, first_slot(waits));
-    match slot {
-        Slot::Nowhere => Turning {
-            conn: conn,
-            records: t.records,
-            bytes: t.bytes,
-            left: 0,
-        },
-        Slot::At(i) => {
-            let records = t.records + 1;
-            let left = t.left - 1;
-            let one = serve_slot(conn, store, waits, marks, queue, i, out, t.bytes);
-            let after = one.conn;
+    match next_waiting(waits, first_slot(waits)) {
+        None => Turning { left: 0, ..t },
+        Some(i) => {
+            let one = serve_slot(t.conn, store, waits, marks, queue, i, out, t.bytes);
             Turning {
-                conn: after,
-                records: records,
+                conn: one.conn,
+                records: t.records + 1,
                 bytes: one.next,
-                left: left,
+                left: t.left - 1,
             }
         }
     }
@@ -274,14 +242,13 @@ fn answer(t: Turning) -> Pumped
         → pumped_by result gathered store waits marks queue out
         ≡ wrote t.records t.bytes (lent t.conn gathered store waits marks queue) out }
 {
-    let conn = t.conn;
-    if conn.open {
+    if t.conn.open {
         return Pumped {
             result: PumpResult::Open {
                 records: t.records,
                 bytes: t.bytes,
             },
-            conn: conn,
+            conn: t.conn,
         };
     }
     Pumped {
@@ -289,7 +256,7 @@ fn answer(t: Turning) -> Pumped
             records: t.records,
             bytes: t.bytes,
         },
-        conn: conn,
+        conn: t.conn,
     }
 }
 
@@ -342,13 +309,18 @@ pub fn pump(
         allowance out.old }
 {
     sized(waits, marks);
-    let fits = is_fit(c, waits);
-    let check = pump_check(store.len(), queue.len(), fits, c.open, out.len(), allowance);
-    match check {
-        Check::Refused(why) => Pumped {
+    match pump_check(
+        store.len(),
+        queue.len(),
+        is_fit(c, waits),
+        c.open,
+        out.len(),
+        allowance,
+    ) {
+        Err(why) => Pumped {
             result: PumpResult::Refused(why),
             conn: c,
         },
-        Check::Passed => turn(c, store, waits, marks, queue, allowance, out),
+        Ok(()) => turn(c, store, waits, marks, queue, allowance, out),
     }
 }

@@ -1,6 +1,7 @@
 -- With a queue too the call up to the next event stands for steps of a run: what it leaves, tells and uses is what the
 -- steps leave, tell and use. Row 9 with what waits is tested once in the call and at each of the steps; that comes to
 -- the same, since a step after which another follows takes and frees no slot and leaves the connection open.
+use Rattle.connection.specs.Slots.{Slot}
 use Rattle.std.specs.Prelude.{◌≡◌, refl, Bool, true, false, List, [], ◌∷◌, ◌++◌, map, take, drop, if◌then◌else◌}
 use Rattle.std.proofs.Common.{sym, ap, ap₂, ◌∙◌, append-nil, arith, length-drop, drop-drop, take-add}
 use Prim.Native.Nat.{ℕ, zero, suc, ◌+◌, ◌-◌, ◌≤◌, ◌<◌}
@@ -11,7 +12,6 @@ use Rattle.wire.proofs.Bytes.{AllBytes, drop_bytes}
 use Rattle.record.specs.Split.{split_in, split}
 use Rattle.machine.specs.Timeline.{Item, byte_items}
 use Rattle.machine.proofs.TimelineLaws.{byte_items_append}
-use Rattle.connection.specs.declared.state.Slot.{Slot}
 use Rattle.connection.specs.Sizes.{SLOTS, STORE}
 use Rattle.connection.specs.Event.{Event}
 use Rattle.connection.specs.Bytewise.{notes}

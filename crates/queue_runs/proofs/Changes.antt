@@ -3,7 +3,7 @@
 -- It changes nothing; or it is the step, or the straight call, that is there without a queue; or it puts back a request
 -- with the same id and list, and what waits of it; or the pump writes one record after another. A law about all
 -- operations is a match on these cases.
-use Rattle.std.specs.Prelude.{◌≡◌, refl, List, [], ◌∷◌, true, false, not, ℕ, zero, suc, ◌<◌, length, get_or, eqb}
+use Rattle.std.specs.Prelude.{◌≡◌, refl, List, [], ◌∷◌, true, false, not, ℕ, zero, suc, ◌<◌, length, get_or, eqb, Some}
 use Rattle.std.proofs.Common.{ap, sym, subst, eqb-true}
 use Rattle.std.proofs.Math.Option.{Option, none, some}
 use Rattle.std.proofs.lemmas.Bool.{not-false}
@@ -14,7 +14,6 @@ use Rattle.record_writer.specs.Written.{record_bytes}
 use Rattle.machine_queue.specs.Pump.{next_waiting}
 use Rattle.machine_queue.proofs.Pumping.{waiting_below}
 use Rattle.connection.specs.declared.request.Request.{Request}
-use Rattle.connection.specs.declared.state.Slot.{Slot}
 use Rattle.connection.specs.declared.answer.Output.{Output}
 use Rattle.connection.specs.Sizes.{SLOTS, STORE}
 use Rattle.connection.specs.Refusal.{Row, ◌when◌, refusal}
@@ -47,10 +46,10 @@ pub data Change (m : QueueMemory) : QueueOperation → QueueMemory → Type 0 wh
   -- the straight call without a queue
   Writes : (id : ℕ) (a : Argument) → (conn_of m).«open» ≡ true → Change m (CallFor id (D.Straight a)) (with_memory m (called m.memory id a).memory)
   -- queued say or end: the request of slot i and what waits there
-  Waits : (id i : ℕ) (a : D.Asking) → (conn_of m).«open» ≡ true → find (conn_of m).table id ≡ Slot.At i → (r : Request) (w : Wait) → SameList (request_at (conn_of m).table i) r
+  Waits : (id i : ℕ) (a : D.Asking) → (conn_of m).«open» ≡ true → find (conn_of m).table id ≡ Some i → (r : Request) (w : Wait) → SameList (request_at (conn_of m).table i) r
       → Change m (CallFor id a) (put_both m i r w)
   -- queued finish: the same, and the rest of its half-read record is skipped
-  Retires : (id i : ℕ) (a : D.Asking) → (conn_of m).«open» ≡ true → find (conn_of m).table id ≡ Slot.At i → (r : Request) (w : Wait) → SameList (request_at (conn_of m).table i) r
+  Retires : (id i : ℕ) (a : D.Asking) → (conn_of m).«open» ≡ true → find (conn_of m).table id ≡ Some i → (r : Request) (w : Wait) → SameList (request_at (conn_of m).table i) r
       → Change m (CallFor id a) (put_both (with_conn m (skipping (conn_of m) i)) i r w)
   -- a turn of the pump
   Turns : (allowance : ℕ) (buffer : List ℕ) → Change m (TurnWith allowance buffer) (turned allowance m).left
@@ -115,7 +114,7 @@ straight_change m id (ForFinish status buffer) =
 pub record Active (m : QueueMemory) (id : ℕ) : Type 0 where
   pub slot : ℕ
   pub is_open : (conn_of m).«open» ≡ true
-  pub found : find (conn_of m).table id ≡ Slot.At slot
+  pub found : find (conn_of m).table id ≡ Some slot
   pub at : T.slot_of m id ≡ slot
 
 pub active : (m : QueueMemory) (id : ℕ) → not (conn_of m).«open» ≡ false → not (is_found (find (conn_of m).table id)) ≡ false → Active m id

@@ -3,7 +3,8 @@
 -- A queued say, end or finish leaves the parameters of every request as they are, its own too, from every memory. So the
 -- list of a request stays through its queued finish. A turn of the pump leaves each request and its area as
 -- they are, or ends it: they go only with END, or with the connection.
-use Rattle.std.specs.Prelude.{◌≡◌, refl, List, ◌⊎◌, Bool, true, false, ℕ, ◌<◌, length, take, get_or}
+use Rattle.connection.specs.Slots.{Slot}
+use Rattle.std.specs.Prelude.{◌≡◌, refl, List, ◌⊎◌, Bool, true, false, ℕ, ◌<◌, length, take, get_or, Some, None}
 use Rattle.std.proofs.Common.{ap, ap₂, ◌∙◌, inl, inr}
 use Rattle.std.proofs.Math.Option.{Option, none, some}
 use Rattle.std.proofs.lemmas.List.{length-replicate}
@@ -11,7 +12,6 @@ use Rattle.wire.specs.Test.{by_test}
 use Rattle.wire.specs.Buffer.{zeros}
 use Rattle.connection.specs.declared.request.Request.{Request}
 use Rattle.connection.specs.declared.state.Table.{Table}
-use Rattle.connection.specs.declared.state.Slot.{Slot}
 use Rattle.connection.specs.Slots.{request_at, area_at, held_at, put_request, put_area, free_slot, find, on_slot}
 use Rattle.connection.specs.Sizes.{SLOTS, AREA}
 use Rattle.connection.specs.Calls as C
@@ -49,8 +49,8 @@ put_list R m i r same =
     here j = ap (λ (ls : List ℕ). take (get_or ls j 0) (area_at m.store j)) (lengths_stay t i r same)
 
     go : (s : Slot) → list_found (on_slot s (λ j. some (held_at (put_request t i r) m.store j)) none) ≡ list_found (on_slot s (λ j. some (held_at t m.store j)) none)
-    go (Slot.At j) = here j
-    go Slot.Nowhere = refl
+    go (Some j) = here j
+    go None = refl
 
 -- the rest of a record skipped
 skip_list : (R : ℕ) (m : Memory) (i : ℕ) → list_of_r R (skipped m i) ≡ list_of_r R m
@@ -111,10 +111,10 @@ freed_request R m i low k o = rw o (go (find (free_slot t i) R) refl)
     size = length-replicate (length (area_at m.store i)) 0 ∙ area_length m.store i k.steady.sizes.full low
 
     go : (s : Slot) → find (free_slot t i) R ≡ s → (in_slot (free_slot t i) store s ≡ in_slot t m.store (find t R)) ⊎ (in_slot (free_slot t i) store s ≡ none)
-    go Slot.Nowhere e = inr refl
-    go (Slot.At j) e =
+    go None e = inr refl
+    go (Some j) e =
         let h = free_holds t i R j (find_at (free_slot t i) R j e) in
-        let f : find t R ≡ Slot.At j = only_slot t (shaped m.state.conn k.steady.shape).table.distinct R j h.held in
+        let f : find t R ≡ Some j = only_slot t (shaped m.state.conn k.steady.shape).table.distinct R j h.held in
         let q = other_of_free t i j h.other in
         let a = area_of_other m.store i (zeros (length (area_at m.store i))) k.steady.sizes.full low size j h.other in
         inl (rw f (ap₂ (λ (r : Request) (x : List ℕ). some (record { request = r; area = x })) q a))

@@ -2,7 +2,7 @@
 --
 -- Whatever is asked of such a memory, no step, no call, straight or queued, and no turn of the pump is refused by 2 (a
 -- size is wrong) or by 9 (the state or what waits is not in shape). Every memory of a run is such a memory.
-use Rattle.std.specs.Prelude.{◌≡◌, List, [], ◌∷◌, Bool, true, false, ℕ, ◌*◌, length, eqb, if◌then◌else◌}
+use Rattle.std.specs.Prelude.{◌≡◌, List, [], ◌∷◌, Bool, true, false, ℕ, ◌*◌, length, eqb, if◌then◌else◌, Some, None, Option}
 use Rattle.std.proofs.Math.Path.{refl}
 use Rattle.std.proofs.Math.Bool.{not}
 use Rattle.std.proofs.Common.{arith, eq-eqb}
@@ -19,7 +19,6 @@ use Rattle.connection.specs.Step.{closed_conn}
 use Rattle.wire.specs.Buffer.{zeros}
 use Rattle.pair_list.specs.List as P
 use Rattle.pair_list.specs.List.{first_named}
-use Rattle.pair_list.specs.declared.Found.{Found}
 use Rattle.connection.specs.Calls as C
 use Rattle.connection.specs.Arguments.{Question, ValueOf, SourceOf, PairOf, WalkOf, Reply, ValueIs, SourceIs, PairAnswer, WalkIs, refused_reply, ForRead, ForSay, ForEnd, ForFinish, RepliedWith, Wrote, FinishedWith}
 use Rattle.connection.specs.Request.{Held, list_of}
@@ -33,6 +32,7 @@ use Rattle.queue.specs.Run.{Asking, queue_reply, queue_called}
 use Rattle.queue.proofs.ReplyLaws.{queue_replied_or_refused}
 use Rattle.queue_runs.proofs.Rows.{refused_by_lem}
 use Rattle.queue_runs.proofs.Changes.{step_rows, straight_rows, queued_rows}
+use Rattle.pairs.specs.declared.pair.Pair.{Pair}
 
 -- The state and what waits are in shape, and store and queue have their sizes.
 pub record Sound (m : QueueMemory) : Type 0 where
@@ -120,17 +120,17 @@ source_one : (h : Held) (name : List ℕ) → Allowed (source_number (Of.source_
 unfolding Of.source_in
 source_one h name = by_test (Of.no_list h.request) (λ t. rw t four_allowed) (λ t. rw t (go (first_named (list_of h) name)))
   where
-    go : (f : Found) → Allowed (source_number (Of.on_found f (λ p. Of.FromStore) Of.FromFallback))
-    go (Found.At p) = zero_allowed
-    go Found.Nothing = zero_allowed
+    go : (f : Option Pair) → Allowed (source_number (Of.on_found f (λ p. Of.FromStore) Of.FromFallback))
+    go (Some p) = zero_allowed
+    go None = zero_allowed
 
 pair_one : (h : Held) (k : ℕ) → Allowed (pair_refusal (Of.pair_in h k))
 unfolding Of.pair_in
 pair_one h k = by_test (Of.no_list h.request) (λ t. rw t four_allowed) (λ t. rw t (go (P.pair_number (list_of h) k)))
   where
-    go : (f : Found) → Allowed (pair_refusal (Of.on_found f Of.PairIs (Of.PairRefused 7)))
-    go (Found.At p) = zero_allowed
-    go Found.Nothing = (λ e. omega arith, λ e. omega arith)
+    go : (f : Option Pair) → Allowed (pair_refusal (Of.on_found f Of.PairIs (Of.PairRefused 7)))
+    go (Some p) = zero_allowed
+    go None = (λ e. omega arith, λ e. omega arith)
 
 walk_one : (h : Held) → Allowed (Of.walk_in h).refusal
 unfolding Of.walk_in

@@ -2,7 +2,8 @@
 --
 -- Then nothing of R waits, and R is not between its finish and its END; a step keeps it so; and no call is refused by
 -- 10, save a queued say of more than ROOM bytes. A whole turn of the pump makes it so.
-use Rattle.std.specs.Prelude.{◌≡◌, List, [], ◌∷◌, true, not, ℕ, ◌+◌, ◌*◌, ◌≤◌, ◌<◌, eqb, ltb}
+use Rattle.connection.specs.Slots.{Slot}
+use Rattle.std.specs.Prelude.{◌≡◌, List, [], ◌∷◌, true, not, ℕ, ◌+◌, ◌*◌, ◌≤◌, ◌<◌, eqb, ltb, Some, None}
 use Rattle.std.proofs.Math.Path.{refl}
 use Rattle.std.proofs.Common.{ap, sym, ◌∙◌, subst}
 use Rattle.std.proofs.Math.Bool.{false}
@@ -11,7 +12,6 @@ use Rattle.std.proofs.Math.ListN.{length}
 use Rattle.std.proofs.lemmas.List.{length-replicate}
 use borrow.Author.Tests.{eq-eqb, ne_eqb, le-leb, le-ltb, not-false}
 use Rattle.wire.specs.Test.{by_test, ◌<?◌}
-use Rattle.connection.specs.declared.state.Slot.{Slot}
 use Rattle.connection.specs.Sizes.{SLOTS, STORE}
 use Rattle.connection.specs.Refusal.{Row, ◌when◌, holds_in, refusal}
 use Rattle.connection.specs.RequestCalls as Of
@@ -62,8 +62,8 @@ unfolding waits_of wait_at
 none_of R m n = by_test (conn_of m).«open» (λ o. rw o (go (find (conn_of m).table R) refl)) (λ o. rw o)
   where
     go : (s : Slot) → find (conn_of m).table R ≡ s → on_slot s (λ i. atoms_in (wait_at m i)) [] ≡ []
-    go (Slot.At i) e = nothing_waits (wait_at m i) (n i (find_at (conn_of m).table R i e).low)
-    go Slot.Nowhere e = refl
+    go (Some i) e = nothing_waits (wait_at m i) (n i (find_at (conn_of m).table R i e).low)
+    go None e = refl
 
 -- And R is not between its finish and its END.
 pub none_leaving : (R : ℕ) (m : QueueMemory) → NothingWaits m → leaving_of R m ≡ false
@@ -74,8 +74,8 @@ none_leaving R m n = by_test (conn_of m).«open» (λ o. rw o (go (find (conn_of
     last i low = none_last (wait_at m i) (n i low)
 
     go : (s : Slot) → find (conn_of m).table R ≡ s → on_slot s (λ i. last_at m.waits i) false ≡ false
-    go (Slot.At i) e = last i (find_at (conn_of m).table R i e).low
-    go Slot.Nowhere e = refl
+    go (Some i) e = last i (find_at (conn_of m).table R i e).low
+    go None e = refl
 
 -- ---- a step
 -- Where nothing waits before a step, nothing waits behind it.

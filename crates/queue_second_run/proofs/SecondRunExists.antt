@@ -4,7 +4,8 @@
 -- in A, and not by 10. Shorten all queued says of R to ROOM bytes: A stays the same run, and its second run is
 -- isolated from it. So there the shortened say is refused as in A, or R is active no more; and so is the long one, by
 -- a row before 10.
-use Rattle.std.specs.Prelude.{◌≡◌, Bool, false, not, ◌⊎◌, ℕ, ◌≤◌, ◌<◌, length, take, leb, if◌then◌else◌}
+use Rattle.connection.specs.Slots.{Slot}
+use Rattle.std.specs.Prelude.{◌≡◌, Bool, false, not, ◌⊎◌, ℕ, ◌≤◌, ◌<◌, length, take, leb, if◌then◌else◌, Some, None}
 use Rattle.std.proofs.Math.Path.{refl, subst}
 use Rattle.std.proofs.Common.{ap, sym, ◌∙◌, inl, inr, arith, length-take}
 use mathlib.Core.List.{List, [], ◌∷◌, ◌++◌, map}
@@ -14,7 +15,6 @@ use Rattle.std.proofs.Math.Dec.{eqb}
 use borrow.Author.Tests.{eqb-true, eqb-false, eq-eqb, leb-true}
 use Rattle.wire.specs.Test.{by_test, ◌≤?◌, ◌=?◌}
 use Rattle.machine.specs.Timeline.{RequestCall, CountCall, Item, ByteItem, CallItem, byte_items, item_bytes, Scan, ScanHeader, scan_next, is_own, is_own_call, purge_from, purge}
-use Rattle.connection.specs.declared.state.Slot.{Slot}
 use Rattle.connection.specs.declared.answer.Output.{Output}
 use Rattle.connection.specs.Sizes.{STORE, QUERY}
 use Rattle.connection.specs.Bytewise.{Note, notes}
@@ -153,20 +153,20 @@ module _ (R : ℕ) where
 
 -- ---- the second run
 -- an id that is not active is refused by a row before 10
-absent_first : (m : QueueMemory) (id : ℕ) (o : Output) → find (conn_of m).table id ≡ Slot.Nowhere → eqb (first_refusal m id o) 0 ≡ false
+absent_first : (m : QueueMemory) (id : ℕ) (o : Output) → find (conn_of m).table id ≡ None → eqb (first_refusal m id o) 0 ≡ false
 unfolding first_refusal
 absent_first m id o e =
     by_test (eqb (first_refusal m id o) 0)
     (λ t. both_ways (not (is_found (find (conn_of m).table id))) (rw e) (let_through (first_rows m id o) 3 (eqb-true (first_refusal m id o) 0 t) refl)) (λ t. t)
 
 -- where there is no request of R, R is in no slot
-absent : (R : ℕ) (m : QueueMemory) → (conn_of m).«open» ≡ true → request_of R m.memory ≡ none → find (conn_of m).table R ≡ Slot.Nowhere
+absent : (R : ℕ) (m : QueueMemory) → (conn_of m).«open» ≡ true → request_of R m.memory ≡ none → find (conn_of m).table R ≡ None
 unfolding request_of
 absent R m o e = go (find (conn_of m).table R) (rw o at e)
   where
-    go : (s : Slot) → on_slot s (λ i. some (held_at (conn_of m).table m.memory.store i)) none ≡ none → s ≡ Slot.Nowhere
-    go (Slot.At i) x = let z : ◌≡◌ {A = ℕ} 0 1 = cc in absurd (omega arith)
-    go Slot.Nowhere x = refl
+    go : (s : Slot) → on_slot s (λ i. some (held_at (conn_of m).table m.memory.store i)) none ≡ none → s ≡ None
+    go (Some i) x = let z : ◌≡◌ {A = ℕ} 0 1 = cc in absurd (omega arith)
+    go None x = refl
 
 -- a refusal by a row before 10 is not by 10
 first_not_ten : (m : QueueMemory) (id : ℕ) (o : Output) → eqb (first_refusal m id o) 10 ≡ false

@@ -4,7 +4,7 @@
 -- one byte, end or END out of its slot and puts none in. So a turn that may write as many records as there are of
 -- these leaves nothing waiting; in a memory as runs have them there are at most 49,200.
 use Rattle.std.proofs.Math.Path.{◌≡◌}
-use Rattle.std.specs.Prelude.{refl, List, [], ◌∷◌, ◌++◌, map, Bool, ℕ, zero, suc, ◌*◌, ◌≤◌, ◌<◌, length, take, get_or, eqb}
+use Rattle.std.specs.Prelude.{refl, List, [], ◌∷◌, ◌++◌, map, Bool, ℕ, zero, suc, ◌*◌, ◌≤◌, ◌<◌, length, take, get_or, eqb, Some}
 use Rattle.std.proofs.Common.{ap, sym, ◌∙◌, subst, arith, length-append, length-take, eqb-true}
 use Rattle.std.proofs.Math.Option.{Option, none, some}
 use Rattle.std.proofs.Math.Bool.{true, false}
@@ -12,7 +12,6 @@ use Rattle.std.proofs.lemmas.Bool.{eqb-false}
 use Rattle.wire.specs.Test.{by_test}
 use Rattle.machine_queue.specs.Pump.{next_waiting}
 use Rattle.machine_queue.proofs.Pumping.{waiting_below, nobody_waits_lem}
-use Rattle.connection.specs.declared.state.Slot.{Slot}
 use Rattle.connection.specs.Sizes.{SLOTS}
 use Rattle.connection.specs.Slots.{request_at, find}
 use Rattle.connection.specs.Calls as C
@@ -149,7 +148,7 @@ module _ (m : QueueMemory) (g : Good m) (i : ℕ) (low : i < SLOTS) (w : slot_wa
   id = get_or (conn_of m).table.ids i 0
 
   -- it is found there
-  found : find (conn_of m).table id ≡ Slot.At i
+  found : find (conn_of m).table id ≡ Some i
   found = waits_found_lem m i g.steady low is_open w
 
   -- something waits there

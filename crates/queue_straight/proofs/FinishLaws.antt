@@ -1,5 +1,5 @@
 -- Finish, straight out, while something may wait: refused, or as without a queue.
-use Rattle.std.specs.Prelude.{ℕ, ◌<◌, ◌≤◌, ◌≡◌, refl, Bool, true, false, not, List, [], ◌∷◌, length}
+use Rattle.std.specs.Prelude.{ℕ, ◌<◌, ◌≤◌, ◌≡◌, refl, Bool, true, false, not, List, [], ◌∷◌, length, Ok, Err}
 use Rattle.std.proofs.Common.{sym, ap, ◌∙◌, arith, lt-ltb, le-ltb}
 use Rattle.wire.specs.Test.{◌<?◌, ◌=?◌}
 use Rattle.connection.specs.declared.state.Conn.{Conn}
@@ -11,7 +11,6 @@ use Rattle.connection.specs.RequestCalls as Of
 use Rattle.connection.specs.Slots.{request_at}
 use Rattle.connection.specs.Calls as C
 use Rattle.codes.proofs.Laws.{refusal_some}
-use Rattle.call_admit.specs.declared.Admitted.{Admitted}
 use Rattle.call_admit.specs.Admission.{admitted_by}
 use Rattle.call_finish.specs.declared.FinishResult.{FinishResult}
 use Rattle.call_finish.specs.Answer.{owed_length, finished_by}
@@ -54,11 +53,11 @@ module _ (c : Conn) (waits : List ℕ) (store : List ℕ) (id status : ℕ) (buf
   by_number why e = rw (← e) (simp (refusal_some why))
 
   -- by 2, 9, 1 or 3
-  pub finish_refused : (why : Refusal) → admitted_by (Admitted.Refused why) ≡ queue_lent_admission c waits store id
+  pub finish_refused : (why : Refusal) → admitted_by (Err why) ≡ queue_lent_admission c waits store id
       → finished_by (record { result = FinishResult.Refused why; conn = c }) store buffer ≡ straight_finish m id status buffer
   finish_refused why e = by_number why (sym (lent_refused_by_row m id why finish_rows e refl))
 
-  module _ (i : ℕ) (at' : admitted_by (Admitted.At i) ≡ queue_lent_admission c waits store id) where
+  module _ (i : ℕ) (at' : admitted_by (Ok i) ≡ queue_lent_admission c waits store id) where
     abbrev too_short : Bool
     too_short = length buffer <? length (Of.finish_bytes (request_at c.table i) status)
 

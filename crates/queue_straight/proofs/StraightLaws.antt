@@ -1,5 +1,5 @@
 -- The rows of an output that is written straight out, and what the calls come to: refused, or as without a queue.
-use Rattle.std.specs.Prelude.{ℕ, ◌≡◌, refl, Bool, true, false, not, List, [], ◌∷◌, length, ltb, if◌then◌else◌, cond}
+use Rattle.std.specs.Prelude.{ℕ, ◌≡◌, refl, Bool, true, false, not, List, [], ◌∷◌, length, ltb, if◌then◌else◌, cond, Ok, Err, Result, ⊤}
 use Rattle.std.proofs.Common.{sym, ap, ◌∙◌, arith}
 use Rattle.std.proofs.lemmas.Bool.{eqb-false}
 use Rattle.wire.specs.Test.{◌<?◌, ◌=?◌}
@@ -8,7 +8,6 @@ use Rattle.connection.specs.declared.request.Request.{Request}
 use Rattle.connection.specs.declared.state.Conn.{Conn}
 use Rattle.connection.specs.declared.answer.Output.{Output}
 use Rattle.connection.specs.declared.answer.Refusal.{Refusal}
-use Rattle.connection.specs.declared.answer.Wrote.{Wrote as CodeWrote}
 use Rattle.connection.specs.Sizes.{CHUNK}
 use Rattle.connection.specs.Codes.{refusal_number, output_type}
 use Rattle.connection.specs.Refusal.{Row, ◌when◌, refusal}
@@ -16,10 +15,8 @@ use Rattle.connection.specs.RequestCalls as Of
 use Rattle.connection.specs.Slots.{request_at}
 use Rattle.connection.specs.Calls as C
 use Rattle.codes.proofs.Laws.{refusal_some}
-use Rattle.request_output.specs.declared.Check.{Check}
 use Rattle.request_output.specs.Answer.{check_number}
 use Rattle.request_output.proofs.Laws.{stream_room, end_room}
-use Rattle.call_admit.specs.declared.Admitted.{Admitted}
 use Rattle.call_admit.specs.Admission.{admitted_by}
 use Rattle.call_output.specs.Answer.{written_by}
 use Rattle.queue_slot.specs.Wait.{anything}
@@ -33,7 +30,7 @@ use Rattle.queue_straight.specs.Straight.{StraightCheck}
 
 -- ---- rows
 -- What a request's own check says of an output that fits or not.
-pub own_check : (r : Request) (o : Output) (fits : Bool) (x : Check)
+pub own_check : (r : Request) (o : Output) (fits : Bool) (x : Result ⊤ Refusal)
     → ((bytes buffer : List ℕ) → fits ≡ not (ltb (length buffer) (length bytes)) → check_number x ≡ Of.output_refusal r o bytes buffer)
     → check_number x ≡ refusal ((4 when Of.no_output r) ∷ (5 when Of.is_ended o r.state) ∷ (6 when not fits) ∷ [])
 own_check r o true x e = e [] [] refl
@@ -68,12 +65,12 @@ waits_there m id i t = rw t.slot
 
 module _ (c : Conn) (waits : List ℕ) (id : ℕ) (o : Output) (fits : Bool) where
   -- refused by 9, 1 or 3
-  pub check_refused : (why : Refusal) → admitted_by (Admitted.Refused why) ≡ queue_admission c waits id → StraightCheck c waits id o fits (Check.Refused why)
+  pub check_refused : (why : Refusal) → admitted_by (Err why) ≡ queue_admission c waits id → StraightCheck c waits id o fits (Err why)
   check_refused why e gathered store marks queue =
       let m = lent c gathered store waits marks queue in
       sym (refused_by_row m id why (stream_rows m id o ((6 when not fits) ∷ (10 when anything (wait_at m (slot_of m id))) ∷ [])) e refl)
 
-  module _ (i : ℕ) (at' : admitted_by (Admitted.At i) ≡ queue_admission c waits id) where
+  module _ (i : ℕ) (at' : admitted_by (Ok i) ≡ queue_admission c waits id) where
     -- let through to slot i, rows 4, 5, 6 and 10 of the request there decide
     decide : (gathered store marks queue : List ℕ) → let m = lent c gathered store waits marks queue in
         refusal (rows_of m id (stream_rows m id o ((6 when not fits) ∷ (10 when anything (wait_at m (slot_of m id))) ∷ [])))
@@ -85,24 +82,24 @@ module _ (c : Conn) (waits : List ℕ) (id : ℕ) (o : Output) (fits : Bool) whe
         ∙ ap (λ (b : Bool). refusal (stream_rows_at m i o ((6 when not fits) ∷ (10 when b) ∷ []))) (waits_there m id i t)
 
     -- between finish and END
-    pub check_leaving : last_at waits i ≡ true → StraightCheck c waits id o fits (Check.Refused Refusal.Ended)
+    pub check_leaving : last_at waits i ≡ true → StraightCheck c waits id o fits (Err Refusal.Ended)
     check_leaving l gathered store marks queue = sym (decide gathered store marks queue ∙ simp l)
 
-    module _ (l : last_at waits i ≡ false) (x : Check)
+    module _ (l : last_at waits i ≡ false) (x : Result ⊤ Refusal)
         (own : (bytes buffer : List ℕ) → fits ≡ not (ltb (length buffer) (length bytes)) → check_number x ≡ Of.output_refusal (request_at c.table i) o bytes buffer) where
       alone : refusal (stream_rows_of (last_at waits i) (request_at c.table i) o ((6 when not fits) ∷ (10 when waits_in waits i) ∷ []))
           ≡ refusal ((4 when Of.no_output (request_at c.table i)) ∷ (5 when Of.is_ended o (request_at c.table i).state) ∷ (6 when not fits) ∷ (10 when waits_in waits i) ∷ [])
       alone = ap refusal (rows_alone (last_at waits i) (request_at c.table i) o ((6 when not fits) ∷ (10 when waits_in waits i) ∷ []) l)
 
       -- refused by 4, 5 or 6
-      pub check_own : (why : Refusal) → x ≡ Check.Refused why → StraightCheck c waits id o fits (Check.Refused why)
+      pub check_own : (why : Refusal) → x ≡ Err why → StraightCheck c waits id o fits (Err why)
       check_own why e gathered store marks queue =
           let r = request_at c.table i in
           refused_before (Of.no_output r) (Of.is_ended o r.state) (not fits) (waits_in waits i) why (sym (ap check_number e) ∙ own_check r o fits x own)
           ∙ sym (decide gathered store marks queue ∙ alone)
 
       -- passed by these, row 10 decides
-      pub check_last : (y : Check) → x ≡ Check.Passed → check_number y ≡ (if waits_in waits i then 10 else 0) → StraightCheck c waits id o fits y
+      pub check_last : (y : Result ⊤ Refusal) → x ≡ (Ok tt) → check_number y ≡ (if waits_in waits i then 10 else 0) → StraightCheck c waits id o fits y
       check_last y e n gathered store marks queue =
           let r = request_at c.table i in
           n ∙ sym (decide gathered store marks queue ∙ alone ∙ ten_decides (Of.no_output r) (Of.is_ended o r.state) (not fits) (waits_in waits i) (sym (ap check_number e) ∙ own_check r o fits x own))
@@ -114,7 +111,7 @@ output_rows m id o bytes buffer = refusal (rows_of m id (stream_rows m id o ((6 
 
 -- Refused, nothing is written and nothing changes; else the call is as without a queue.
 output_refused : (n : ℕ) (why : Refusal) (c : Conn) (l : List ℕ) (w : C.Written) → refusal_number why ≡ n
-    → written_by (record { wrote = CodeWrote.Refused why; conn = c }) l ≡ (if n =? 0 then w else C.unwritten n c l)
+    → written_by (record { wrote = Err why; conn = c }) l ≡ (if n =? 0 then w else C.unwritten n c l)
 output_refused n why c l w e = rw (← e) (simp (refusal_some why))
 
 pub passed {ℓ} : {A : Type ℓ} (n : ℕ) (alone refused : A) → 0 ≡ n → alone ≡ cond (n =? 0) alone refused
@@ -124,7 +121,7 @@ not_not : (f b : Bool) → f ≡ not b → not f ≡ b
 not_not f true e = rw e
 not_not f false e = rw e
 
-module _ (c : Conn) (waits : List ℕ) (id : ℕ) (o : Output) (x : Check) (buffer : List ℕ) where
+module _ (c : Conn) (waits : List ℕ) (id : ℕ) (o : Output) (x : Result ⊤ Refusal) (buffer : List ℕ) where
   -- the rows of a check that was asked whether the bytes fit
   asked : (bytes : Request → List ℕ) (fits : Bool) → ((r : Request) → fits ≡ not (length buffer <? length (bytes r))) → StraightCheck c waits id o fits x
       → (gathered store marks queue : List ℕ) → let m = lent c gathered store waits marks queue in
@@ -143,11 +140,11 @@ module _ (c : Conn) (waits : List ℕ) (id : ℕ) (o : Output) (x : Check) (buff
       say_rows_lem : check_number x ≡ output_rows m id o (Of.say_bytes (request_of m id) o bytes) buffer
       say_rows_lem = asked (λ r. Of.say_bytes r o bytes) (stream_fits CHUNK (length bytes) 0 (length buffer)) (λ r. stream_room (output_type o) r.id bytes buffer) e gathered store marks queue
 
-      pub say_refused : (why : Refusal) → x ≡ Check.Refused why → written_by (record { wrote = CodeWrote.Refused why; conn = c }) buffer ≡ straight_say m id o bytes buffer
+      pub say_refused : (why : Refusal) → x ≡ Err why → written_by (record { wrote = Err why; conn = c }) buffer ≡ straight_say m id o bytes buffer
       unfolding straight_say
       say_refused why is = output_refused (output_rows m id o (Of.say_bytes (request_of m id) o bytes) buffer) why c buffer (C.say c id o bytes buffer) (sym (ap check_number is) ∙ say_rows_lem)
 
-      pub say_passed : x ≡ Check.Passed → C.say c id o bytes buffer ≡ straight_say m id o bytes buffer
+      pub say_passed : x ≡ (Ok tt) → C.say c id o bytes buffer ≡ straight_say m id o bytes buffer
       unfolding straight_say
       say_passed is =
           let n = output_rows m id o (Of.say_bytes (request_of m id) o bytes) buffer in
@@ -157,11 +154,11 @@ module _ (c : Conn) (waits : List ℕ) (id : ℕ) (o : Output) (x : Check) (buff
       end_rows_lem : check_number x ≡ output_rows m id o (Of.end_bytes (request_of m id) o) buffer
       end_rows_lem = asked (λ r. Of.end_bytes r o) (record_fits 0 0 (length buffer)) (λ r. end_room (output_type o) r.id buffer) e gathered store marks queue
 
-      pub end_refused : (why : Refusal) → x ≡ Check.Refused why → written_by (record { wrote = CodeWrote.Refused why; conn = c }) buffer ≡ straight_end m id o buffer
+      pub end_refused : (why : Refusal) → x ≡ Err why → written_by (record { wrote = Err why; conn = c }) buffer ≡ straight_end m id o buffer
       unfolding straight_end
       end_refused why is = output_refused (output_rows m id o (Of.end_bytes (request_of m id) o) buffer) why c buffer (C.end_stream c id o buffer) (sym (ap check_number is) ∙ end_rows_lem)
 
-      pub end_passed : x ≡ Check.Passed → C.end_stream c id o buffer ≡ straight_end m id o buffer
+      pub end_passed : x ≡ (Ok tt) → C.end_stream c id o buffer ≡ straight_end m id o buffer
       unfolding straight_end
       end_passed is =
           let n = output_rows m id o (Of.end_bytes (request_of m id) o) buffer in

@@ -2,8 +2,7 @@
 // may wait: 10, last of all; between its finish and its END: 5.
 #![tactic(auto)]
 
-ghost use Rattle.std.specs.Prelude.{◌≡◌, List, ℕ};
-ghost use Rattle.connection.specs.declared.answer.Wrote.{Wrote};
+ghost use Rattle.std.specs.Prelude.{◌≡◌, List, ℕ, Ok, Err, Result};
 ghost use Rattle.call_finish.specs.declared.FinishResult.{FinishResult};
 ghost use Rattle.call_output.specs.Answer.{written_by};
 ghost use Rattle.call_finish.specs.Answer.{finished_by};
@@ -11,51 +10,45 @@ ghost use Rattle.queue.specs.Numbers.{kept_waits};
 ghost use Rattle.queue.specs.Calls.{lent, straight_say, straight_end, straight_finish};
 ghost use Rattle.queue_straight.specs.Straight.{StraightCheck};
 
-use call_admit::Admitted;
 use call_finish::{FinishResult, Finished, finish as finish_alone, owed_length};
 use call_output::{end_output as end_alone, write_output as write_alone};
-use connection::answer::{Output, Refusal, Written, Wrote};
+use connection::answer::{Output, Refusal, Written};
 use connection::sizes::CHUNK;
 use connection::state::Conn;
 use queue::sizes::WAITS;
 use queue_admit::{admit_lent_waits, admit_waits};
 use record_writer::{record_fits, stream_fits};
-use request_output::{Check, output_check};
+use request_output::output_check;
 use slot_table::request_at;
 use wait_numbers::{is_leaving, is_waiting, keep_waits};
 
 // Rows 3, 4, 5, 6 and 10 of an output on a stream of the request with that id: whether it goes on.
-fn straight_check(c: Conn, waits: &[u16; WAITS], id: u16, output: Output, fits: bool) -> Check
+fn straight_check(
+    c: Conn,
+    waits: &[u16; WAITS],
+    id: u16,
+    output: Output,
+    fits: bool,
+) -> Result<(), Refusal>
     ensures { StraightCheck c waits.now id output fits result }
 {
-    let admitted = admit_waits(c, waits, id);
-    match admitted {
-        Admitted::Refused(why) => Check::Refused(why),
-        Admitted::At(i) => {
-            if is_leaving(waits, i) {
-                return Check::Refused(Refusal::Ended);
-            }
-            let t = c.table;
-            let own = output_check(request_at(t, i), output, fits);
-            match own {
-                Check::Refused(why) => Check::Refused(why),
-                Check::Passed => {
-                    if is_waiting(waits, i) {
-                        return Check::Refused(Refusal::Waiting);
-                    }
-                    Check::Passed
-                }
-            }
-        }
+    let slot = admit_waits(c, waits, id)?;
+    if is_leaving(waits, slot) {
+        return Err(Refusal::Ended);
     }
+    output_check(request_at(c.table, slot), output, fits)?;
+    if is_waiting(waits, slot) {
+        return Err(Refusal::Waiting);
+    }
+    Ok(())
 }
 
 // A refused call: nothing is written, nothing changes.
 fn refused(c: Conn, why: Refusal) -> Written
-    ensures { result ≡ record { wrote = Wrote.Refused why; conn = c } }
+    ensures { result ≡ record { wrote = Err why; conn = c } }
 {
     Written {
-        wrote: Wrote::Refused(why),
+        wrote: Err(why),
         conn: c,
     }
 }
@@ -74,10 +67,9 @@ pub fn write_output(
         out.old }
 {
     let fits = stream_fits(CHUNK, bytes.len(), 0, out.len());
-    let check = straight_check(c, waits, id, output, fits);
-    match check {
-        Check::Refused(why) => refused(c, why),
-        Check::Passed => write_alone(c, id, output, bytes, out),
+    match straight_check(c, waits, id, output, fits) {
+        Err(why) => refused(c, why),
+        Ok(()) => write_alone(c, id, output, bytes, out),
     }
 }
 
@@ -87,10 +79,9 @@ pub fn end_output(c: Conn, waits: &[u16; WAITS], id: u16, output: Output, out: &
         ≡ straight_end (lent c gathered store waits.now marks queue) id output out.old }
 {
     let fits = record_fits(0, 0, out.len());
-    let check = straight_check(c, waits, id, output, fits);
-    match check {
-        Check::Refused(why) => refused(c, why),
-        Check::Passed => end_alone(c, id, output, out),
+    match straight_check(c, waits, id, output, fits) {
+        Err(why) => refused(c, why),
+        Ok(()) => end_alone(c, id, output, out),
     }
 }
 
@@ -119,26 +110,21 @@ pub fn finish(
         out.old)
         × (waits.new ≡ kept_waits c.«open» result.conn.«open» waits.old) }
 {
-    let admitted = admit_lent_waits(c, waits, store, id);
-    match admitted {
-        Admitted::Refused(why) => unfinished(c, why),
-        Admitted::At(i) => {
-            if is_leaving(waits, i) {
+    match admit_lent_waits(c, waits, store, id) {
+        Err(why) => unfinished(c, why),
+        Ok(slot) => {
+            if is_leaving(waits, slot) {
                 return unfinished(c, Refusal::Ended);
             }
-            let t = c.table;
-            let request = request_at(t, i);
-            let state = request.state;
-            if out.len() < owed_length(state) {
+            if out.len() < owed_length(request_at(c.table, slot).state) {
                 return unfinished(c, Refusal::NoRoom);
             }
-            if is_waiting(waits, i) {
+            if is_waiting(waits, slot) {
                 return unfinished(c, Refusal::Waiting);
             }
-            let r = finish_alone(c, store, id, app_status, out);
-            let after = r.conn;
-            keep_waits(waits, c.open, after.open);
-            r
+            let finished = finish_alone(c, store, id, app_status, out);
+            keep_waits(waits, c.open, finished.conn.open);
+            finished
         }
     }
 }

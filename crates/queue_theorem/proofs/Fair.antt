@@ -1,9 +1,10 @@
 -- Nobody hogs the wire: whoever waits is served within 16 records of the pump, on runs.
+use Rattle.connection.specs.Slots.{Slot}
 use Rattle.std.proofs.Math.Path.{◌≡◌, refl, ap, sym, subst}
 use Rattle.std.proofs.Common.{◌∙◌, inl, inr, lt-ltb}
 use mathlib.Core.List.{List, [], ◌∷◌, ◌++◌, flatten}
 use Rattle.std.proofs.Math.Option.{Option, none, some}
-use Rattle.std.specs.Prelude.{◌⊎◌, true, false, get_or, eqb, if◌then◌else◌}
+use Rattle.std.specs.Prelude.{◌⊎◌, true, false, get_or, eqb, if◌then◌else◌, Some, None}
 use Prim.Native.Nat.{ℕ, zero, suc, ◌≤◌, ◌<◌}
 use native.Mathlib.Omega.{arith}
 use Rattle.std.proofs.Math.ListN.{length}
@@ -21,7 +22,6 @@ use Rattle.machine_queue.proofs.Everywhere.{any_reading}
 use Rattle.machine_queue.specs.Pump.{slot_after, next_waiting, distance}
 use Rattle.machine_queue.proofs.Pumping.{distance_below, after_below, Nearer, nearer, waiting_below}
 use Rattle.connection.specs.declared.request.Request.{Request}
-use Rattle.connection.specs.declared.state.Slot.{Slot}
 use Rattle.connection.specs.Sizes.{SLOTS}
 use Rattle.connection.specs.Codes.{output_type}
 use Rattle.connection.specs.Request.{Held}
@@ -63,7 +63,7 @@ record OneRecord (id : ℕ) (bytes : List ℕ) : Type 0 where
   is : bytes ≡ record_bytes kind id content
   short : length content < 65536
 
-module _ (m : QueueMemory) (k : Fine m) (o : (conn_of m).«open» ≡ true) (id j : ℕ) (f : find (conn_of m).table id ≡ Slot.At j) where
+module _ (m : QueueMemory) (k : Fine m) (o : (conn_of m).«open» ≡ true) (id j : ℕ) (f : find (conn_of m).table id ≡ Some j) where
   abbrev request : Request
   request = request_at (conn_of m).table j
 
@@ -141,7 +141,7 @@ module _ (R i : ℕ) (low : i < SLOTS) where
       own_held (slot_at queueing_receiver.clean (slots_of m) i) (s.0 i)
 
   -- the id that is served from slot i is R
-  is_own_lem : (m : QueueMemory) (k : Fine m) (o : (conn_of m).«open» ≡ true) (id : ℕ) → find (conn_of m).table id ≡ Slot.At i → StillWaits R i (loaded_queue m) → id ≡ R
+  is_own_lem : (m : QueueMemory) (k : Fine m) (o : (conn_of m).«open» ≡ true) (id : ℕ) → find (conn_of m).table id ≡ Some i → StillWaits R i (loaded_queue m) → id ≡ R
   is_own_lem m k o id f h =
       let q = here m o h in
       let e : HeldBy id (L.mine m k.good.steady k.good.roomy o id i f) ≡ HeldBy R q.0 = sym (held_at m k o id i f) ∙ q.1 in
@@ -220,7 +220,7 @@ module _ (R i : ℕ) (low : i < SLOTS) where
           (before_record (record_of c.kind id c.content) ((split rest).records ++ l) (ahead m)
           (λ n.
           let ne = eqb-false id R n in
-          let other : j ≡ i → ⊥ = λ q. ne (is_own_lem m g o id (d ∙ ap Slot.At q) h) in
+          let other : j ≡ i → ⊥ = λ q. ne (is_own_lem m g o id (d ∙ ap Some q) h) in
           let less = one_less m j g.good.roomy o h e other in
           let still = subst (λ s. StillWaits R i s) (sym (P.serve_loaded m g.good.steady g.good.roomy o id j d)) (serve_waits R i (loaded_queue m) id ne h) in
           let r = ih (slot_fine m g o id j d) still f in
@@ -286,20 +286,20 @@ pieces_front (CountActive ∷ os) ps p = pieces_front os ps p
 pieces_front (TurnWith allowance buffer ∷ os) ps p = pieces_front os ps p
 
 -- where something of R waits, it has a slot
-waits_slot : (R : ℕ) (m : QueueMemory) → (waits_of R m ≡ [] → ⊥) → ((conn_of m).«open» ≡ true) × ((i : ℕ) × (find (conn_of m).table R ≡ Slot.At i) × (atoms_in (wait_at m i) ≡ [] → ⊥))
+waits_slot : (R : ℕ) (m : QueueMemory) → (waits_of R m ≡ [] → ⊥) → ((conn_of m).«open» ≡ true) × ((i : ℕ) × (find (conn_of m).table R ≡ Some i) × (atoms_in (wait_at m i) ≡ [] → ⊥))
 unfolding waits_of
 waits_slot R m w = by_test (conn_of m).«open» (λ o. (o, go (find (conn_of m).table R) refl (λ e. w (subst (λ b. (if b then on_slot (find (conn_of m).table R) (λ i. atoms_in (wait_at m i)) [] else []) ≡ []) (sym o) e)))) (λ o. absurd (w (rw o)))
   where
-    go : (s : Slot) → find (conn_of m).table R ≡ s → (on_slot s (λ i. atoms_in (wait_at m i)) [] ≡ [] → ⊥) → (i : ℕ) × (find (conn_of m).table R ≡ Slot.At i) × (atoms_in (wait_at m i) ≡ [] → ⊥)
-    go (Slot.At i) e w = (i, e, w)
-    go Slot.Nowhere e w = absurd (w refl)
+    go : (s : Slot) → find (conn_of m).table R ≡ s → (on_slot s (λ i. atoms_in (wait_at m i)) [] ≡ [] → ⊥) → (i : ℕ) × (find (conn_of m).table R ≡ Some i) × (atoms_in (wait_at m i) ≡ [] → ⊥)
+    go (Some i) e w = (i, e, w)
+    go None e w = absurd (w refl)
 
 some_waits_lem : (l : List Atom) → (l ≡ [] → ⊥) → is_some l ≡ true
 unfolding is_some
 some_waits_lem [] w = absurd (w refl)
 some_waits_lem (x ∷ l) w = refl
 
-begins_waiting : (R i : ℕ) (m : QueueMemory) (k : Fine m) (o : (conn_of m).«open» ≡ true) (f : find (conn_of m).table R ≡ Slot.At i) → (atoms_in (wait_at m i) ≡ [] → ⊥) → StillWaits R i (loaded_queue m)
+begins_waiting : (R i : ℕ) (m : QueueMemory) (k : Fine m) (o : (conn_of m).«open» ≡ true) (f : find (conn_of m).table R ≡ Some i) → (atoms_in (wait_at m i) ≡ [] → ⊥) → StillWaits R i (loaded_queue m)
 begins_waiting R i m k o f w =
     let T = lift_slots (waiting_of m) (loaded_slots (conn_of m).table m.memory.store) in
     let F = lift_reading (loaded_reading (conn_of m).frame m.memory.state.gathered) in

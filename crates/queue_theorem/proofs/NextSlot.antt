@@ -1,10 +1,10 @@
 -- The slot that the pump looks at first: after a record of slot j it is the next one, and nothing else moves it.
-use Rattle.std.specs.Prelude.{◌≡◌, refl, List, [], ◌∷◌, Bool, true, false, ℕ, ◌≤◌, ◌<◌, get_or, eqb}
+use Rattle.connection.specs.Slots.{Slot}
+use Rattle.std.specs.Prelude.{◌≡◌, refl, List, [], ◌∷◌, Bool, true, false, ℕ, ◌≤◌, ◌<◌, get_or, eqb, Some, None}
 use Rattle.std.proofs.Common.{◌∙◌, arith, get_or-set_same}
 use Rattle.wire.specs.Test.{by_test}
 use Rattle.machine_queue.specs.Pump.{slot_after}
 use Rattle.connection.specs.declared.request.Request.{Request}
-use Rattle.connection.specs.declared.state.Slot.{Slot}
 use Rattle.connection.specs.declared.state.Conn.{Conn}
 use Rattle.connection.specs.Sizes.{SLOTS}
 use Rattle.connection.specs.Refusal.{◌when◌, refusal}
@@ -59,8 +59,8 @@ slot_most : (m : QueueMemory) (id : ℕ) → T.slot_of m id ≤ SLOTS
 slot_most m id = go (find (conn_of m).table id) refl
   where
     go : (s : Slot) → find (conn_of m).table id ≡ s → on_slot s (λ i. i) SLOTS ≤ SLOTS
-    go (Slot.At i) e = let h = find_at (conn_of m).table id i e in omega (arith, h.low)
-    go Slot.Nowhere e = omega arith
+    go (Some i) e = let h = find_at (conn_of m).table id i e in omega (arith, h.low)
+    go None e = omega arith
 
 -- a call or a step puts the numbers back as they were
 kept_next : (m : QueueMemory) (b : Bool) → b ≡ true → get_or (kept_waits (conn_of m).«open» b m.waits) NEXT 0 ≡ next_of m

@@ -1,11 +1,11 @@
 -- Nothing that R says is lost and nothing comes twice, on whole runs: what R's calls were asked to say that were not
 -- refused, in its order, is what was written of R and then what still waits.
-use Rattle.std.specs.Prelude.{◌≡◌, refl, List, [], ◌∷◌, ◌++◌, Bool, true, false, ℕ, eqb, if◌then◌else◌}
+use Rattle.connection.specs.Slots.{Slot}
+use Rattle.std.specs.Prelude.{◌≡◌, refl, List, [], ◌∷◌, ◌++◌, Bool, true, false, ℕ, eqb, if◌then◌else◌, Some, None}
 use Rattle.std.proofs.Common.{ap, ap₂, sym, ◌∙◌, subst, arith, eqb-true}
 use Rattle.std.proofs.Math.Option.{Option, none, some}
 use Rattle.machine.specs.Slots.{Absent, lookup, contains_absent, contains_none}
 use Rattle.machine.specs.Machine.{request_called, Connection, Open, Closed, CallAnswer, on_item, state_after, observations, as_list, observed, request_found, request_in, fresh}
-use Rattle.connection.specs.declared.state.Slot.{Slot}
 use Rattle.connection.specs.Slots.{held_at, find, on_slot}
 use Rattle.connection.specs.Run.{request_of}
 use Rattle.connection.proofs.Runs.Loading.{loaded_slots, loaded_reading}
@@ -203,19 +203,19 @@ told_call m k id a =
     closed_shown o = shown_when m id false o ∙ request_when m id false o
 
     go : (conn_of m).«open» ≡ true → (s : Slot) → find (conn_of m).table id ≡ s → Told m id a (answer_in (on_item queueing_receiver (loaded_queue m) (CallItem (RequestCall id (asked a)))).1)
-    go o Slot.Nowhere f =
+    go o None f =
         let T = loaded_slots (conn_of m).table m.memory.store in
         let there : loaded_queue m ≡ Open (lift_slots (waiting_of m) T) (lift_reading (loaded_reading (conn_of m).frame m.memory.state.gathered)) = ap (lift_connection (waiting_of m)) (open_loaded m.memory o) in
         let e : lookup id (lift_slots (waiting_of m) T) ≡ Absent = lift_lookup_lem (waiting_of m) id T ∙ rw (lookup_loaded (conn_of m).table m.memory.store id, f) in
         subst (λ s. Told m id a (answer_in (on_item queueing_receiver s (CallItem (RequestCall id (asked a)))).1)) (sym there)
-        (rw e (told_none m id a (Q.refused_by 3 (asked a)) (request_at_lem m id o Slot.Nowhere f) (shown_at_lem m id o Slot.Nowhere f) (told_refused 3 (asked a) none refl)))
-    go o (Slot.At i) f =
+        (rw e (told_none m id a (Q.refused_by 3 (asked a)) (request_at_lem m id o None f) (shown_at_lem m id o None f) (told_refused 3 (asked a) none refl)))
+    go o (Some i) f =
         let z = k.good.steady in
         let y = k.good.roomy in
         let r = L.mine m z y o id i f in
-        let d = shown_at_lem m id o (Slot.At i) f ∙ ap (λ b. if b then none else some r.held) (sym (L.leaving_is m z y o id i f)) in
+        let d = shown_at_lem m id o (Some i) f ∙ ap (λ b. if b then none else some r.held) (sym (L.leaving_is m z y o id i f)) in
         subst (λ n. Told m id a n) (sym (ap (λ e. answer_in e.1) (L.call_decided_lem m z y o id i f (asked a)) ∙ decided_answer (queued_call (asked a) r) i r id (asked a) _ _))
-        (told_some m id a r (request_at_lem m id o (Slot.At i) f) d)
+        (told_some m id a r (request_at_lem m id o (Some i) f) d)
 
 -- what a call says, either way
 call_told_lem : (R : ℕ) (m : QueueMemory) (id : ℕ) (a : Asking) → Fine m → N.said_in R m (CallFor id a) ≡ said_op R m (CallFor id a)

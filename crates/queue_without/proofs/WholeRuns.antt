@@ -3,7 +3,8 @@
 -- They leave the same, have the same timeline, and show, tell and write the same. Both ways: a run without a queue is
 -- such a run, and every run by the calls with a queue in which nothing is queued and no turn is made is one without a
 -- queue, so that whatever is proved of runs without a queue speaks of it.
-use Rattle.std.specs.Prelude.{◌≡◌, Bool, ℕ, take, if◌then◌else◌}
+use Rattle.connection.specs.Slots.{Slot}
+use Rattle.std.specs.Prelude.{◌≡◌, Bool, ℕ, take, if◌then◌else◌, Some, None}
 use Rattle.std.proofs.Math.Path.{refl, ap, ap₂, sym, fun_ext}
 use Rattle.std.proofs.Common.{◌∙◌, eqb-true}
 use mathlib.Core.List.{List, [], ◌∷◌, ◌++◌, map, map-append}
@@ -11,7 +12,6 @@ use Rattle.std.proofs.Math.Bool.{true, false}
 use Rattle.wire.specs.Test.{by_test, ◌=?◌}
 use Rattle.record.specs.Split.{split_in, split}
 use Rattle.machine.specs.Timeline.{Item, ByteItem, byte_items}
-use Rattle.connection.specs.declared.state.Slot.{Slot}
 use Rattle.connection.specs.Slots.{find, on_slot}
 use Rattle.connection.specs.Step.{Stepped}
 use Rattle.connection.specs.Bytewise.{Note, notes}
@@ -119,8 +119,8 @@ module _ (marks queue : List ℕ) (m : Memory) where
   waits_none R = go m.state.conn.«open» (find m.state.conn.table R)
     where
       go : (b : Bool) (s : Slot) → (if b then on_slot s (λ i. atoms_in (wait_at still i)) [] else []) ≡ []
-      go true (Slot.At i) = Serve.nothing_waits (wait_at still i) (nobody_at still i refl)
-      go true Slot.Nowhere = refl
+      go true (Some i) = Serve.nothing_waits (wait_at still i) (nobody_at still i refl)
+      go true None = refl
       go false s = refl
 
   -- R is not between its finish and its END.
@@ -129,8 +129,8 @@ module _ (marks queue : List ℕ) (m : Memory) where
   leaving_none R = go m.state.conn.«open» (find m.state.conn.table R)
     where
       go : (b : Bool) (s : Slot) → (if b then on_slot s (λ i. last_at nobody_waits i) false else false) ≡ false
-      go true (Slot.At i) = none_leaving i
-      go true Slot.Nowhere = refl
+      go true (Some i) = none_leaving i
+      go true None = refl
       go false s = refl
 
   items_same : (o : Operation) → queue_items still (plainly o) ≡ map plain_item (items_of m o)

@@ -1,8 +1,8 @@
 -- What a queued call comes to: refused, nothing changes; let through, the request is put back as the call leaves it,
 -- and more waits in its slot.
-use Rattle.std.specs.Prelude.{ℕ, ◌+◌, ◌-◌, ◌<◌, ◌≤◌, ◌≡◌, Bool, true, false, not, List, [], ◌∷◌, length, leb, if◌then◌else◌}
+use Rattle.std.specs.Prelude.{ℕ, ◌+◌, ◌-◌, ◌<◌, ◌≤◌, ◌≡◌, Bool, true, false, not, List, [], ◌∷◌, length, leb, if◌then◌else◌, Ok, Err}
 use Rattle.std.proofs.Math.Path.{refl}
-use Rattle.std.proofs.Common.{sym, ap, ◌∙◌, arith, eq-eqb, ne_eqb, leb-true, leb-false, le-leb}
+use Rattle.std.proofs.Common.{⊎_elim, sym, ap, ◌∙◌, arith, eq-eqb, ne_eqb, leb-true, leb-false, le-leb}
 use Rattle.std.proofs.lemmas.Bool.{lt-leb}
 use Rattle.wire.specs.Test.{◌≤?◌, ◌=?◌, by_test}
 use Rattle.connection.specs.declared.request.Request.{Request}
@@ -16,16 +16,15 @@ use Rattle.connection.specs.Run.{Memory}
 use Rattle.connection.specs.Slots.{request_at}
 use Rattle.connection.specs.Calls.{puts_request}
 use Rattle.codes.proofs.Laws.{refusal_some}
-use Rattle.call_admit.specs.declared.Admitted.{Admitted}
 use Rattle.call_admit.specs.Admission.{admitted_by}
 use Rattle.queue_slot.specs.Finishing.{spent_by}
 use Rattle.queue_slot.specs.Wait.{Wait, has_room_for, wait_data, wait_end, wait_finish}
-use Rattle.queue.specs.declared.answer.Queued.{Queued}
 use Rattle.queue.specs.Numbers.{count_at, last_at}
 use Rattle.queue.specs.Calls.{QUEUE, QueueMemory, beside, lent, wait_at, put_wait, with_conn, slot_of, rows_of, stream_rows, Queueing, put_both, say_refusal, queue_say, queue_end, skipping, queue_finish}
 use Rattle.queue.specs.Answer.{queued_by}
 use Rattle.queue_admit.specs.Admission.{queue_admission}
-use Rattle.queue_admit.proofs.AdmissionLaws.{Own, Through, size_refuses, size_passes, refused_by_row, own_decide}
+use Rattle.queue_write.specs.Writable.{Writable}
+use Rattle.queue_admit.proofs.AdmissionLaws.{Own, Through, through_at, size_refuses, size_passes, refused_by_row, own_decide}
 use Rattle.queue_admit.proofs.StreamLaws.{stream_rows_of, stream_refused, stream_passed}
 
 -- ---- any queued call
@@ -79,7 +78,7 @@ module _ (c : Conn) (gathered store waits marks queue : List ℕ) where
 
   -- the answer of a refused call
   abbrev refused_by : Refusal → Queueing
-  refused_by why = queued_by (record { result = Queued.Refused why; conn = c }) gathered store waits marks queue
+  refused_by why = queued_by (record { result = Err why; conn = c }) gathered store waits marks queue
 
   -- another value of the connection, and the slot as it is told
   put_both_lem : (c' : Conn) (i : ℕ) (f : Wait → Wait) {waits' marks' queue' : List ℕ} → Told waits marks queue i f waits' marks' queue'
@@ -124,7 +123,7 @@ module _ (c : Conn) (gathered store waits marks queue : List ℕ) where
 
     module _ (full : length queue ≡ QUEUE) where
       -- refused by 9, 1 or 3
-      pub say_barred : (why : Refusal) → admitted_by (Admitted.Refused why) ≡ queue_admission c waits id → refused_by why ≡ queue_say before id o content
+      pub say_barred : (why : Refusal) → admitted_by (Err why) ≡ queue_admission c waits id → refused_by why ≡ queue_say before id o content
       say_barred why e =
           outcome_refused _ before (said_at (slot_of before id)) why (refused_by_row before id why (stream_rows before id o own_rows) e refl)
           ∙ sym (say_sized full)
@@ -150,13 +149,27 @@ module _ (c : Conn) (gathered store waits marks queue : List ℕ) where
         -- let through
         pub say_waits : 0 ≡ refusal (stream_rows_of leaving r o []) → (count_at waits i + length content ≤? 1024) ≡ true → {said : Request} → said ≡ said_on r o content
             → {waits' marks' queue' : List ℕ} → Told waits marks queue i (λ w. wait_data w o content) waits' marks' queue'
-            → queued_by (record { result = Queued.Waits; conn = puts_request c i said }) gathered store waits' marks' queue' ≡ queue_say before id o content
+            → queued_by (record { result = (Ok tt); conn = puts_request c i said }) gathered store waits' marks' queue' ≡ queue_say before id o content
         say_waits e room {said} es told =
             outcome_waits _ before (said_at (slot_of before id)) (ten_decides e ∙ simp room)
             (put_both_lem (puts_request c i said) i (λ w. wait_data w o content) told
             ∙ ap (λ (x : Request). put_both before i x (wait_data (wait_at before i) o content)) (es ∙ ap (λ (x : Request). said_on x o content) er)
             ∙ ap said_at (sym t.slot))
             ∙ sym (say_sized full)
+
+      -- what the check of the call says of it: refused, and let through
+      pub say_refused : (why : Refusal) → Writable c waits id o (Err why) → refused_by why ≡ queue_say before id o content
+      say_refused why w = ⊎_elim (say_barred why) (λ x. say_ended (through_at before id x.0 x.1) refl refl why x.2) w
+
+      module _ (i : ℕ) (r : Request) (w : Writable c waits id o (Ok (i, r))) where
+        pub say_checked_full : (count_at waits i + length content ≤? 1024) ≡ false → refused_by Refusal.Waiting ≡ queue_say before id o content
+        say_checked_full room = say_no_room (through_at before id i w.0) refl refl w.2 room
+
+        pub say_checked : (count_at waits i + length content ≤? 1024) ≡ true → {said : Request} → said ≡ said_on r o content
+            → {waits' marks' queue' : List ℕ} → Told waits marks queue i (λ w. wait_data w o content) waits' marks' queue'
+            → queued_by (record { result = (Ok tt); conn = puts_request c i said }) gathered store waits' marks' queue' ≡ queue_say before id o content
+        say_checked room es told =
+            say_waits (through_at before id i w.0) refl refl w.2 room (es ∙ ap (λ (x : Request). said_on x o content) w.1) told
 
   -- ---- the end of a stream
   module _ (id : ℕ) (o : Output) where
@@ -170,7 +183,7 @@ module _ (c : Conn) (gathered store waits marks queue : List ℕ) where
     end_is = refl
 
     -- refused by 9, 1 or 3
-    pub end_barred : (why : Refusal) → admitted_by (Admitted.Refused why) ≡ queue_admission c waits id → refused_by why ≡ queue_end before id o
+    pub end_barred : (why : Refusal) → admitted_by (Err why) ≡ queue_admission c waits id → refused_by why ≡ queue_end before id o
     end_barred why e =
         outcome_refused _ before (ended_at (slot_of before id)) why (refused_by_row before id why (stream_rows before id o []) e refl) ∙ sym end_is
 
@@ -182,13 +195,23 @@ module _ (c : Conn) (gathered store waits marks queue : List ℕ) where
       -- let through
       pub end_waits_lem : 0 ≡ refusal (stream_rows_of leaving r o []) → {ended : Request} → ended ≡ ended_on r o
           → {waits' marks' : List ℕ} → Told waits marks queue i (λ w. wait_end w o) waits' marks' queue
-          → queued_by (record { result = Queued.Waits; conn = puts_request c i ended }) gathered store waits' marks' queue ≡ queue_end before id o
+          → queued_by (record { result = (Ok tt); conn = puts_request c i ended }) gathered store waits' marks' queue ≡ queue_end before id o
       end_waits_lem e {ended} ee told =
           outcome_waits _ before (ended_at (slot_of before id)) (stream_passed before id o [] t own_none er el refl refl e)
           (put_both_lem (puts_request c i ended) i (λ w. wait_end w o) told
           ∙ ap (λ (x : Request). put_both before i x (wait_end (wait_at before i) o)) (ee ∙ ap (λ (x : Request). ended_on x o) er)
           ∙ ap ended_at (sym t.slot))
           ∙ sym end_is
+
+    -- what the check of the call says of it: refused, and let through
+    pub end_refused : (why : Refusal) → Writable c waits id o (Err why) → refused_by why ≡ queue_end before id o
+    end_refused why w = ⊎_elim (end_barred why) (λ x. end_ended (through_at before id x.0 x.1) refl refl why x.2) w
+
+    pub end_checked : (i : ℕ) (r : Request) → Writable c waits id o (Ok (i, r)) → {ended : Request} → ended ≡ ended_on r o
+        → {waits' marks' : List ℕ} → Told waits marks queue i (λ w. wait_end w o) waits' marks' queue
+        → queued_by (record { result = (Ok tt); conn = puts_request c i ended }) gathered store waits' marks' queue ≡ queue_end before id o
+    end_checked i r w ee told =
+        end_waits_lem (through_at before id i w.0) refl refl w.2 (ee ∙ ap (λ (x : Request). ended_on x o) w.1) told
 
   -- ---- the end of the request
   module _ (id status : ℕ) where
@@ -209,7 +232,7 @@ module _ (c : Conn) (gathered store waits marks queue : List ℕ) where
     finish_is = refl
 
     -- refused by 9, 1 or 3
-    pub finish_barred : (why : Refusal) → admitted_by (Admitted.Refused why) ≡ queue_admission c waits id → refused_by why ≡ queue_finish before id status
+    pub finish_barred : (why : Refusal) → admitted_by (Err why) ≡ queue_admission c waits id → refused_by why ≡ queue_finish before id status
     finish_barred why e =
         outcome_refused _ before (finished_at (slot_of before id)) why (refused_by_row before id why (leaving_row (slot_of before id)) e refl) ∙ sym finish_is
 
@@ -225,7 +248,7 @@ module _ (c : Conn) (gathered store waits marks queue : List ℕ) where
       -- let through
       pub finish_waits : last_at waits i ≡ false → {r spent : Request} → r ≡ request_at c.table i → spent ≡ spent_by r → {c' : Conn} → c' ≡ skipping c i
           → {waits' marks' : List ℕ} → Told waits marks queue i (λ w. wait_finish w r.state status) waits' marks' queue
-          → queued_by (record { result = Queued.Waits; conn = puts_request c' i spent }) gathered store waits' marks' queue ≡ queue_finish before id status
+          → queued_by (record { result = (Ok tt); conn = puts_request c' i spent }) gathered store waits' marks' queue ≡ queue_finish before id status
       finish_waits e {r} {spent} er es {c'} ec told =
           outcome_waits _ before (finished_at (slot_of before id)) (five_decides ∙ simp e)
           (put_both_lem (puts_request c' i spent) i (λ w. wait_finish w r.state status) told

@@ -1,50 +1,46 @@
 // Calls by which what a request says comes to wait in the queue: data, the end of a stream, the end of the request.
 #![tactic(auto)]
 
-ghost use Rattle.std.specs.Prelude.{◌≡◌, List, ℕ, ◌+◌, length};
+ghost use Rattle.std.specs.Prelude.{◌≡◌, List, ℕ, ◌+◌, length, Ok, Err};
 ghost use Rattle.wire.specs.Test.{◌≤?◌};
 ghost use Rattle.connection.specs.Calls.{puts_request};
 ghost use Rattle.queue_slot.specs.Wait.{ROOM};
 ghost use Rattle.queue_slot.specs.Finishing.{spent_life, spent_by};
-ghost use Rattle.queue.specs.declared.answer.Queued.{Queued};
 ghost use Rattle.queue.specs.Calls.{lent, skipping, queue_say, queue_end, queue_finish};
 ghost use Rattle.queue.specs.Answer.{queued_by};
+ghost use Rattle.queue_write.specs.Writable.{Writable};
 
-use call_admit::Admitted;
 use call_finish::{owes_err, owes_out, redirect};
 use connection::answer::{Output, Refusal};
 use connection::request::{Life, Request, RequestState};
 use connection::state::{Conn, Frame};
-use queue::answer::{Queued, Queueing};
+use queue::answer::Queueing;
 use queue::sizes::{QUEUE, ROOM, WAITS};
 use queue_admit::{admit_waits, stream_check};
-use request_output::{Check, ended_on, said_on};
+use request_output::{ended_on, said_on};
 use slot_table::{put_request, request_at};
 use wait_numbers::{is_leaving, numbers_at};
 use wait_slot::{wait_data, wait_end, wait_finish};
 
 // A refused call: nothing comes to wait, nothing changes.
 fn refused(c: Conn, why: Refusal) -> Queueing
-    ensures { result ≡ record { result = Queued.Refused why; conn = c } }
+    ensures { result ≡ record { result = Err why; conn = c } }
 {
     Queueing {
-        result: Queued::Refused(why),
+        result: Err(why),
         conn: c,
     }
 }
 
 // The connection with the request of slot i as the call left it.
 fn put_back(c: Conn, i: usize, request: Request) -> Queueing
-    ensures { result ≡ record { result = Queued.Waits; conn = puts_request c i request } }
+    ensures { result ≡ record { result = (Ok tt); conn = puts_request c i request } }
 {
-    let table = c.table;
-    let frame = c.frame;
     Queueing {
-        result: Queued::Waits,
+        result: Ok(()),
         conn: Conn {
-            table: put_request(table, i, request),
-            frame: frame,
-            open: c.open,
+            table: put_request(c.table, i, request),
+            ..c
         },
     }
 }
@@ -53,10 +49,22 @@ fn put_back(c: Conn, i: usize, request: Request) -> Queueing
 fn has_room(count: usize, n: usize) -> bool
     ensures { (bytes : List ℕ) → length bytes ≡ n → result ≡ (count + length bytes ≤? ROOM) }
 {
-    if ROOM < n {
-        return false;
-    }
-    count <= ROOM - n
+    n <= ROOM && count <= ROOM - n
+}
+
+// The slot of the request that a call writes a stream of, and the request: rows 9, 1, 3, 4 and 5.
+fn writable(
+    c: Conn,
+    waits: &[u16; WAITS],
+    id: u16,
+    output: Output,
+) -> Result<(usize, Request), Refusal>
+    ensures { Writable c waits.now id output result }
+{
+    let slot = admit_waits(c, waits, id)?;
+    let request = request_at(c.table, slot);
+    stream_check(is_leaving(waits, slot), request, output)?;
+    Ok((slot, request))
 }
 
 // Data comes to wait, to be written on the request's STDOUT or STDERR. Refusals 2, 9, 1, 3, 4, 5, and 10 where its area
@@ -78,25 +86,14 @@ pub fn queue_output(
     if queue.len() != QUEUE {
         return refused(c, Refusal::StoreSize);
     }
-    let admitted = admit_waits(c, waits, id);
-    match admitted {
-        Admitted::Refused(why) => refused(c, why),
-        Admitted::At(i) => {
-            let t = c.table;
-            let request = request_at(t, i);
-            let n = numbers_at(waits, i);
-            let check = stream_check(n.last, request, output);
-            match check {
-                Check::Refused(why) => refused(c, why),
-                Check::Passed => {
-                    if !has_room(n.count, bytes.len()) {
-                        return refused(c, Refusal::Waiting);
-                    }
-                    wait_data(waits, marks, queue, i, output, bytes);
-                    let said = said_on(request, output, bytes.len());
-                    put_back(c, i, said)
-                }
+    match writable(c, waits, id, output) {
+        Err(why) => refused(c, why),
+        Ok((slot, request)) => {
+            if !has_room(numbers_at(waits, slot).count, bytes.len()) {
+                return refused(c, Refusal::Waiting);
             }
+            wait_data(waits, marks, queue, slot, output, bytes);
+            put_back(c, slot, said_on(request, output, bytes.len()))
         }
     }
 }
@@ -113,21 +110,11 @@ pub fn queue_end(
         → queued_by result gathered store waits.new marks.new queue
         ≡ queue_end (lent c gathered store waits.old marks.old queue) id output }
 {
-    let admitted = admit_waits(c, waits, id);
-    match admitted {
-        Admitted::Refused(why) => refused(c, why),
-        Admitted::At(i) => {
-            let t = c.table;
-            let request = request_at(t, i);
-            let check = stream_check(is_leaving(waits, i), request, output);
-            match check {
-                Check::Refused(why) => refused(c, why),
-                Check::Passed => {
-                    wait_end(waits, marks, i, output);
-                    let ended = ended_on(request, output);
-                    put_back(c, i, ended)
-                }
-            }
+    match writable(c, waits, id, output) {
+        Err(why) => refused(c, why),
+        Ok((slot, request)) => {
+            wait_end(waits, marks, slot, output);
+            put_back(c, slot, ended_on(request, output))
         }
     }
 }
@@ -137,9 +124,8 @@ fn spent_life(life: Life) -> Life
     ensures { result ≡ spent_life life }
 {
     match life {
-        Life::Live => Life::Aborted,
+        Life::Live | Life::Aborted => Life::Aborted,
         Life::Faulted => Life::Faulted,
-        Life::Aborted => Life::Aborted,
     }
 }
 
@@ -147,24 +133,14 @@ fn spent_life(life: Life) -> Life
 fn spent_by(r: Request) -> Request
     ensures { result ≡ spent_by r }
 {
-    let state = r.state;
-    let role = state.role;
-    let turn = state.turn;
-    let life = state.life;
-    let shown = state.shown;
     Request {
-        id: r.id,
-        length: r.length,
         state: RequestState {
-            role: role,
-            turn: turn,
-            life: spent_life(life),
-            keep: state.keep,
+            life: spent_life(r.state.life),
             out_ended: true,
-            err_used: state.err_used,
-            err_ended: state.err_used | state.err_ended,
-            shown: shown,
+            err_ended: r.state.err_used | r.state.err_ended,
+            ..r.state
         },
+        ..r
     }
 }
 
@@ -172,21 +148,12 @@ fn spent_by(r: Request) -> Request
 fn skip_rest(c: Conn, i: usize) -> Conn
     ensures { result ≡ skipping c i }
 {
-    let table = c.table;
-    let f = c.frame;
-    let position = f.position;
-    let target = f.target;
-    let body = f.body;
-    let rest = redirect(i, target);
     Conn {
-        table: table,
         frame: Frame {
-            position: position,
-            target: rest,
-            gathered: f.gathered,
-            body: body,
+            target: redirect(i, c.frame.target),
+            ..c.frame
         },
-        open: c.open,
+        ..c
     }
 }
 
@@ -203,25 +170,22 @@ pub fn queue_finish(
         → queued_by result gathered store waits.new marks.new queue
         ≡ queue_finish (lent c gathered store waits.old marks.old queue) id app_status }
 {
-    let admitted = admit_waits(c, waits, id);
-    match admitted {
-        Admitted::Refused(why) => refused(c, why),
-        Admitted::At(i) => {
-            if is_leaving(waits, i) {
+    match admit_waits(c, waits, id) {
+        Err(why) => refused(c, why),
+        Ok(slot) => {
+            if is_leaving(waits, slot) {
                 return refused(c, Refusal::Ended);
             }
-            let t = c.table;
-            let request = request_at(t, i);
-            let state = request.state;
+            let request = request_at(c.table, slot);
             wait_finish(
                 waits,
                 marks,
-                i,
-                owes_out(state),
-                owes_err(state),
+                slot,
+                owes_out(request.state),
+                owes_err(request.state),
                 app_status,
             );
-            put_back(skip_rest(c, i), i, spent_by(request))
+            put_back(skip_rest(c, slot), slot, spent_by(request))
         }
     }
 }

@@ -8,12 +8,13 @@ use crate::names;
 use wire::{number_of_four, number_of_two};
 
 // What a BEGIN_REQUEST body says: the role, and whether the connection is kept.
-#[derive(Clone, Copy)]
+#[derive(Clone, Copy, Debug, PartialEq, Eq)]
 pub struct BeginBody {
     pub role: u16,
     pub keep: bool,
 }
 
+#[tactic(auto, unfolding(crate::specs::Body::begin_body_of))]
 pub fn read_begin_body(bytes: [u8; 8]) -> BeginBody
     ensures { result ≡ begin_body_of bytes }
 {
@@ -24,12 +25,13 @@ pub fn read_begin_body(bytes: [u8; 8]) -> BeginBody
 }
 
 // What an END_REQUEST body says: the application's status and the protocol's.
-#[derive(Clone, Copy)]
+#[derive(Clone, Copy, Debug, PartialEq, Eq)]
 pub struct EndBody {
     pub app_status: u32,
     pub protocol_status: u8,
 }
 
+#[tactic(auto, unfolding(crate::specs::Body::end_body_of))]
 pub fn read_end_body(bytes: [u8; 8]) -> EndBody
     ensures { result ≡ end_body_of bytes }
 {
@@ -40,6 +42,7 @@ pub fn read_end_body(bytes: [u8; 8]) -> EndBody
 }
 
 // The type that an UNKNOWN_TYPE body names.
+#[tactic(auto, unfolding(crate::specs::Body::unknown_type_of))]
 pub fn read_unknown_type(bytes: [u8; 8]) -> u8
     ensures { result ≡ unknown_type_of bytes }
 {
@@ -49,43 +52,26 @@ pub fn read_unknown_type(bytes: [u8; 8]) -> u8
 fn flags_of(keep: bool) -> u8
     ensures { result ≡ (if keep then KEEP_CONN else 0) }
 {
-    if keep {
-        return names::KEEP_CONN;
-    }
-    0
+    if keep { names::KEEP_CONN } else { 0 }
 }
 
+#[tactic(auto, unfolding(crate::specs::Body::begin_body_bytes))]
 pub fn begin_body(role: u16, keep: bool) -> [u8; 8]
     ensures { result ≡ begin_body_bytes role keep }
 {
-    let flags = flags_of(keep);
-    [
-        (role / 256 % 256) as u8,
-        (role % 256) as u8,
-        flags,
-        0,
-        0,
-        0,
-        0,
-        0,
-    ]
+    let [high, low] = role.to_be_bytes();
+    [high, low, flags_of(keep), 0, 0, 0, 0, 0]
 }
 
+#[tactic(auto, unfolding(crate::specs::Body::end_body_bytes))]
 pub fn end_body(app_status: u32, protocol_status: u8) -> [u8; 8]
     ensures { result ≡ end_body_bytes app_status protocol_status }
 {
-    [
-        (app_status / 16777216 % 256) as u8,
-        (app_status / 65536 % 256) as u8,
-        (app_status / 256 % 256) as u8,
-        (app_status % 256) as u8,
-        protocol_status,
-        0,
-        0,
-        0,
-    ]
+    let [b3, b2, b1, b0] = app_status.to_be_bytes();
+    [b3, b2, b1, b0, protocol_status, 0, 0, 0]
 }
 
+#[tactic(auto, unfolding(crate::specs::Body::unknown_type_bytes))]
 pub fn unknown_type_body(kind: u8) -> [u8; 8]
     ensures { result ≡ unknown_type_bytes kind }
 {

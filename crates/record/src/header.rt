@@ -6,7 +6,7 @@ use crate::names;
 use wire::number_of_two;
 
 // What a header says. (`kind` is the record's type; the reserved byte says nothing.)
-#[derive(Clone, Copy)]
+#[derive(Clone, Copy, Debug, PartialEq, Eq)]
 pub struct Header {
     pub version: u8,
     pub kind: u8,
@@ -15,30 +15,32 @@ pub struct Header {
     pub padding: u8,
 }
 
+#[tactic(auto, unfolding(crate::specs::Header::header_of))]
 pub fn read_header(bytes: [u8; 8]) -> Header
     ensures { result ≡ header_of bytes }
 {
-    let id = number_of_two(bytes[2], bytes[3]);
-    let content = number_of_two(bytes[4], bytes[5]);
     Header {
         version: bytes[0],
         kind: bytes[1],
-        id: id,
-        content: content,
+        id: number_of_two(bytes[2], bytes[3]),
+        content: number_of_two(bytes[4], bytes[5]),
         padding: bytes[6],
     }
 }
 
+#[tactic(auto, unfolding(crate::specs::Header::header_bytes))]
 pub fn header_bytes(kind: u8, id: u16, content: u16, padding: u8) -> [u8; 8]
     ensures { result ≡ header_bytes kind id content padding }
 {
+    let [id_high, id_low] = id.to_be_bytes();
+    let [content_high, content_low] = content.to_be_bytes();
     [
         names::VERSION,
         kind,
-        (id / 256 % 256) as u8,
-        (id % 256) as u8,
-        (content / 256 % 256) as u8,
-        (content % 256) as u8,
+        id_high,
+        id_low,
+        content_high,
+        content_low,
         padding,
         0,
     ]

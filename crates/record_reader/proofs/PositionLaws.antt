@@ -15,10 +15,8 @@ use Rattle.record_reader.specs.Position.{after_header, held_and, in_header, adva
 
 -- the bytes of a piece, copied after the header bytes held
 pub held_copied : (held : ℕ) (header piece : List ℕ) (used : ℕ) → length header ≡ 8 → held < 8 → used ≡ min (8 - held) (length piece)
-    → copied header held (take (used - 0) piece) ≡ held_and held header used piece
-held_copied held header piece used l h e =
-    let none : used - 0 ≡ used = omega arith in
-    ap (λ (n : ℕ). copied header held (take n piece)) none ∙ copied_room header held (take used piece) (omega (arith, length-take used piece))
+    → copied header held (take used piece) ≡ held_and held header used piece
+held_copied held header piece used l h e = copied_room header held (take used piece) (omega (arith, length-take used piece))
 
 -- ---- a step in each phase
 abbrev pub at : ℕ → ℕ → ℕ → List ℕ → Position

@@ -9,7 +9,7 @@ use wire::{copy_into, least};
 
 // So many bytes are left of a record's content, then so many of its padding; with nothing left of either, the
 // reader stands in the next header, of which the first `held` bytes are in.
-#[derive(Clone, Copy)]
+#[derive(Clone, Copy, Debug, PartialEq, Eq)]
 pub struct Position {
     pub content: usize,
     pub padding: usize,
@@ -18,7 +18,7 @@ pub struct Position {
 }
 
 // What the bytes used were: content, padding, a part of a header, or a part that made it whole.
-#[derive(Clone, Copy)]
+#[derive(Clone, Copy, Debug, PartialEq, Eq)]
 pub enum Phase {
     Content,
     Padding,
@@ -26,7 +26,7 @@ pub enum Phase {
     Whole(Header),
 }
 
-#[derive(Clone, Copy)]
+#[derive(Clone, Copy, Debug, PartialEq, Eq)]
 pub struct Advanced {
     pub used: usize,
     pub phase: Phase,
@@ -45,6 +45,7 @@ pub fn between() -> Position
     }
 }
 
+#[tactic(auto, unfolding(crate::specs::Position::in_header))]
 fn in_header(held: usize, header: [u8; 8], piece: &[u8]) -> Advanced
     ensures { result ≡ in_header held header piece.now }
 {
@@ -53,76 +54,66 @@ fn in_header(held: usize, header: [u8; 8], piece: &[u8]) -> Advanced
             used: 0,
             phase: Phase::Part,
             position: Position {
-                content: 0,
-                padding: 0,
-                held: held,
-                header: header,
+                held,
+                header,
+                ..between()
             },
         };
     }
     let used = least(8 - held, piece.len());
     let mut bytes = header;
-    let z: usize = 0;
-    copy_into(&mut bytes, held, &piece[z..used]);
+    copy_into(&mut bytes, held, &piece[..used]);
     let now_held = held + used;
     if now_held < 8 {
         return Advanced {
-            used: used,
+            used,
             phase: Phase::Part,
             position: Position {
-                content: 0,
-                padding: 0,
                 held: now_held,
                 header: bytes,
+                ..between()
             },
         };
     }
-    let h = read_header(bytes);
+    let whole = read_header(bytes);
     Advanced {
-        used: used,
-        phase: Phase::Whole(h),
+        used,
+        phase: Phase::Whole(whole),
         position: Position {
-            content: h.content as usize,
-            padding: h.padding as usize,
-            held: 0,
-            header: [0; 8],
+            content: whole.content as usize,
+            padding: whole.padding as usize,
+            ..between()
         },
     }
 }
 
 // Uses bytes of a piece, as many as the phase still needs or the piece has, and stays in that phase.
+#[tactic(auto, unfolding(crate::specs::Position::advanced))]
 pub fn advance(p: Position, piece: &[u8]) -> Advanced
     ensures { result ≡ advanced p piece.now }
 {
-    let content = p.content;
-    let padding = p.padding;
-    let held = p.held;
-    let header = p.header;
-    if 0 < content {
-        let used = least(content, piece.len());
+    if 0 < p.content {
+        let used = least(p.content, piece.len());
         return Advanced {
-            used: used,
+            used,
             phase: Phase::Content,
             position: Position {
-                content: content - used,
-                padding: padding,
-                held: held,
-                header: header,
+                content: p.content - used,
+                ..p
             },
         };
     }
-    if 0 < padding {
-        let used = least(padding, piece.len());
+    if 0 < p.padding {
+        let used = least(p.padding, piece.len());
         return Advanced {
-            used: used,
+            used,
             phase: Phase::Padding,
             position: Position {
                 content: 0,
-                padding: padding - used,
-                held: held,
-                header: header,
+                padding: p.padding - used,
+                ..p
             },
         };
     }
-    in_header(held, header, piece)
+    in_header(p.held, p.header, piece)
 }

@@ -9,6 +9,7 @@ use record::header::header_bytes;
 use wire::{copy_into, least};
 
 // The padding of n content bytes: to a multiple of eight.
+#[tactic(auto, unfolding(crate::specs::Written::padding_of))]
 fn padding_of(n: u16) -> u8
     ensures { result ≡ padding_of n }
 {
@@ -16,6 +17,7 @@ fn padding_of(n: u16) -> u8
 }
 
 // The length of a record with n content bytes, header and padding included.
+#[tactic(auto, unfolding(crate::specs::Written::record_length))]
 pub fn record_length(n: u16) -> usize
     ensures { result ≡ record_length n }
 {
@@ -24,21 +26,16 @@ pub fn record_length(n: u16) -> usize
 }
 
 // Whether n bytes of content make a record that fits into a buffer of `room` bytes at place `at`.
+#[tactic(auto, using(wire::proofs::BufferLaws::room_left), unfolding(crate::specs::Written::record_fits))]
 pub fn record_fits(n: usize, at: usize, room: usize) -> bool
     ensures { result ≡ record_fits n at room }
 {
-    if n <= 65535 {
-        let size = record_length(n as u16);
-        if at <= room {
-            return size <= room - at;
-        }
-        return false;
-    }
-    false
+    n <= 65535 && at <= room && record_length(n as u16) <= room - at
 }
 
 // Writes one record into out at place `at`, padded to a multiple of eight, and answers the place after it.
 // Where it does not fit, nothing is written and the answer is `at`.
+#[tactic(auto, using(crate::proofs::WrittenLaws::record_fits_lem, crate::proofs::WrittenLaws::padding_small))]
 pub fn write_record(out: &mut [u8], at: usize, kind: u8, id: u16, content: &[u8]) -> usize
     ensures { record { next = result; buffer = out.new }
         ≡ record_placed out.old at kind id content.now }
@@ -50,39 +47,30 @@ pub fn write_record(out: &mut [u8], at: usize, kind: u8, id: u16, content: &[u8]
     let padding = padding_of(n as u16);
     let header = header_bytes(kind, id, n as u16, padding);
     copy_into(out, at, &header);
-    let a = at + 8;
-    copy_into(out, a, content);
-    let b = a + n;
+    let start = at + 8;
+    copy_into(out, start, content);
+    let end = start + n;
     let zeros = [0u8; 8];
-    let p = padding as usize;
-    let z: usize = 0;
-    copy_into(out, b, &zeros[z..p]);
-    b + p
+    copy_into(out, end, &zeros[..padding as usize]);
+    end + padding as usize
 }
 
 // Whether n bytes, in records of `size` content bytes, fit into a buffer of `room` bytes at place `at`.
+#[tactic(auto, using(crate::proofs::StreamLaws::record_long, crate::proofs::StreamLaws::count_room), unfolding(crate::specs::Written::stream_fits))]
 pub fn stream_fits(size: u16, n: usize, at: usize, room: usize) -> bool
     ensures { result ≡ stream_fits size n at room }
 {
-    if size == 0 {
-        return false;
-    }
-    if room < at {
+    if size == 0 || room < at {
         return false;
     }
     let left = room - at;
-    let s = size as usize;
     let whole = record_length(size);
-    let count = n / s;
+    let count = n / size as usize;
     if left / whole < count {
         return false;
     }
-    let tail = n % s;
-    if tail == 0 {
-        return true;
-    }
-    let last = record_length(tail as u16);
-    last <= left - count * whole
+    let tail = n % size as usize;
+    tail == 0 || record_length(tail as u16) <= left - count * whole
 }
 
 // Writes bytes into out from place `at` on, in records of `size` content bytes, the last one shorter, and answers
@@ -94,11 +82,10 @@ pub fn write_stream(out: &mut [u8], at: usize, kind: u8, id: u16, bytes: &[u8], 
     if !stream_fits(size, bytes.len(), at, out.len()) {
         return at;
     }
-    let most = size as usize;
     let mut place = at;
     let mut from: usize = 0;
     while from < bytes.len() {
-        let n = least(most, bytes.len() - from);
+        let n = least(size as usize, bytes.len() - from);
         let next = from + n;
         place = write_record(out, place, kind, id, &bytes[from..next]);
         from = next;

@@ -1,28 +1,21 @@
 // Replays a captured connection from standard input: a line for each event and for each byte of data.
 #![tactic(auto)]
 
-ghost use Rattle.std.specs.Prelude.{◌≡◌, ◌-◌, ◌≤◌};
-
 use event_text::{LONGEST, write_byte_line, write_line};
-use fastcgi::{Conn, Event, QUERY, STORE, StepResult, Stream, next_event, start};
-use host::{large_buffer, read_some, write_out};
+use fastcgi::{Conn, Event, QUERY, STORE, Stream, next_event, start};
+use host::{large_buffer, read_pieces, write_first, write_out};
 use std::io;
 
 // Writes out what the buffer holds, and answers where the next line goes: at its start.
 fn flush(rt: &HostRuntime, out: &[u8], at: usize) -> io::Result<usize> {
-    let start: usize = 0;
-    if at <= out.len() {
-        write_out(rt, &out[start..at])?;
-    }
-    Ok(start)
+    write_first(rt, out, at)?;
+    Ok(0)
 }
 
 // Where the next line goes, with room for it.
 fn with_room(rt: &HostRuntime, out: &[u8], at: usize) -> io::Result<usize> {
-    if at <= out.len() {
-        if LONGEST <= out.len() - at {
-            return Ok(at);
-        }
+    if at <= out.len() && LONGEST <= out.len() - at {
+        return Ok(at);
     }
     flush(rt, out, at)
 }
@@ -37,31 +30,18 @@ fn show_bytes(
     bytes: &[u8],
 ) -> io::Result<usize> {
     let mut place = at;
-    let mut i: usize = 0;
-    while i < bytes.len() {
+    for byte in bytes {
         let room = with_room(rt, out, place)?;
-        place = write_byte_line(out, room, id, stream, bytes[i]);
-        i += 1;
+        place = write_byte_line(out, room, id, stream, *byte);
     }
     Ok(place)
-}
-
-// Where the last n of so many bytes begin.
-fn last_from(bytes: usize, n: usize) -> usize
-    ensures { (result ≤ bytes) × (n ≤ bytes → result ≡ bytes - n) }
-{
-    if bytes < n {
-        return bytes;
-    }
-    bytes - n
 }
 
 // The lines of an event; of data the bytes are the last of those used.
 fn show(rt: &HostRuntime, out: &mut [u8], at: usize, e: Event, used: &[u8]) -> io::Result<usize> {
     if let Event::Data { id, stream, count } = e {
-        let first = last_from(used.len(), count);
-        let end = used.len();
-        return show_bytes(rt, out, at, id, stream, &used[first..end]);
+        let first = used.len().saturating_sub(count);
+        return show_bytes(rt, out, at, id, stream, &used[first..]);
     }
     let room = with_room(rt, out, at)?;
     Ok(write_line(out, room, e))
@@ -85,32 +65,26 @@ fn replay_piece(
 ) -> io::Result<Replay> {
     let mut conn = r.conn;
     let mut at = r.at;
-    let mut from: usize = 0;
+    let mut from = 0;
     while from < piece.len() {
-        let end = piece.len();
-        let s = next_event(conn, store, gathered, &piece[from..end]);
-        let used = s.used;
-        let told = s.result;
-        conn = s.conn;
-        if used == 0 {
-            return Ok(Replay { conn: conn, at: at });
-        }
-        if piece.len() - from < used {
-            return Ok(Replay { conn: conn, at: at });
+        let stepped = next_event(conn, store, gathered, &piece[from..]);
+        conn = stepped.conn;
+        let used = stepped.used;
+        if used == 0 || piece.len() - from < used {
+            return Ok(Replay { conn, at });
         }
         let next = from + used;
-        if let StepResult::Event(e) = told {
-            at = show(rt, out, at, e, &piece[from..next])?;
+        if let Ok(event) = stepped.result {
+            at = show(rt, out, at, event, &piece[from..next])?;
         }
         from = next;
     }
-    Ok(Replay { conn: conn, at: at })
+    Ok(Replay { conn, at })
 }
 
 // How it stops: closed, cut inside a record, or open between two.
 fn stop(rt: &HostRuntime, c: Conn) -> io::Result<()> {
-    let f = c.frame;
-    let p = f.position;
+    let p = c.frame.position;
     if !c.open {
         return write_out(rt, b"stop closed\n");
     }
@@ -120,74 +94,19 @@ fn stop(rt: &HostRuntime, c: Conn) -> io::Result<()> {
     write_out(rt, b"stop cut\n")
 }
 
-// A replay, and whether there may be more to read.
-#[derive(Clone, Copy)]
-struct ReadOn {
-    replay: Replay,
-    more: bool,
-}
-
-// Reads a piece of at most 64 KiB and steps through it. At the end of the input or after a close there is no more.
-fn read_on(
-    rt: &HostRuntime,
-    r: Replay,
-    store: &mut [u8],
-    gathered: &mut [u8; QUERY],
-    out: &mut [u8],
-) -> io::Result<ReadOn> {
-    let mut piece = large_buffer();
-    let n = read_some(rt, &mut piece)?;
-    if n == 0 {
-        return Ok(ReadOn {
-            replay: r,
-            more: false,
-        });
-    }
-    let start: usize = 0;
-    let after = replay_piece(rt, r, store, gathered, &piece[start..n], out)?;
-    let c = after.conn;
-    Ok(ReadOn {
-        replay: after,
-        more: c.open,
-    })
-}
-
-// Reads to the end. A proved loop has to end, and nothing says that the input does: so it counts its turns down, from
-// a number that no run uses up.
-fn replay_all(
-    rt: &HostRuntime,
-    r: Replay,
-    store: &mut [u8],
-    gathered: &mut [u8; QUERY],
-    out: &mut [u8],
-) -> io::Result<Replay> {
-    let mut replay = r;
-    let mut turns = u64::MAX;
-    while turns > 0 {
-        let t = read_on(rt, replay, store, gathered, out)?;
-        replay = t.replay;
-        if !t.more {
-            return Ok(replay);
-        }
-        turns -= 1;
-    }
-    Ok(replay)
-}
-
 fn main(rt: HostRuntime) -> io::Result<()> {
     let mut store = [0u8; STORE];
     let mut gathered = [0u8; QUERY];
     let mut out = large_buffer();
-    let s = start(&mut store, &mut gathered);
-    let c = s.conn;
-    let end = replay_all(
-        &rt,
-        Replay { conn: c, at: 0 },
-        &mut store,
-        &mut gathered,
-        &mut out,
-    )?;
-    flush(&rt, &out, end.at)?;
-    let last = end.conn;
-    stop(&rt, last)
+    let mut replay = Replay {
+        conn: start(&mut store, &mut gathered).conn,
+        at: 0,
+    };
+    // At the end of the input or after a close there is no more.
+    read_pieces(&rt, |piece| {
+        replay = replay_piece(&rt, replay, &mut store, &mut gathered, piece, &mut out)?;
+        Ok(replay.conn.open)
+    })?;
+    flush(&rt, &out, replay.at)?;
+    stop(&rt, replay.conn)
 }

@@ -1,6 +1,6 @@
 -- What the two ends have in common: each request that is active at the station is open at the server's end, with the
 -- same output streams ended. How changes of either table keep that.
-use Rattle.std.specs.Prelude.{ℕ, ◌<◌, ◌≡◌, refl, get_or, eqb}
+use Rattle.std.specs.Prelude.{ℕ, ◌<◌, ◌≡◌, refl, get_or, eqb, Some}
 use Rattle.std.proofs.Common.{sym, ap, ◌∙◌, subst, arith, eqb-true}
 use Rattle.std.proofs.lemmas.Bool.{eqb-false}
 use Rattle.wire.specs.Test.{by_test}
@@ -8,7 +8,6 @@ use Rattle.connection.specs.declared.answer.Output.{Output}
 use Rattle.connection.specs.declared.request.RequestState.{RequestState}
 use Rattle.connection.specs.declared.request.Request.{Request}
 use Rattle.connection.specs.declared.state.Table.{Table}
-use Rattle.connection.specs.declared.state.Slot.{Slot}
 use Rattle.connection.specs.Sizes.{SLOTS}
 use Rattle.connection.specs.RequestCalls.{is_ended, ended_on}
 use Rattle.connection.specs.Slots.{no_state, request_at, put_request, take_slot, free_slot, no_requests, find}
@@ -48,12 +47,12 @@ ended_ends r q Output.Stderr e = record { out = e.out; err = refl }
 -- the request of an id that is open at the server's end, with these streams ended
 pub record OpenWith (t : Table) (id : ℕ) (m : RequestState) : Type 0 where
   pub slot : ℕ
-  pub found : find t id ≡ Slot.At slot
+  pub found : find t id ≡ Some slot
   pub ends : SameEnds (request_at t slot).state m
 
 -- what holds of each request that is active, by its id, its slot and its state
 abbrev pub Each : Table → (ℕ → ℕ → RequestState → Type 0) → Type 0
-Each s Q = (id i : ℕ) → find s id ≡ Slot.At i → Q id i (request_at s i).state
+Each s Q = (id i : ℕ) → find s id ≡ Some i → Q id i (request_at s i).state
 
 -- the station's table s, the table t of the server's end
 abbrev pub Agree : Table → Table → Type 0
@@ -77,12 +76,12 @@ pub open_on_ends : (t : Table) → OnEnds (λ id i. OpenWith t id)
 open_on_ends t id i m n e o = record { slot = o.slot; found = o.found; ends = ends_trans (request_at t o.slot).state m n o.ends e }
 
 -- a slot holds one id
-pub one_id : (t : Table) (a b i j : ℕ) → find t a ≡ Slot.At i → find t b ≡ Slot.At j → i ≡ j → a ≡ b
+pub one_id : (t : Table) (a b i j : ℕ) → find t a ≡ Some i → find t b ≡ Some j → i ≡ j → a ≡ b
 one_id t a b i j p q e = sym (find_at t a i p).has_id ∙ ap (λ (n : ℕ). get_or t.ids n 0) e ∙ (find_at t b j q).has_id
 
 -- an id has one slot
-pub one_slot : (t : Table) (a b i j : ℕ) → find t a ≡ Slot.At i → find t b ≡ Slot.At j → a ≡ b → i ≡ j
-one_slot t a b i j p q e = let z : Slot.At i ≡ Slot.At j = sym p ∙ ap (find t) e ∙ q in cc
+pub one_slot : (t : Table) (a b i j : ℕ) → find t a ≡ Some i → find t b ≡ Some j → a ≡ b → i ≡ j
+one_slot t a b i j p q e = let z : Some i ≡ Some j = sym p ∙ ap (find t) e ∙ q in cc
 
 -- ---- the station's table
 -- of no requests anything holds
@@ -90,16 +89,16 @@ pub each_none : (Q : ℕ → ℕ → RequestState → Type 0) → Each no_reques
 each_none Q id i e = let z : ◌≡◌ {A = ℕ} 0 1 = cc (sym (empty_nowhere id) ∙ e) in absurd (omega arith)
 
 -- a request put back with its id: of it, and of the others
-pub each_at : (Q : ℕ → ℕ → RequestState → Type 0) (s : Table) (i : ℕ) (r : Request) → Sized s → r.id ≡ (request_at s i).id → ((id : ℕ) → find s id ≡ Slot.At i → Q id i r.state)
-    → ((id k : ℕ) → (k ≡ i → ⊥) → find s id ≡ Slot.At k → Q id k (request_at s k).state) → Each (put_request s i r) Q
+pub each_at : (Q : ℕ → ℕ → RequestState → Type 0) (s : Table) (i : ℕ) (r : Request) → Sized s → r.id ≡ (request_at s i).id → ((id : ℕ) → find s id ≡ Some i → Q id i r.state)
+    → ((id k : ℕ) → (k ≡ i → ⊥) → find s id ≡ Some k → Q id k (request_at s k).state) → Each (put_request s i r) Q
 each_at Q s i r sized same own others id k e =
-    let before : find s id ≡ Slot.At k = sym (find_put s i r id same) ∙ e in
+    let before : find s id ≡ Some k = sym (find_put s i r id same) ∙ e in
     by_test (eqb k i)
     (λ x.
     let is : k ≡ i = eqb-true k i x in
     let low : i < SLOTS = subst (λ (n : ℕ). n < SLOTS) is (find_at s id k before).low in
     let at : request_at (put_request s i r) k ≡ r = ap (request_at (put_request s i r)) is ∙ request_of_put s i r sized low in
-    subst (λ (n : ℕ). Q id n (request_at (put_request s i r) k).state) (sym is) (subst (λ (q : Request). Q id i q.state) (sym at) (own id (before ∙ ap Slot.At is))))
+    subst (λ (n : ℕ). Q id n (request_at (put_request s i r) k).state) (sym is) (subst (λ (q : Request). Q id i q.state) (sym at) (own id (before ∙ ap Some is))))
     (λ x. subst (λ (q : Request). Q id k q.state) (sym (request_of_other s i k r (eqb-false k i x))) (others id k (eqb-false k i x) before))
 
 -- With its id and its ends.
@@ -108,7 +107,7 @@ pub each_put : (Q : ℕ → ℕ → RequestState → Type 0) → OnEnds Q → (s
 each_put Q on s i r sized same ends a = each_at Q s i r sized same (λ id e. on id i (request_at s i).state r.state ends (a id i e)) (λ id k ne e. a id k e)
 
 -- Given back.
-pub each_freed : (Q : ℕ → ℕ → RequestState → Type 0) (s : Table) (i : ℕ) → Tidy s → ((id k : ℕ) → (k ≡ i → ⊥) → find s id ≡ Slot.At k → Q id k (request_at s k).state) → Each (free_slot s i) Q
+pub each_freed : (Q : ℕ → ℕ → RequestState → Type 0) (s : Table) (i : ℕ) → Tidy s → ((id k : ℕ) → (k ≡ i → ⊥) → find s id ≡ Some k → Q id k (request_at s k).state) → Each (free_slot s i) Q
 each_freed Q s i tidy others id k e =
     let h = free_holds s i id k (find_at (free_slot s i) id k e) in
     subst (λ (q : Request). Q id k q.state) (sym (other_of_free s i k h.other)) (others id k h.other (only_slot s tidy.distinct id k h.held))
@@ -144,7 +143,7 @@ inactive_freed s i b tidy none = each_freed (λ a j m. a ≡ b → ⊥) s i tidy
 abbrev pub Spares : ℕ → Table → Table → Type 0
 Spares id t u = (b : ℕ) (m : RequestState) → (b ≡ id → ⊥) → OpenWith t b m → OpenWith u b m
 
-pub spares_put : (t : Table) (id j : ℕ) (q : Request) → find t id ≡ Slot.At j → q.id ≡ (request_at t j).id → Spares id t (put_request t j q)
+pub spares_put : (t : Table) (id j : ℕ) (q : Request) → find t id ≡ Some j → q.id ≡ (request_at t j).id → Spares id t (put_request t j q)
 spares_put t id j q slot same b m ne o =
     let other : o.slot ≡ j → ⊥ = λ z. ne (one_id t b id o.slot j o.found slot z) in
     record {
@@ -161,7 +160,7 @@ holds_still t i id k ne h =
       has_id = id_at (free_slot t i) k ∙ ap (λ (r : Request). r.id) (other_of_free t i k ne) ∙ sym (id_at t k) ∙ h.has_id;
     }
 
-pub spares_free : (t : Table) (id j : ℕ) → Sized t → Tidy t → find t id ≡ Slot.At j → Spares id t (free_slot t j)
+pub spares_free : (t : Table) (id j : ℕ) → Sized t → Tidy t → find t id ≡ Some j → Spares id t (free_slot t j)
 spares_free t id j sized tidy slot b m ne o =
     let other : o.slot ≡ j → ⊥ = λ z. ne (one_id t b id o.slot j o.found slot z) in
     record {
@@ -172,14 +171,14 @@ spares_free t id j sized tidy slot b m ne o =
 
 -- ---- both tables
 -- One request changed at both ends, the others spared.
-pub agree_changed : (s t u : Table) (id i : ℕ) (r : Request) → Sized s → find s id ≡ Slot.At i → r.id ≡ (request_at s i).id → Agree s t → Spares id t u → OpenWith u id r.state → Agree (put_request s i r) u
+pub agree_changed : (s t u : Table) (id i : ℕ) (r : Request) → Sized s → find s id ≡ Some i → r.id ≡ (request_at s i).id → Agree s t → Spares id t u → OpenWith u id r.state → Agree (put_request s i r) u
 agree_changed s t u id i r sized slot same a spares own =
     each_at (λ b k. OpenWith u b) s i r sized same
     (λ b e. subst (λ (n : ℕ). OpenWith u n r.state) (one_id s id b i i slot e refl) own)
     (λ b k ne e. spares b (request_at s k).state (λ z. ne (one_slot s b id k i e slot z)) (a b k e))
 
 -- Given back at both.
-pub agree_freed : (s t u : Table) (id i : ℕ) → Tidy s → find s id ≡ Slot.At i → Agree s t → Spares id t u → Agree (free_slot s i) u
+pub agree_freed : (s t u : Table) (id i : ℕ) → Tidy s → find s id ≡ Some i → Agree s t → Spares id t u → Agree (free_slot s i) u
 agree_freed s t u id i tidy slot a spares =
     each_freed (λ b k. OpenWith u b) s i tidy (λ b k ne e. spares b (request_at s k).state (λ z. ne (one_slot s b id k i e slot z)) (a b k e))
 
@@ -188,5 +187,5 @@ pub agree_spared : (s t u : Table) (id : ℕ) → Inactive s id → Agree s t �
 agree_spared s t u id none a spares b k e = spares b (request_at s k).state (none b k e) (a b k e)
 
 -- A request that rests stays open where another is changed or given back.
-pub rests_still : (s s' t u : Table) (id i b : ℕ) → find s id ≡ Slot.At i → Spares id t u → (Inactive s b → Inactive s' b) → Resting s t b → Resting s' u b
+pub rests_still : (s s' t u : Table) (id i b : ℕ) → find s id ≡ Some i → Spares id t u → (Inactive s b → Inactive s' b) → Resting s t b → Resting s' u b
 rests_still s s' t u id i b slot spares still r = record { is_open = spares b no_state (λ z. r.inactive id i slot (sym z)) r.is_open; inactive = still r.inactive }

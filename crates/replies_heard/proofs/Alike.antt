@@ -1,7 +1,8 @@
 -- Reading does not rest on what was opened or written meanwhile: two states of the server's end, the second with the
 -- requests of the first, whatever their turns, and perhaps more, read the same bytes alike, as long as the first stays
 -- open.
-use Rattle.std.specs.Prelude.{ℕ, ◌+◌, ◌<◌, Bool, false, take, ltb, eqb, if◌then◌else◌}
+use Rattle.connection.specs.Slots.{Slot}
+use Rattle.std.specs.Prelude.{ℕ, ◌+◌, ◌<◌, Bool, false, take, ltb, eqb, if◌then◌else◌, Some, None}
 use Rattle.std.proofs.Math.Path.{◌≡◌, refl, ap, subst}
 use Rattle.std.proofs.Common.{sym, ◌∙◌, arith, eqb-true}
 use Rattle.std.proofs.Math.Bool.{true}
@@ -18,7 +19,6 @@ use Rattle.record_reader.specs.Position.{advanced}
 use Rattle.pair_list.specs.List.{well_formed}
 use Rattle.connection.specs.declared.answer.Output.{Output}
 use Rattle.connection.specs.declared.request.Request.{Request}
-use Rattle.connection.specs.declared.state.Slot.{Slot}
 use Rattle.connection.specs.declared.state.Table.{Table}
 use Rattle.connection.specs.Sizes.{SLOTS, QUERY}
 use Rattle.connection.specs.RequestCalls.{is_ended, ended_on}
@@ -171,11 +171,11 @@ module _ (w u : Table) where
         both (eqb kind 3) _ _ _ _ (λ k. both (eqb m 8) _ _ _ _ (λ e. still _ _ refl) (λ e. shut s 54 _)) (λ k. follows_output (output_of kind) m i w)
 
     follows_slot : (kind m id : ℕ) (k : Slot) → find s.table id ≡ k → Follows (on_slot k (on_request s kind m) (closes s 53)) (on_slot (find t' id) (on_request s' kind m) (closes s' 53))
-    follows_slot kind m id (Slot.At i) e =
+    follows_slot kind m id (Some i) e =
         let h = find_at s.table id i e in
-        let there : find t' id ≡ Slot.At i = only_slot t' ready'.tidy.distinct id i (a.holds id i h) in
+        let there : find t' id ≡ Some i = only_slot t' ready'.tidy.distinct id i (a.holds id i h) in
         rw there (follows_request kind m i (record { low = h.low; slot_taken = h.slot_taken }))
-    follows_slot kind m id Slot.Nowhere e = shut s 53 _
+    follows_slot kind m id None e = shut s 53 _
 
     pub follows_judged : (h : Header) → Follows (judged s h) (judged s' h)
     unfolding judged

@@ -1,6 +1,6 @@
 -- What a call of one id comes to at both ends: the bytes are heard, and the two tables change so that they agree as
 -- before.
-use Rattle.std.specs.Prelude.{ℕ, ◌≡◌, refl, Bool, true, List, [], ◌∷◌, ◌++◌}
+use Rattle.std.specs.Prelude.{ℕ, ◌≡◌, refl, Bool, true, List, [], ◌∷◌, ◌++◌, Some}
 use Rattle.std.proofs.Common.{sym, subst}
 use Rattle.wire.proofs.Bytes.{AllBytes}
 use Rattle.record.specs.Names.{STDOUT, STDERR, END_REQUEST, REQUEST_COMPLETE}
@@ -8,7 +8,6 @@ use Rattle.record.specs.Body.{end_body_bytes}
 use Rattle.record_writer.specs.Written.{record_bytes, stream_bytes}
 use Rattle.connection.specs.declared.answer.Output.{Output}
 use Rattle.connection.specs.declared.request.Request.{Request}
-use Rattle.connection.specs.declared.state.Slot.{Slot}
 use Rattle.connection.specs.declared.state.Table.{Table}
 use Rattle.connection.specs.Sizes.{CHUNK}
 use Rattle.connection.specs.Codes.{output_type}
@@ -29,9 +28,9 @@ use Rattle.replies_heard.specs.Moves.{end_note}
 -- back; the station closes. Other requests stay open at the server's end.
 pub data Changes (id : ℕ) (s t u : Table) : Table → Type 0 where
   Stays : u ≡ t → Changes id s t u s
-  Puts : (i : ℕ) (r : Request) → find s id ≡ Slot.At i → r.id ≡ (request_at s i).id → Spares id t u → OpenWith u id r.state → Changes id s t u (put_request s i r)
-  Frees : (i : ℕ) → find s id ≡ Slot.At i → Tidy s → Spares id t u → Changes id s t u (free_slot s i)
-  Shuts : (i : ℕ) → find s id ≡ Slot.At i → Spares id t u → Changes id s t u no_requests
+  Puts : (i : ℕ) (r : Request) → find s id ≡ Some i → r.id ≡ (request_at s i).id → Spares id t u → OpenWith u id r.state → Changes id s t u (put_request s i r)
+  Frees : (i : ℕ) → find s id ≡ Some i → Tidy s → Spares id t u → Changes id s t u (free_slot s i)
+  Shuts : (i : ℕ) → find s id ≡ Some i → Spares id t u → Changes id s t u no_requests
 
 -- What a call of one id writes, and what it means: nothing; data; the end of a stream; a finish, with the ends that it
 -- owes.

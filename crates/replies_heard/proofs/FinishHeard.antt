@@ -1,5 +1,5 @@
 -- A finish is heard as it was meant: the ends that are owed, then the end of the request with its status.
-use Rattle.std.specs.Prelude.{ℕ, ◌+◌, ◌<◌, ◌≡◌, Bool, true, false, List, [], ◌++◌, drop, eqb}
+use Rattle.std.specs.Prelude.{ℕ, ◌+◌, ◌<◌, ◌≡◌, Bool, true, false, List, [], ◌++◌, drop, eqb, Some}
 use Rattle.std.proofs.Math.Path.{refl, ap}
 use Rattle.std.proofs.Common.{sym, ◌∙◌, ⊎_elim, arith}
 use Rattle.std.proofs.Math.ListN.{length, take}
@@ -14,7 +14,6 @@ use Rattle.connection.specs.declared.answer.Output.{Output}
 use Rattle.connection.specs.declared.request.RequestState.{RequestState}
 use Rattle.connection.specs.declared.request.Request.{Request}
 use Rattle.connection.specs.declared.state.Conn.{Conn}
-use Rattle.connection.specs.declared.state.Slot.{Slot}
 use Rattle.connection.specs.declared.state.Table.{Table}
 use Rattle.connection.specs.Codes.{output_type}
 use Rattle.connection.specs.Slots.{request_at, put_request, free_slot, no_requests, find}
@@ -39,7 +38,7 @@ use Rattle.replies_heard.proofs.CallHeard.{Changes, Frees, Shuts, Writing, Write
 record EndHeard (id j : ℕ) (v : List ℕ) (owed : Bool) (o : Output) (t : Table) : Type 0 where
   pub table : Table
   pub heard : Heard t v (end_if owed (output_type o) id) table v (end_note owed id (output_type o))
-  pub slot : find table id ≡ Slot.At j
+  pub slot : find table id ≡ Some j
   pub spares : Spares id t table
   pub err : o ≡ Output.Stdout → (request_at table j).state.err_ended ≡ (request_at t j).state.err_ended
 
@@ -48,7 +47,7 @@ unfolding ended_on
 err_stays q Output.Stdout e = refl
 err_stays q Output.Stderr e = let z : ◌≡◌ {A = ℕ} 0 1 = cc in absurd (omega arith)
 
-end_if_lem : (id j : ℕ) (v : List ℕ) (owed : Bool) (o : Output) (t : Table) → id < 65536 → Ready (idle t true v) 0 → find t id ≡ Slot.At j → (owed ≡ true → is_ended o (request_at t j).state ≡ false)
+end_if_lem : (id j : ℕ) (v : List ℕ) (owed : Bool) (o : Output) (t : Table) → id < 65536 → Ready (idle t true v) 0 → find t id ≡ Some j → (owed ≡ true → is_ended o (request_at t j).state ≡ false)
     → EndHeard id j v owed o t
 end_if_lem id j v true o t hi ready slot live =
     let q = ended_on (request_at t j) o in
@@ -86,7 +85,7 @@ record Over (r : Request) (id status : ℕ) (t : Table) (v : List ℕ) : Type 0 
   pub spares : Spares id t table
   pub ok : AllBytes (finish_bytes r status)
 
-over_heard : (r : Request) (id j status : ℕ) (t : Table) (v : List ℕ) → r.id ≡ id → id < 65536 → status < 4294967296 → Ready (idle t true v) 0 → find t id ≡ Slot.At j
+over_heard : (r : Request) (id j status : ℕ) (t : Table) (v : List ℕ) → r.id ≡ id → id < 65536 → status < 4294967296 → Ready (idle t true v) 0 → find t id ≡ Some j
     → SameEnds (request_at t j).state r.state → Over r id status t v
 unfolding finish_bytes
 over_heard r id j status t v mine hi small ready slot same =
@@ -121,7 +120,7 @@ refused_writes c store id status buffer e =
     (λ t. simp t)
 
 module _ (c : Conn) (store : List ℕ) (id status : ℕ) (buffer : List ℕ) (t : Table) (v : List ℕ) (ready : Ready (idle t true v) 0)
-    (mine : (i : ℕ) → find c.table id ≡ Slot.At i → OpenWith t id (request_at c.table i).state) (hi : id < 65536) where
+    (mine : (i : ℕ) → find c.table id ≡ Some i → OpenWith t id (request_at c.table i).state) (hi : id < 65536) where
   abbrev w : C.Finished
   w = C.finish c store id status buffer
 
@@ -137,7 +136,7 @@ module _ (c : Conn) (store : List ℕ) (id status : ℕ) (buffer : List ℕ) (t 
       let d = did c store id status buffer e in
       let f = finish_done c store id status buffer e in
       let i = f.admitted.slot in
-      let slot : find c.table id ≡ Slot.At (C.slot_of c id) = f.admitted.found ∙ ap Slot.At (sym (slot_found c id i f.admitted.found)) in
+      let slot : find c.table id ≡ Some (C.slot_of c id) = f.admitted.found ∙ ap Some (sym (slot_found c id i f.admitted.found)) in
       let p = mine (C.slot_of c id) slot in
       let k = over_heard own id p.slot status t v d.has_id hi small ready p.found p.ends in
       let bytes = finish_bytes own status in

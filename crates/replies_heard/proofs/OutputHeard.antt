@@ -1,5 +1,5 @@
 -- What a station says, and the ends of its streams, are heard as they were meant.
-use Rattle.std.specs.Prelude.{ℕ, ◌<◌, ◌≡◌, refl, true, false, List, [], ◌∷◌, take, eqb}
+use Rattle.std.specs.Prelude.{ℕ, ◌<◌, ◌≡◌, refl, true, false, List, [], ◌∷◌, take, eqb, Some}
 use Rattle.std.proofs.Common.{sym, ap, ◌∙◌, subst, arith, eqb-true}
 use Rattle.std.proofs.lemmas.Bool.{eqb-false}
 use Rattle.wire.specs.Test.{by_test}
@@ -8,7 +8,6 @@ use Rattle.record_writer.specs.Written.{record_bytes, stream_bytes}
 use Rattle.connection.specs.declared.answer.Output.{Output}
 use Rattle.connection.specs.declared.request.Request.{Request}
 use Rattle.connection.specs.declared.state.Conn.{Conn}
-use Rattle.connection.specs.declared.state.Slot.{Slot}
 use Rattle.connection.specs.declared.state.Table.{Table}
 use Rattle.connection.specs.Sizes.{CHUNK}
 use Rattle.connection.specs.Codes.{output_type}
@@ -46,7 +45,7 @@ pub record StreamEnded (t : Table) (v : List ℕ) (id : ℕ) (o : Output) (q : R
   pub spares : Spares id t u
   pub there : OpenWith u id (ended_on q o).state
 
-pub stream_ended_lem : (t : Table) (v : List ℕ) → Ready (idle t true v) 0 → (id j : ℕ) → find t id ≡ Slot.At j → id < 65536 → (o : Output) → is_ended o (request_at t j).state ≡ false
+pub stream_ended_lem : (t : Table) (v : List ℕ) → Ready (idle t true v) 0 → (id j : ℕ) → find t id ≡ Some j → id < 65536 → (o : Output) → is_ended o (request_at t j).state ≡ false
     → (q : Request) → SameEnds (request_at t j).state q.state → StreamEnded t v id o q (put_request t j (ended_on (request_at t j) o))
 stream_ended_lem t v ready id j found hi o live q same =
     let r = request_at t j in
@@ -61,7 +60,7 @@ stream_ended_lem t v ready id j found hi o live q same =
     }
 
 -- ---- calls: the request that is called is open at the server's end
-module _ (c : Conn) (id : ℕ) (t : Table) (v : List ℕ) (ready : Ready (idle t true v) 0) (mine : (i : ℕ) → find c.table id ≡ Slot.At i → OpenWith t id (request_at c.table i).state) (hi : id < 65536) where
+module _ (c : Conn) (id : ℕ) (t : Table) (v : List ℕ) (ready : Ready (idle t true v) 0) (mine : (i : ℕ) → find c.table id ≡ Some i → OpenWith t id (request_at c.table i).state) (hi : id < 65536) where
   abbrev own : Request
   own = request_of c id
 
@@ -70,7 +69,7 @@ module _ (c : Conn) (id : ℕ) (t : Table) (v : List ℕ) (ready : Ready (idle t
 
   -- A call that is let through, of a stream that runs: its request is open at the server's end.
   record Let (o : Output) : Type 0 where
-    pub slot : find c.table id ≡ Slot.At at
+    pub slot : find c.table id ≡ Some at
     pub there : OpenWith t id own.state
     pub live : is_ended o (request_at t there.slot).state ≡ false
 

@@ -1,5 +1,6 @@
 -- A step of the station keeps what holds of each active request, if it rests on the ended output streams alone and holds
 -- of what the step opens.
+use Rattle.connection.specs.Slots.{Slot}
 use Rattle.std.specs.Prelude.{ℕ, ◌+◌, ◌<◌, ◌≡◌, Bool, true, false, List, length, leb, if◌then◌else◌}
 use Rattle.std.proofs.Math.Path.{refl}
 use Rattle.wire.specs.Buffer.{copied}
@@ -7,7 +8,6 @@ use Rattle.slot_word.specs.Word.{taken}
 use Rattle.slot_word.proofs.WordLaws.{least_free}
 use Rattle.connection.specs.declared.request.Due.{Due}
 use Rattle.connection.specs.declared.request.RequestState.{RequestState}
-use Rattle.connection.specs.declared.state.Slot.{Slot}
 use Rattle.connection.specs.declared.state.Table.{Table}
 use Rattle.connection.specs.Sizes.{SLOTS, AREA}
 use Rattle.connection.specs.Event.{Event}

@@ -21,56 +21,49 @@ pub struct Ruling {
 }
 
 // A fault zeroes the area and the counts and spends the request.
-pub fn fault(r: Request, area: &mut [u8], f: Fault) -> Ruling
-    ensures { ruled_by result area.new ≡ faulted (held r area.old) (fault_cause f) }
+#[tactic(auto, unfolding(connection::specs::Request::faulted))]
+pub fn fault(r: Request, area: &mut [u8], fault: Fault) -> Ruling
+    ensures { ruled_by result area.new ≡ faulted (held r area.old) (fault_cause fault) }
 {
     clear(area);
-    let id = r.id;
-    let old = r.state;
-    let spent = with_life(old, Life::Faulted);
-    let state = with_shown(spent, Shown { stdin: 0, data: 0 });
+    let spent = with_life(r.state, Life::Faulted);
     Ruling {
         request: Request {
-            id: id,
             length: 0,
-            state: state,
+            state: with_shown(spent, Shown { stdin: 0, data: 0 }),
+            ..r
         },
         due: Due::Skip,
-        event: Event::Fault { id: id, fault: f },
+        event: Event::Fault { id: r.id, fault },
     }
 }
 
 // An abort spends the request; its area and its counts stay.
+#[tactic(auto, unfolding(connection::specs::Request::aborted))]
 pub fn abort(r: Request, area: &mut [u8]) -> Ruling
     ensures { ruled_by result area.new ≡ aborted (held r area.old) }
 {
-    let id = r.id;
-    let old = r.state;
-    let state = with_life(old, Life::Aborted);
     Ruling {
         request: Request {
-            id: id,
-            length: r.length,
-            state: state,
+            state: with_life(r.state, Life::Aborted),
+            ..r
         },
         due: Due::Skip,
-        event: Event::Abort { id: id },
+        event: Event::Abort { id: r.id },
     }
 }
 
 // A stream ends: the turn moves on.
-pub fn end_turn(r: Request, area: &mut [u8], t: Turn, e: Event) -> Ruling
-    ensures { ruled_by result area.new ≡ turned (held r area.old) t (event_of e) }
+#[tactic(auto, unfolding(connection::specs::Request::turned))]
+pub fn end_turn(r: Request, area: &mut [u8], turn: Turn, event: Event) -> Ruling
+    ensures { ruled_by result area.new ≡ turned (held r area.old) turn (event_of event) }
 {
-    let old = r.state;
-    let state = with_turn(old, t);
     Ruling {
         request: Request {
-            id: r.id,
-            length: r.length,
-            state: state,
+            state: with_turn(r.state, turn),
+            ..r
         },
         due: Due::Skip,
-        event: e,
+        event,
     }
 }

@@ -16,20 +16,14 @@ use request_state::{is_spent, turn_type};
 fn is_input(kind: u8) -> bool
     ensures { result ≡ is_input kind }
 {
-    if kind == names::PARAMS {
-        return true;
-    }
-    if kind == names::STDIN {
-        return true;
-    }
-    kind == names::DATA
+    matches!(kind, names::PARAMS | names::STDIN | names::DATA)
 }
 
 // A record of the stream whose turn it is.
-fn in_turn(r: Request, area: &mut [u8], t: Turn, n: u16) -> Ruling
-    ensures { ruled_by result area.new ≡ in_turn t n (held r area.old) }
+fn in_turn(r: Request, area: &mut [u8], turn: Turn, n: u16) -> Ruling
+    ensures { ruled_by result area.new ≡ in_turn turn n (held r area.old) }
 {
-    match t {
+    match turn {
         Turn::Params => on_params(r, area, n),
         Turn::Stdin => on_stdin(r, area, n),
         Turn::Data => on_data(r, area, n),
@@ -38,11 +32,11 @@ fn in_turn(r: Request, area: &mut [u8], t: Turn, n: u16) -> Ruling
 }
 
 // A record of an input stream.
+#[tactic(auto, unfolding(connection::specs::Request::on_input))]
 fn on_input(r: Request, area: &mut [u8], kind: u8, n: u16) -> Ruling
     ensures { ruled_by result area.new ≡ on_input kind n (held r area.old) }
 {
-    let m = r.state;
-    let turn = m.turn;
+    let turn = r.state.turn;
     if kind == turn_type(turn) {
         return in_turn(r, area, turn, n);
     }
@@ -50,6 +44,7 @@ fn on_input(r: Request, area: &mut [u8], kind: u8, n: u16) -> Ruling
 }
 
 // A header for a request that is not spent.
+#[tactic(auto, unfolding(connection::specs::Request::on_live))]
 fn on_live(r: Request, area: &mut [u8], kind: u8, n: u16) -> Ruling
     ensures { ruled_by result area.new ≡ on_live kind n (held r area.old) }
 {
@@ -66,12 +61,11 @@ fn on_live(r: Request, area: &mut [u8], kind: u8, n: u16) -> Ruling
 }
 
 // A header of that type, with n content bytes, for this request. Its area is lent.
+#[tactic(auto, unfolding(connection::specs::Request::on_header))]
 pub fn on_header(r: Request, area: &mut [u8], kind: u8, n: u16) -> Ruling
     ensures { ruled_by result area.new ≡ on_header kind n (held r area.old) }
 {
-    let m = r.state;
-    let life = m.life;
-    if is_spent(life) {
+    if is_spent(r.state.life) {
         return Ruling {
             request: r,
             due: Due::Skip,

@@ -1,9 +1,8 @@
 -- What holds of a request's list and of the end of PARAMS.
-use Rattle.std.specs.Prelude.{◌≡◌, ℕ, ◌-◌, ◌≤◌, min, List, ltb, length, take}
+use Rattle.std.specs.Prelude.{◌≡◌, ℕ, ◌-◌, ◌≤◌, min, List, ltb, length, take, Some, None}
 use Rattle.std.proofs.Common.{sym, ap, ◌∙◌, arith, take_all, ltb-true, ltb-false}
 use Rattle.wire.specs.Test.{by_test}
 use Rattle.connection.specs.declared.event.Fault.{Fault}
-use Rattle.std.proofs.Math.Option.{none, some}
 use Rattle.connection.specs.Codes.{fault_cause}
 use Rattle.connection.specs.Event.{Event}
 use Rattle.connection.specs.Request.{Held, list_of, after_params, faulted, turned, params_fault, params_ended}
@@ -18,12 +17,12 @@ list_part area n k e =
     take_all (k - 0) area (omega arith) ∙ sym (take_all n area h))
 
 -- what the end of PARAMS comes to: a fault
-pub ends_in_fault : (h : Held) (f : Fault) → some (fault_cause f) ≡ params_fault (list_of h) → params_ended h ≡ faulted h (fault_cause f)
+pub ends_in_fault : (h : Held) (f : Fault) → Some (fault_cause f) ≡ params_fault (list_of h) → params_ended h ≡ faulted h (fault_cause f)
 unfolding params_ended
 ends_in_fault h f e = simp (← e)
 
 -- and the request ready
-pub ends_ready : (h : Held) → none ≡ params_fault (list_of h)
+pub ends_ready : (h : Held) → None ≡ params_fault (list_of h)
     → params_ended h ≡ turned h (after_params h.request.state.role) (Event.Ready h.request.id h.request.length)
 unfolding params_ended
 ends_ready h e = simp (← e)

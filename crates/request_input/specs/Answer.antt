@@ -1,9 +1,9 @@
 -- What the end of PARAMS comes to, in the rules' values.
-use Rattle.std.proofs.Math.Option.{Option, none, some}
+use Rattle.std.specs.Prelude.{Ok, Err, Result, ⊤, Some, None, Option}
 use Rattle.machine.specs.Cause.{Cause}
 use Rattle.connection.specs.Codes.{fault_cause}
-use Rattle.request_input.specs.declared.ParamsEnd.{ParamsEnd}
+use Rattle.connection.specs.declared.event.Fault.{Fault}
 
-abbrev pub end_cause : ParamsEnd → Option Cause
-end_cause ParamsEnd.Ready = none
-end_cause (ParamsEnd.Fault f) = some (fault_cause f)
+abbrev pub end_cause : Result ⊤ Fault → Option Cause
+end_cause (Ok tt) = None
+end_cause (Err f) = Some (fault_cause f)

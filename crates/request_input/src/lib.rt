@@ -6,7 +6,7 @@ ghost use Rattle.std.specs.Prelude.{◌≡◌, ◌≤◌, length};
 ghost use Rattle.connection.specs.Request.{list_of, params_fault, params_ended, on_params, on_stdin, on_data, grown};
 ghost use Rattle.connection.specs.Codes.{stream_due};
 ghost use Rattle.connection.specs.Request.{measured, counts_on};
-ghost use Rattle.stated_length.specs.Stated.{stated_by, stated_in};
+ghost use Rattle.stated_length.specs.Stated.{stated_in};
 ghost use Rattle.request_fault.specs.Answer.{held, ruled_by};
 ghost use Rattle.request_input.specs.Answer.{end_cause};
 
@@ -17,69 +17,55 @@ use pair_list::{Ending, list_ending};
 use pair_repeats::list_repeats;
 use request_fault::{Ruling, end_turn, fault};
 use request_state::{after_params, after_stdin, show_more, with_shown};
-use stated_length::{Stated, stated_in};
-use wire::{copy_into, least};
+use stated_length::stated_in;
+use std::cmp::Ordering;
+use wire::copy_into;
 
-// What the end of PARAMS comes to.
-#[derive(Clone, Copy)]
-enum ParamsEnd {
-    Ready,
-    Fault(Fault),
+// The list of a request, in its area.
+fn own_list<'a>(r: Request, area: &'a [u8]) -> &'a [u8]
+    ensures { result.now ≡ list_of (held r area.now) }
+{
+    &area[..area.len().min(r.length as usize)]
 }
 
 // What it comes to for a list: a fault if the list is malformed, else a fault if it repeats a name, else ready.
-fn list_end(list: &[u8]) -> ParamsEnd
+#[tactic(auto, using(pair_list::proofs::ListLaws::ended_formed, pair_list::proofs::ListLaws::broken_formed), unfolding(connection::specs::Request::params_fault))]
+fn list_end(list: &[u8]) -> Result<(), Fault>
     requires { length list.now ≤ 65535 }
     ensures { end_cause result ≡ params_fault list.now }
 {
-    let ending = list_ending(list);
-    let Ending::Malformed(place) = ending else {
-        if list_repeats(list) {
-            return ParamsEnd::Fault(Fault::Repeated);
-        }
-        return ParamsEnd::Ready;
-    };
-    let at = place as u16;
-    ParamsEnd::Fault(Fault::Malformed { at: at })
-}
-
-// The same for the list of a request.
-fn own_list_end(r: Request, area: &[u8]) -> ParamsEnd
-    ensures { end_cause result ≡ params_fault (list_of (held r area.now)) }
-{
-    let z: usize = 0;
-    let n = least(r.length as usize, area.len());
-    list_end(&area[z..n])
+    if let Ending::Malformed(place) = list_ending(list) {
+        return Err(Fault::Malformed { at: place as u16 });
+    }
+    if list_repeats(list) {
+        return Err(Fault::Repeated);
+    }
+    Ok(())
 }
 
 // The end of PARAMS: the request is ready, or it has a fault.
+#[tactic(auto, unfolding(connection::specs::Request::params_ended))]
 fn end_params(r: Request, area: &mut [u8]) -> Ruling
     ensures { ruled_by result area.new ≡ params_ended (held r area.old) }
 {
-    let end = own_list_end(r, area);
-    let ParamsEnd::Fault(f) = end else {
-        let m = r.state;
-        let role = m.role;
-        let t = after_params(role);
-        return end_turn(
-            r,
-            area,
-            t,
-            Event::Ready {
+    match list_end(own_list(r, area)) {
+        Err(why) => fault(r, area, why),
+        Ok(()) => {
+            let ready = Event::Ready {
                 id: r.id,
                 length: r.length,
-            },
-        );
-    };
-    fault(r, area, f)
+            };
+            end_turn(r, area, after_params(r.state.role), ready)
+        }
+    }
 }
 
 // PARAMS with n content bytes.
+#[tactic(auto, unfolding(connection::specs::Request::on_params))]
 pub fn on_params(r: Request, area: &mut [u8], n: u16) -> Ruling
     ensures { ruled_by result area.new ≡ on_params n (held r area.old) }
 {
-    let had = r.length as usize;
-    if AREA < had + n as usize {
+    if AREA < r.length as usize + n as usize {
         return fault(r, area, Fault::TooLong);
     }
     if n == 0 {
@@ -93,51 +79,40 @@ pub fn on_params(r: Request, area: &mut [u8], n: u16) -> Ruling
 }
 
 // A count against a stated length.
-fn measure(count: u32, stated: Stated) -> Measure
-    ensures { result ≡ measured count (stated_by stated) }
+#[tactic(auto, unfolding(connection::specs::Request::measured))]
+fn measure(count: u32, stated: Option<u32>) -> Measure
+    ensures { result ≡ measured count stated }
 {
-    let Stated::Length(n) = stated else {
+    let Some(stated) = stated else {
         return Measure::Unstated;
     };
-    if count < n {
-        return Measure::Short;
+    match count.cmp(&stated) {
+        Ordering::Less => Measure::Short,
+        Ordering::Equal => Measure::Exact,
+        Ordering::Greater => Measure::Over,
     }
-    if n < count {
-        return Measure::Over;
-    }
-    Measure::Exact
 }
 
 // A count against the length that the request's list states under a name.
 fn own_measure<'a>(r: Request, area: &'a [u8], name: &'a [u8], count: u32) -> Measure
     ensures { result ≡ measured count (stated_in (list_of (held r area.now)) name.now) }
 {
-    let z: usize = 0;
-    let n = least(r.length as usize, area.len());
-    let stated = stated_in(&area[z..n], name);
-    measure(count, stated)
+    measure(count, stated_in(own_list(r, area), name))
 }
 
 // STDIN with n content bytes.
+#[tactic(auto, unfolding(connection::specs::Request::on_stdin))]
 pub fn on_stdin(r: Request, area: &mut [u8], n: u16) -> Ruling
     ensures { ruled_by result area.new ≡ on_stdin n (held r area.old) }
 {
     if n == 0 {
-        let m = r.state;
-        let role = m.role;
-        let shown = m.shown;
-        let t = after_stdin(role);
-        let measure = own_measure(r, area, b"CONTENT_LENGTH", shown.stdin);
-        return end_turn(
-            r,
-            area,
-            t,
-            Event::End {
-                id: r.id,
-                stream: Stream::Stdin,
-                measure: measure,
-            },
-        );
+        let measure = own_measure(r, area, b"CONTENT_LENGTH", r.state.shown.stdin);
+        let end = Event::End {
+            id: r.id,
+            stream: Stream::Stdin,
+            measure,
+        };
+        return end_turn(r, area, after_stdin(r.state.role), end);
     }
     Ruling {
         request: r,
@@ -147,23 +122,18 @@ pub fn on_stdin(r: Request, area: &mut [u8], n: u16) -> Ruling
 }
 
 // DATA with n content bytes.
+#[tactic(auto, unfolding(connection::specs::Request::on_data))]
 pub fn on_data(r: Request, area: &mut [u8], n: u16) -> Ruling
     ensures { ruled_by result area.new ≡ on_data n (held r area.old) }
 {
     if n == 0 {
-        let m = r.state;
-        let shown = m.shown;
-        let measure = own_measure(r, area, b"FCGI_DATA_LENGTH", shown.data);
-        return end_turn(
-            r,
-            area,
-            Turn::Done,
-            Event::End {
-                id: r.id,
-                stream: Stream::Data,
-                measure: measure,
-            },
-        );
+        let measure = own_measure(r, area, b"FCGI_DATA_LENGTH", r.state.shown.data);
+        let end = Event::End {
+            id: r.id,
+            stream: Stream::Data,
+            measure,
+        };
+        return end_turn(r, area, Turn::Done, end);
     }
     Ruling {
         request: r,
@@ -173,23 +143,19 @@ pub fn on_data(r: Request, area: &mut [u8], n: u16) -> Ruling
 }
 
 // PARAMS content for this request: into its area, after what it holds.
+#[tactic(auto, unfolding(connection::specs::Request::grown))]
 pub fn grow(r: Request, area: &mut [u8], bytes: &[u8]) -> Request
     ensures { held result area.new ≡ grown (held r area.old) bytes.now }
 {
     let had = r.length as usize;
-    let n = bytes.len();
-    if AREA < had {
-        return r;
-    }
-    if AREA - had < n {
+    let length = had.saturating_add(bytes.len());
+    if AREA < length {
         return r;
     }
     copy_into(area, had, bytes);
-    let state = r.state;
     Request {
-        id: r.id,
-        length: (had + n) as u16,
-        state: state,
+        length: length as u16,
+        ..r
     }
 }
 
@@ -197,12 +163,10 @@ pub fn grow(r: Request, area: &mut [u8], bytes: &[u8]) -> Request
 pub fn count_shown(r: Request, due: Due, n: usize) -> Request
     ensures { result ≡ counts_on due n r }
 {
-    let old = r.state;
-    let shown = show_more(due, n, old.shown);
+    let shown = show_more(due, n, r.state.shown);
     Request {
-        id: r.id,
-        length: r.length,
-        state: with_shown(old, shown),
+        state: with_shown(r.state, shown),
+        ..r
     }
 }
 

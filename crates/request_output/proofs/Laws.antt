@@ -1,5 +1,5 @@
 -- What holds of a request's output as it is written.
-use Rattle.std.specs.Prelude.{ℕ, ◌+◌, ◌<◌, ◌≡◌, refl, Bool, false, List, [], ◌∷◌, length, ltb, leb, if◌then◌else◌}
+use Rattle.std.specs.Prelude.{ℕ, ◌+◌, ◌<◌, ◌≡◌, refl, Bool, false, List, [], ◌∷◌, length, ltb, leb, if◌then◌else◌, Ok, Err}
 use Rattle.std.proofs.Common.{sym, ◌∙◌, arith, zero-add, ltb-true, ltb-false, le-leb}
 use Rattle.std.proofs.Math.Path.{ap}
 use Rattle.std.proofs.Math.Bool.{true, not}
@@ -12,7 +12,6 @@ use Rattle.record_writer.proofs.StreamLaws.{stream_length_lem}
 use Rattle.connection.specs.declared.request.Request.{Request}
 use Rattle.connection.specs.declared.answer.Output.{Output}
 use Rattle.connection.specs.declared.answer.Refusal.{Refusal}
-use Rattle.connection.specs.declared.answer.Wrote.{Wrote as CodeWrote}
 use Rattle.connection.specs.Sizes.{CHUNK}
 use Rattle.connection.specs.Codes.{output_type, refusal_number}
 use Rattle.connection.specs.RequestCalls.{no_output, is_ended, uses_err, output_refusal, say_bytes, end_bytes, said_on, ended_on, writes, say_in, end_in}
@@ -52,13 +51,13 @@ uses_some (b ∷ bytes) used e = refl
 -- ---- one request's answer
 -- a refused output writes nothing
 pub writes_refused : (why : Refusal) (n : ℕ) (bytes : List ℕ) (after r : Request) (l : List ℕ) → refusal_number why ≡ n
-    → said_by (record { wrote = CodeWrote.Refused why; request = r }) l ≡ writes n bytes after r l
+    → said_by (record { wrote = Err why; request = r }) l ≡ writes n bytes after r l
 unfolding writes
 writes_refused why n bytes after r l e = rw (← e) (simp (refusal_some why))
 
 -- one that is let through fills the buffer's start
 pub writes_passed : (n : ℕ) (bytes : List ℕ) (after r : Request) (l : List ℕ) → 0 ≡ n
-    → said_by (record { wrote = CodeWrote.Bytes (length bytes); request = after }) (put_at l 0 bytes) ≡ writes n bytes after r l
+    → said_by (record { wrote = Ok (length bytes); request = after }) (put_at l 0 bytes) ≡ writes n bytes after r l
 unfolding writes
 writes_passed n bytes after r l e = rw (← e)
 
@@ -81,7 +80,7 @@ free r output bytes l e = let f = rows (no_output r) (is_ended output r.state) (
 module _ (r : Request) (output : Output) (l : List ℕ) {n : ℕ} {l' : List ℕ} {after : Request} where
   written : (bytes : List ℕ) (n' : ℕ) (after' : Request) → after ≡ after' → 0 ≡ n'
       → ◌≡◌ {A = Placed} (record { next = n; buffer = l' }) (record { next = 0 + length bytes; buffer = put_at l 0 bytes })
-      → said_by (record { wrote = CodeWrote.Bytes n; request = after }) l' ≡ writes n' bytes after' r l
+      → said_by (record { wrote = Ok n; request = after }) l' ≡ writes n' bytes after' r l
   written bytes n' after' ea e w =
       let en : n ≡ length bytes = ap (λ (p : Placed). p.next) w ∙ zero-add (length bytes) in
       let el : l' ≡ put_at l 0 bytes = ap (λ (p : Placed). p.buffer) w in
@@ -90,7 +89,7 @@ module _ (r : Request) (output : Output) (l : List ℕ) {n : ℕ} {l' : List ℕ
   pub say_passed : (bytes : List ℕ) → 0 ≡ output_refusal r output (say_bytes r output bytes) l
       → ◌≡◌ {A = Placed} (record { next = n; buffer = l' }) (stream_placed l 0 (output_type output) r.id bytes CHUNK)
       → after ≡ said_on r output bytes
-      → said_by (record { wrote = CodeWrote.Bytes n; request = after }) l' ≡ say_in r output bytes l
+      → said_by (record { wrote = Ok n; request = after }) l' ≡ say_in r output bytes l
   unfolding say_in stream_placed
   say_passed bytes e w ea =
       let fits : stream_fits CHUNK (length bytes) 0 (length l) ≡ true = stream_room (output_type output) r.id bytes l ∙ ap not (free r output (say_bytes r output bytes) l e).room in
@@ -99,7 +98,7 @@ module _ (r : Request) (output : Output) (l : List ℕ) {n : ℕ} {l' : List ℕ
   pub end_passed : 0 ≡ output_refusal r output (end_bytes r output) l
       → ◌≡◌ {A = Placed} (record { next = n; buffer = l' }) (record_placed l 0 (output_type output) r.id [])
       → after ≡ ended_on r output
-      → said_by (record { wrote = CodeWrote.Bytes n; request = after }) l' ≡ end_in r output l
+      → said_by (record { wrote = Ok n; request = after }) l' ≡ end_in r output l
   unfolding end_in record_placed
   end_passed e w ea =
       let fits : record_fits 0 0 (length l) ≡ true = end_room (output_type output) r.id l ∙ ap not (free r output (end_bytes r output) l e).room in

@@ -9,125 +9,81 @@ ghost use Rattle.connection.specs.RequestCalls.{in_params, is_faulted};
 use connection::request::{Due, Life, Request, RequestState, Role, Shown, Turn};
 use record::names;
 
-pub fn with_turn(m: RequestState, t: Turn) -> RequestState
-    ensures { result ≡ with_turn m t }
+#[tactic(auto, unfolding(connection::specs::Request::with_turn))]
+pub fn with_turn(state: RequestState, turn: Turn) -> RequestState
+    ensures { result ≡ with_turn state turn }
 {
-    let role = m.role;
-    let life = m.life;
-    let shown = m.shown;
-    RequestState {
-        role: role,
-        turn: t,
-        life: life,
-        keep: m.keep,
-        out_ended: m.out_ended,
-        err_used: m.err_used,
-        err_ended: m.err_ended,
-        shown: shown,
-    }
+    RequestState { turn, ..state }
 }
 
-pub fn with_life(m: RequestState, l: Life) -> RequestState
-    ensures { result ≡ with_life m l }
+#[tactic(auto, unfolding(connection::specs::Request::with_life))]
+pub fn with_life(state: RequestState, life: Life) -> RequestState
+    ensures { result ≡ with_life state life }
 {
-    let role = m.role;
-    let turn = m.turn;
-    let shown = m.shown;
-    RequestState {
-        role: role,
-        turn: turn,
-        life: l,
-        keep: m.keep,
-        out_ended: m.out_ended,
-        err_used: m.err_used,
-        err_ended: m.err_ended,
-        shown: shown,
-    }
+    RequestState { life, ..state }
 }
 
 // With what was shown of its input.
-pub fn with_shown(m: RequestState, c: Shown) -> RequestState
-    ensures { result ≡ with_shown m c }
+pub fn with_shown(state: RequestState, shown: Shown) -> RequestState
+    ensures { result ≡ with_shown state shown }
 {
-    let role = m.role;
-    let turn = m.turn;
-    let life = m.life;
-    RequestState {
-        role: role,
-        turn: turn,
-        life: life,
-        keep: m.keep,
-        out_ended: m.out_ended,
-        err_used: m.err_used,
-        err_ended: m.err_ended,
-        shown: c,
-    }
+    RequestState { shown, ..state }
 }
 
 // A count, n bytes later: it stays at its largest number.
+#[tactic(auto, unfolding(connection::specs::Request::counted))]
 fn count_on(count: u32, n: usize) -> u32
     ensures { result ≡ counted count n }
 {
-    let left = (4294967295 - count) as usize;
-    if n < left {
-        return count + n as u32;
-    }
-    4294967295
+    u32::try_from((count as usize).saturating_add(n)).unwrap_or(u32::MAX)
 }
 
 // What was shown, n bytes of that content later.
-pub fn show_more(due: Due, n: usize, c: Shown) -> Shown
-    ensures { result ≡ shown_more due n c }
+pub fn show_more(due: Due, n: usize, shown: Shown) -> Shown
+    ensures { result ≡ shown_more due n shown }
 {
     match due {
-        Due::Skip => c,
-        Due::Params => c,
+        Due::Skip | Due::Params => shown,
         Due::Stdin => Shown {
-            stdin: count_on(c.stdin, n),
-            data: c.data,
+            stdin: count_on(shown.stdin, n),
+            ..shown
         },
         Due::Data => Shown {
-            stdin: c.stdin,
-            data: count_on(c.data, n),
+            data: count_on(shown.data, n),
+            ..shown
         },
     }
 }
 
 // Whether a request is faulted or aborted.
-pub fn is_spent(l: Life) -> bool
-    ensures { result ≡ is_spent l }
+pub fn is_spent(life: Life) -> bool
+    ensures { result ≡ is_spent life }
 {
-    match l {
-        Life::Live => false,
-        Life::Faulted => true,
-        Life::Aborted => true,
+    matches!(life, Life::Faulted | Life::Aborted)
+}
+
+pub fn after_params(role: Role) -> Turn
+    ensures { result ≡ after_params role }
+{
+    match role {
+        Role::Responder | Role::Filter => Turn::Stdin,
+        Role::Authorizer => Turn::Done,
     }
 }
 
-pub fn after_params(r: Role) -> Turn
-    ensures { result ≡ after_params r }
+pub fn after_stdin(role: Role) -> Turn
+    ensures { result ≡ after_stdin role }
 {
-    match r {
-        Role::Responder => Turn::Stdin,
-        Role::Authorizer => Turn::Done,
-        Role::Filter => Turn::Stdin,
-    }
-}
-
-pub fn after_stdin(r: Role) -> Turn
-    ensures { result ≡ after_stdin r }
-{
-    match r {
-        Role::Responder => Turn::Done,
-        Role::Authorizer => Turn::Done,
+    match role {
+        Role::Responder | Role::Authorizer => Turn::Done,
         Role::Filter => Turn::Data,
     }
 }
 
-pub fn turn_type(t: Turn) -> u8
-    ensures { result ≡ turn_type t }
+pub fn turn_type(turn: Turn) -> u8
+    ensures { result ≡ turn_type turn }
 {
-    match t {
+    match turn {
         Turn::Params => names::PARAMS,
         Turn::Stdin => names::STDIN,
         Turn::Data => names::DATA,
@@ -136,17 +92,18 @@ pub fn turn_type(t: Turn) -> u8
 }
 
 // An opened request.
+#[tactic(auto, unfolding(connection::specs::Request::opened))]
 pub fn open_request(id: u16, role: Role, keep: bool) -> Request
     ensures { result ≡ opened id role keep }
 {
     Request {
-        id: id,
+        id,
         length: 0,
         state: RequestState {
-            role: role,
+            role,
             turn: Turn::Params,
             life: Life::Live,
-            keep: keep,
+            keep,
             out_ended: false,
             err_used: false,
             err_ended: false,
@@ -159,21 +116,12 @@ pub fn open_request(id: u16, role: Role, keep: bool) -> Request
 pub fn in_params(turn: Turn) -> bool
     ensures { result ≡ in_params turn }
 {
-    match turn {
-        Turn::Params => true,
-        Turn::Stdin => false,
-        Turn::Data => false,
-        Turn::Done => false,
-    }
+    turn == Turn::Params
 }
 
 // A faulted request has lost its parameters.
 pub fn is_faulted(life: Life) -> bool
     ensures { result ≡ is_faulted life }
 {
-    match life {
-        Life::Live => false,
-        Life::Faulted => true,
-        Life::Aborted => false,
-    }
+    life == Life::Faulted
 }

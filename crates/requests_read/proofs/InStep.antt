@@ -1,6 +1,6 @@
 -- Both ends in step: each request that is open at the server's end is at the station as it was written, in the same slot;
 -- and a call that is let through leaves them so, once the station has read what it wrote.
-use Rattle.std.specs.Prelude.{ℕ, ◌≤◌, ◌<◌, ◌≡◌, refl, Bool, true, false, List, [], ◌∷◌, length, set, eqb}
+use Rattle.std.specs.Prelude.{ℕ, ◌≤◌, ◌<◌, ◌≡◌, refl, Bool, true, false, List, [], ◌∷◌, length, set, eqb, Some}
 use Rattle.std.proofs.Common.{sym, ap, ap₂, ◌∙◌, subst, arith, eqb-true}
 use Rattle.std.proofs.lemmas.Bool.{eqb-false}
 use Rattle.wire.specs.Test.{by_test}
@@ -8,7 +8,6 @@ use Rattle.wire.specs.Buffer.{put_at}
 use Rattle.slot_word.specs.Word.{lowest_free, with_slot}
 use Rattle.connection.specs.declared.request.Life.{Life}
 use Rattle.connection.specs.declared.request.Request.{Request}
-use Rattle.connection.specs.declared.state.Slot.{Slot}
 use Rattle.connection.specs.declared.state.Table.{Table}
 use Rattle.connection.specs.Sizes.{SLOTS}
 use Rattle.connection.specs.Event.{Event}
@@ -51,7 +50,7 @@ pub record InStep (sb : ServerState) (st : State) (store : List ℕ) (f : Known)
   pub between : Between st store
   pub ids : st.conn.table.ids ≡ sb.server.table.ids
   pub slots : st.conn.table.occupied ≡ sb.server.table.occupied
-  pub each : (id j : ℕ) → find sb.server.table id ≡ Slot.At j → Both sb st store (f id) id j
+  pub each : (id j : ℕ) → find sb.server.table id ≡ Some j → Both sb st store (f id) id j
 
 -- an id is in the same slot at both ends, or at neither
 pub same_find : (s t : Table) (id : ℕ) → s.ids ≡ t.ids → s.occupied ≡ t.occupied → find s id ≡ find t id
@@ -59,15 +58,15 @@ same_find s t id e f = ap₂ (λ (ids : List ℕ) (w : ℕ). find_from SLOTS ids
 
 -- One request changes at both ends, and all others stay.
 each_with : (sb sb' : ServerState) (st st' : State) (store store' : List ℕ) (f : Known) (id j : ℕ) (s : SoFar) → InStep sb st store f
-    → find sb'.server.table id ≡ Slot.At j → Both sb' st' store' s id j
-    → ((a k : ℕ) → (a ≡ id → ⊥) → find sb'.server.table a ≡ Slot.At k → (find sb.server.table a ≡ Slot.At k) × (request_at sb'.server.table k ≡ request_at sb.server.table k))
+    → find sb'.server.table id ≡ Some j → Both sb' st' store' s id j
+    → ((a k : ℕ) → (a ≡ id → ⊥) → find sb'.server.table a ≡ Some k → (find sb.server.table a ≡ Some k) × (request_at sb'.server.table k ≡ request_at sb.server.table k))
     → ((a k : ℕ) (u : SoFar) → (a ≡ id → ⊥) → StationHas st store a k u → StationHas st' store' a k u)
-    → (a k : ℕ) → find sb'.server.table a ≡ Slot.At k → Both sb' st' store' (with_known f id s a) a k
+    → (a k : ℕ) → find sb'.server.table a ≡ Some k → Both sb' st' store' (with_known f id s a) a k
 each_with sb sb' st st' store store' f id j s i slot mine was others a k e =
     by_test (eqb a id)
     (λ x.
     let is : a ≡ id = eqb-true a id x in
-    let kj : k ≡ j = let z : Slot.At k ≡ Slot.At j = sym e ∙ ap (find sb'.server.table) is ∙ slot in cc in
+    let kj : k ≡ j = let z : Some k ≡ Some j = sym e ∙ ap (find sb'.server.table) is ∙ slot in cc in
     rw x (subst (λ (b : ℕ). Both sb' st' store' s b k) (sym is) (subst (λ (n : ℕ). Both sb' st' store' s id n) (sym kj) mine)))
     (λ x.
     let ne = eqb-false a id x in
@@ -126,7 +125,7 @@ part_in_step sb st store f id p buffer i proper fits e =
       slots = lead.slots o.has.slot ∙ i.slots ∙ sym (put_occupied t j q);
       each = each_with sb sb' st b.state store b.store f id j (so_far s p) i next.slot mine
           (λ a k ne e.
-          let before : find t a ≡ Slot.At k = sym (find_put t j q a same) ∙ e in
+          let before : find t a ≡ Some k = sym (find_put t j q a same) ∙ e in
           (before, request_of_other t j k q (λ z. ne (one_id t a id k j before lg.found z))))
           (λ a k u ne h. lead.others a k u ne h);
     }))

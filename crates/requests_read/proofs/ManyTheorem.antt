@@ -1,10 +1,10 @@
 -- Any calls of the server's end, for any requests in any order: the station tells just what they said, and has each
 -- request as it was written.
+use Rattle.connection.specs.Slots.{Slot}
 use Rattle.std.specs.Prelude.{ℕ, ◌≡◌, refl, List, [], ◌∷◌, ◌++◌, length, eqb}
 use Rattle.std.proofs.Common.{sym, ap, ap₂, ◌∙◌, subst, arith, eqb-true}
 use Rattle.std.proofs.lemmas.Bool.{eqb-false}
 use Rattle.wire.specs.Test.{by_test}
-use Rattle.connection.specs.declared.state.Slot.{Slot}
 use Rattle.connection.specs.declared.state.Table.{Table}
 use Rattle.connection.specs.Sizes.{SLOTS, QUERY, STORE}
 use Rattle.connection.specs.Slots.{find, on_slot}

@@ -1,10 +1,9 @@
 -- A request that the server's end writes in its turns on a fresh connection is read by the station as just that request,
 -- in any cutting.
-use Rattle.std.specs.Prelude.{ℕ, ◌≤◌, ◌<◌, ◌≡◌, refl, true, List, [], ◌∷◌, ◌++◌, length, eqb}
+use Rattle.std.specs.Prelude.{ℕ, ◌≤◌, ◌<◌, ◌≡◌, refl, true, List, [], ◌∷◌, ◌++◌, length, eqb, None}
 use Rattle.std.proofs.Common.{sym, ap, ◌∙◌, subst, arith, eqb-true, ltb-true, ltb-false}
 use Rattle.wire.specs.Test.{by_test}
 use Rattle.pair_list.proofs.ReadBackList.{written_contents}
-use Rattle.connection.specs.declared.state.Slot.{Slot}
 use Rattle.connection.specs.Sizes.{SLOTS}
 use Rattle.connection.specs.Codes.{role_number}
 use Rattle.connection.specs.Event.{Event}
@@ -86,9 +85,9 @@ requests_are_read q values gathered store pieces k hv hg hs e =
     let b = serverStarted values in
     let f = fresh_server values in
     let good = start_good values hv in
-    let bnone : find b.server.table id ≡ Slot.Nowhere = rw f.0 (fresh_none id) in
+    let bnone : find b.server.table id ≡ None = rw f.0 (fresh_none id) in
     let broom : free_slot_of b.server.table < SLOTS = rw f.0 fresh_room in
-    let snone : find st.conn.table id ≡ Slot.Nowhere = rw t (fresh_none id) in
+    let snone : find st.conn.table id ≡ None = rw t (fresh_none id) in
     let sroom : free_slot_of st.conn.table < SLOTS = rw t fresh_room in
     let begin = begin_bytes id (role_number role) q.keep in
     let fits : length begin ≤ length q.buffer = subst (λ (n : ℕ). length (begin_bytes id n q.keep) ≤ length q.buffer) number k.begin_fits in

@@ -1,12 +1,11 @@
 -- A request as the server's end has it: a part in its turn is refused by 6 or written, and then it has the request with
 -- one part more.
-use Rattle.std.specs.Prelude.{ℕ, ◌+◌, ◌≤◌, ◌<◌, ◌≡◌, refl, true, List, length, take, drop}
+use Rattle.std.specs.Prelude.{ℕ, ◌+◌, ◌≤◌, ◌<◌, ◌≡◌, refl, true, List, length, take, drop, Some}
 use Rattle.std.proofs.Common.{subst, take_at}
 use Rattle.wire.specs.Buffer.{put_at}
 use Rattle.connection.specs.declared.request.Life.{Life}
 use Rattle.connection.specs.declared.request.RequestState.{RequestState}
 use Rattle.connection.specs.declared.request.Request.{Request}
-use Rattle.connection.specs.declared.state.Slot.{Slot}
 use Rattle.connection.specs.Slots.{request_at, put_request, find}
 use Rattle.server.specs.Step.{State}
 use Rattle.server.specs.Calls.{Part, APair, Content, EndOf, Abort, in_turn, part_bytes, write_part}
@@ -58,6 +57,6 @@ module _ (sb : State) (id j : ℕ) (s : SoFar) (p : Part) (buffer : List ℕ) (h
       record {
         good = subst (λ (m : RequestState). Good (with_table sb (put_request t j (record { id = id; length = 0; state = m })))) e k.good;
         is_open = k.is_open;
-        slot = subst (λ (m : RequestState). find (put_request t j (record { id = id; length = 0; state = m })) id ≡ Slot.At j) e k.slot;
+        slot = subst (λ (m : RequestState). find (put_request t j (record { id = id; length = 0; state = m })) id ≡ Some j) e k.slot;
         request = subst (λ (m : RequestState). request_at (put_request t j (record { id = id; length = 0; state = m })) j ≡ record { id = id; length = 0; state = m }) e k.request;
       }

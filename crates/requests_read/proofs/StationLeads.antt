@@ -1,6 +1,6 @@
 -- Where the records of one request lead a station: the request stands as it was written, this is told, and every other
 -- request is as it was, whatever slots they have.
-use Rattle.std.specs.Prelude.{ℕ, ◌≤◌, ◌<◌, ◌≡◌, length, take, get_or}
+use Rattle.std.specs.Prelude.{ℕ, ◌≤◌, ◌<◌, ◌≡◌, length, take, get_or, Some}
 use Rattle.std.proofs.Math.Path.{refl}
 use Rattle.std.proofs.Common.{sym, ap, ap₂, ◌∙◌, subst, arith}
 use mathlib.Core.List.{List, [], ◌++◌, append-nil}
@@ -12,7 +12,6 @@ use Rattle.record_reader.specs.Position.{after_header}
 use Rattle.record_writer.specs.Written.{record_bytes}
 use Rattle.connection.specs.declared.request.Due.{Due}
 use Rattle.connection.specs.declared.request.Request.{Request}
-use Rattle.connection.specs.declared.state.Slot.{Slot}
 use Rattle.connection.specs.Sizes.{SLOTS, AREA}
 use Rattle.connection.specs.Event.{Event}
 use Rattle.connection.specs.Request.{Held, Ruled, ruled, on_header, Fed, on_content}
@@ -42,8 +41,8 @@ pub record Leads (st : State) (store bytes : List ℕ) (id i : ℕ) (s : SoFar) 
   pub told : (by_byte st store bytes).notes ≡ l
   pub others : (a j : ℕ) (u : SoFar) → (a ≡ id → ⊥) → StationHas st store a j u
       → StationHas (by_byte st store bytes).state (by_byte st store bytes).store a j u
-  pub ids : find st.conn.table id ≡ Slot.At i → (by_byte st store bytes).state.conn.table.ids ≡ st.conn.table.ids
-  pub slots : find st.conn.table id ≡ Slot.At i → (by_byte st store bytes).state.conn.table.occupied ≡ st.conn.table.occupied
+  pub ids : find st.conn.table id ≡ Some i → (by_byte st store bytes).state.conn.table.ids ≡ st.conn.table.ids
+  pub slots : find st.conn.table id ≡ Some i → (by_byte st store bytes).state.conn.table.occupied ≡ st.conn.table.occupied
 
 -- no bytes
 pub nothing_leads : (st : State) (store : List ℕ) (id i : ℕ) (s : SoFar) → StationHas st store id i s → Leads st store [] id i s []
@@ -73,7 +72,7 @@ back st store i h l =
       notes = l;
     }
 
-module _ (st : State) (store : List ℕ) (id i kind : ℕ) (slot : find st.conn.table id ≡ Slot.At i) (some_id : id ≡ 0 → ⊥) where
+module _ (st : State) (store : List ℕ) (id i kind : ℕ) (slot : find st.conn.table id ≡ Some i) (some_id : id ≡ 0 → ⊥) where
   abbrev held : Held
   held = held_at st.conn.table store i
 

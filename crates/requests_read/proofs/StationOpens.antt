@@ -1,5 +1,5 @@
 -- A BEGIN_REQUEST record that the server's end writes opens the request at the station, in the lowest-numbered free slot.
-use Rattle.std.specs.Prelude.{ℕ, zero, suc, ◌+◌, ◌<◌, Bool, true, false, List, [], ◌∷◌, ◌++◌, length, drop, if◌then◌else◌}
+use Rattle.std.specs.Prelude.{ℕ, zero, suc, ◌+◌, ◌<◌, Bool, true, false, List, [], ◌∷◌, ◌++◌, length, drop, if◌then◌else◌, None}
 use Rattle.std.proofs.Math.Path.{◌≡◌, refl, ap, subst}
 use Rattle.std.proofs.Common.{sym, ◌∙◌, append-nil, arith, lt-ltb, ne_eqb, eq-eqb}
 use Rattle.wire.specs.Number.{bytes2}
@@ -12,7 +12,6 @@ use Rattle.record.specs.Body.{begin_body_bytes}
 use Rattle.record.proofs.BodyLaws.{begin_length, begin_read_back}
 use Rattle.pair_list.proofs.ReadBackList.{written}
 use Rattle.connection.specs.declared.request.Role.{Role}
-use Rattle.connection.specs.declared.state.Slot.{Slot}
 use Rattle.connection.specs.declared.state.Frame.{Frame}
 use Rattle.connection.specs.Sizes.{SLOTS, STORE}
 use Rattle.connection.specs.Event.{Event}
@@ -69,7 +68,7 @@ known_role Role.Responder st store id keep f room = simp (lt-ltb (free_slot_of s
 known_role Role.Authorizer st store id keep f room = simp (lt-ltb (free_slot_of st.conn.table) SLOTS room)
 known_role Role.Filter st store id keep f room = simp (lt-ltb (free_slot_of st.conn.table) SLOTS room)
 
-module _ (st : State) (store : List ℕ) (id : ℕ) (role : Role) (keep : Bool) (between : Between st store) (none : find st.conn.table id ≡ Slot.Nowhere) (some_id : id ≡ 0 → ⊥)
+module _ (st : State) (store : List ℕ) (id : ℕ) (role : Role) (keep : Bool) (between : Between st store) (none : find st.conn.table id ≡ None) (some_id : id ≡ 0 → ⊥)
     (room : free_slot_of st.conn.table < SLOTS) (small : id < 65536) where
   -- where it leads
   abbrev opened_run : Run
@@ -130,7 +129,7 @@ module _ (st : State) (store : List ℕ) (id : ℕ) (role : Role) (keep : Bool) 
       }
 
 -- ---- a fresh station: no id is active, and a slot is free
-pub fresh_none : (id : ℕ) → find no_requests id ≡ Slot.Nowhere
+pub fresh_none : (id : ℕ) → find no_requests id ≡ None
 unfolding find_from holds_id taken
 fresh_none id = refl
 

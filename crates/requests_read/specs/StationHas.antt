@@ -1,7 +1,6 @@
 -- A request as the station has it, between two records, with nothing said for it. Definitions only.
-use Rattle.std.specs.Prelude.{ℕ, ◌≡◌, false, List, length, take}
+use Rattle.std.specs.Prelude.{ℕ, ◌≡◌, false, List, length, take, Some}
 use Rattle.connection.specs.declared.request.RequestState.{RequestState}
-use Rattle.connection.specs.declared.state.Slot.{Slot}
 use Rattle.connection.specs.Slots.{request_at, area_at, find}
 use Rattle.connection.specs.Step.{State}
 use Rattle.meaning.proofs.Steps.{Between}
@@ -15,6 +14,6 @@ state_so_far s =
 -- and its area up to its length is its list.
 pub record StationHas (st : State) (store : List ℕ) (id i : ℕ) (s : SoFar) : Type 0 where
   pub between : Between st store
-  pub slot : find st.conn.table id ≡ Slot.At i
+  pub slot : find st.conn.table id ≡ Some i
   pub request : request_at st.conn.table i ≡ record { id = id; length = length (list_so_far s); state = state_so_far s }
   pub list : take (length (list_so_far s)) (area_at store i) ≡ list_so_far s

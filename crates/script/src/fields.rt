@@ -1,196 +1,158 @@
-// Fields of a state set to whatever is given: those that both ends have. A field has the number of its name in the table
-// of fields, counted from POKE on.
-use crate::number::{low16, low32};
+// Fields of a state that both ends have, set to whatever is given. A field is read from the words after its name.
+use crate::words::Words;
+use connection::event::Stream;
 use connection::request::{Life, Request, RequestState, Role, Shown, Turn};
+use connection::sizes::SLOTS;
 use connection::state::Table;
 use record_reader::Position;
 use slot_table::{put_request, request_at};
-use wire::copy_into;
 
-// The first field: smaller numbers are those of commands.
-pub const POKE: u64 = 50;
+// A field of a request.
+#[derive(Clone, Copy)]
+pub enum RequestField {
+    Id(u16),
+    Length(u16),
+    Role(Role),
+    Keep(bool),
+    Turn(Turn),
+    Life(Life),
+    OutEnded(bool),
+    ErrUsed(bool),
+    ErrEnded(bool),
+    Shown(Stream, u32),
+}
 
-// Fields that are one for the connection.
-pub const OPEN: u64 = 50;
+// A field of the table: its word, or one of the request in a slot.
+#[derive(Clone, Copy)]
+pub enum TableField {
+    Occupied(u16),
+    Slot(usize, RequestField),
+}
 
-const OCCUPIED: u64 = 51;
+// A field of where the reader stands.
+#[derive(Clone, Copy)]
+pub enum PositionField {
+    Held(usize),
+    Header([u8; 8]),
+    Content(usize),
+    Padding(usize),
+}
 
-// Fields of a slot.
-const ID: u64 = 52;
-
-const LENGTH: u64 = 53;
-
-const ROLE: u64 = 54;
-
-const KEEP: u64 = 55;
-
-const TURN: u64 = 56;
-
-const SPENT: u64 = 57;
-
-const OUT_ENDED: u64 = 58;
-
-const ERR_USED: u64 = 59;
-
-const ERR_ENDED: u64 = 60;
-
-// Fields of the record being read.
-const HELD: u64 = 61;
-
-const HEADER: u64 = 62;
-
-const CONTENT: u64 = 63;
-
-const PADDING: u64 = 64;
-
-pub const GATHERED: u64 = 65;
-
-pub const BODY: u64 = 66;
-
-// Bytes that are lent beside the state; each end has its own.
-pub const BESIDE: u64 = 67;
-
-// A count of a slot.
-const SHOWN: u64 = 68;
-
-// What waits, lent beside the state: a number, a mark, a byte of the queue.
-pub const NUMBER: u64 = 69;
-
-pub const MARK: u64 = 70;
-
-pub const QUEUE: u64 = 71;
-
-// From here on, what the content of the record being read is for.
-pub const TARGET: u64 = 80;
-
-// A role set or left; so are the other kinds of fields below.
-fn role_if(hit: bool, n: u64, before: Role) -> Role {
-    if !hit {
-        return before;
-    }
-    match n {
-        0 => Role::Responder,
-        1 => Role::Authorizer,
-        _ => Role::Filter,
+fn read_role(words: &mut Words) -> Option<Role> {
+    match words.next()? {
+        b"1" => Some(Role::Responder),
+        b"2" => Some(Role::Authorizer),
+        b"3" => Some(Role::Filter),
+        _ => None,
     }
 }
 
-// A turn set or left.
-fn turn_if(hit: bool, n: u64, before: Turn) -> Turn {
-    if !hit {
-        return before;
-    }
-    match n {
-        0 => Turn::Params,
-        1 => Turn::Stdin,
-        2 => Turn::Data,
-        _ => Turn::Done,
+fn read_turn(words: &mut Words) -> Option<Turn> {
+    match words.next()? {
+        b"params" => Some(Turn::Params),
+        b"stdin" => Some(Turn::Stdin),
+        b"data" => Some(Turn::Data),
+        b"done" => Some(Turn::Done),
+        _ => None,
     }
 }
 
-// A life set or left.
-fn life_if(hit: bool, n: u64, before: Life) -> Life {
-    if !hit {
-        return before;
-    }
-    match n {
-        0 => Life::Live,
-        1 => Life::Faulted,
-        _ => Life::Aborted,
+fn read_life(words: &mut Words) -> Option<Life> {
+    match words.next()? {
+        b"live" => Some(Life::Live),
+        b"faulted" => Some(Life::Faulted),
+        b"aborted" => Some(Life::Aborted),
+        _ => None,
     }
 }
 
-// A flag set or left.
-pub fn flag_if(hit: bool, n: u64, before: bool) -> bool {
-    if hit {
-        return n == 1;
-    }
-    before
+// A slot's number.
+pub fn read_slot(words: &mut Words) -> Option<usize> {
+    words.up_to(SLOTS - 1)
 }
 
-// A 64-bit number set or left.
-pub fn count_if(hit: bool, n: u64, before: usize) -> usize {
-    if hit {
-        return n as usize;
+// A field of the table by its name. Those that one end alone has, it reads itself.
+pub fn read_table_field(name: &[u8], words: &mut Words) -> Option<TableField> {
+    if matches!(name, b"occupied") {
+        return Some(TableField::Occupied(words.short()?));
     }
-    before
+    let slot = read_slot(words)?;
+    let field = match name {
+        b"id" => RequestField::Id(words.short()?),
+        b"length" => RequestField::Length(words.short()?),
+        b"role" => RequestField::Role(read_role(words)?),
+        b"keep" => RequestField::Keep(words.flag()?),
+        b"turn" => RequestField::Turn(read_turn(words)?),
+        b"spent" => RequestField::Life(read_life(words)?),
+        b"out_ended" => RequestField::OutEnded(words.flag()?),
+        b"err_ended" => RequestField::ErrEnded(words.flag()?),
+        _ => return None,
+    };
+    Some(TableField::Slot(slot, field))
 }
 
-// Eight bytes set, zeros after those given, or left.
-pub fn eight_if(hit: bool, bytes: &[u8], before: [u8; 8]) -> [u8; 8] {
-    if hit {
-        let mut eight = [0u8; 8];
-        copy_into(&mut eight, 0, bytes);
-        return eight;
-    }
-    before
-}
-
-// A 32-bit number set or left.
-fn long_if(hit: bool, n: u64, before: u32) -> u32 {
-    if hit {
-        return low32(n);
-    }
-    before
-}
-
-// The count of a stream, 0 for STDIN and 1 for DATA, set or left.
-fn shown_if(hit: bool, stream: u64, n: u64, before: Shown) -> Shown {
-    Shown {
-        stdin: long_if(hit & (stream == 0), n, before.stdin),
-        data: long_if(hit & (stream == 1), n, before.data),
+// A field of where the reader stands by its name.
+pub fn read_position_field(name: &[u8], words: &mut Words) -> Option<PositionField> {
+    match name {
+        b"held" => Some(PositionField::Held(words.size()?)),
+        b"header" => Some(PositionField::Header(words.eight()?)),
+        b"content" => Some(PositionField::Content(words.size()?)),
+        b"padding" => Some(PositionField::Padding(words.size()?)),
+        _ => None,
     }
 }
 
-// The state of a request with a field set, if it is one of its own. A count has its stream for n and its number for k.
-fn state_with(m: RequestState, field: u64, n: u64, k: u64) -> RequestState {
-    let role = m.role;
-    let turn = m.turn;
-    let life = m.life;
-    RequestState {
-        role: role_if(field == ROLE, n, role),
-        turn: turn_if(field == TURN, n, turn),
-        life: life_if(field == SPENT, n, life),
-        keep: flag_if(field == KEEP, n, m.keep),
-        out_ended: flag_if(field == OUT_ENDED, n, m.out_ended),
-        err_used: flag_if(field == ERR_USED, n, m.err_used),
-        err_ended: flag_if(field == ERR_ENDED, n, m.err_ended),
-        shown: shown_if(field == SHOWN, n, k, m.shown),
+impl RequestField {
+    fn set(self, r: Request) -> Request {
+        let state = r.state;
+        let changed = match self {
+            RequestField::Id(id) => return Request { id, ..r },
+            RequestField::Length(length) => return Request { length, ..r },
+            RequestField::Role(role) => RequestState { role, ..state },
+            RequestField::Keep(keep) => RequestState { keep, ..state },
+            RequestField::Turn(turn) => RequestState { turn, ..state },
+            RequestField::Life(life) => RequestState { life, ..state },
+            RequestField::OutEnded(out_ended) => RequestState { out_ended, ..state },
+            RequestField::ErrUsed(err_used) => RequestState { err_used, ..state },
+            RequestField::ErrEnded(err_ended) => RequestState { err_ended, ..state },
+            RequestField::Shown(Stream::Stdin, stdin) => RequestState {
+                shown: Shown {
+                    stdin,
+                    ..state.shown
+                },
+                ..state
+            },
+            RequestField::Shown(Stream::Data, data) => RequestState {
+                shown: Shown {
+                    data,
+                    ..state.shown
+                },
+                ..state
+            },
+        };
+        Request {
+            state: changed,
+            ..r
+        }
     }
 }
 
-// A 16-bit number set or left.
-fn number_if(hit: bool, n: u64, before: u16) -> u16 {
-    if hit {
-        return low16(n);
-    }
-    before
-}
-
-// A request with a field set, if it is one of its own.
-fn request_with(r: Request, field: u64, n: u64, k: u64) -> Request {
-    Request {
-        id: number_if(field == ID, n, r.id),
-        length: number_if(field == LENGTH, n, r.length),
-        state: state_with(r.state, field, n, k),
+impl TableField {
+    pub fn set(self, t: Table) -> Table {
+        match self {
+            TableField::Occupied(occupied) => Table { occupied, ..t },
+            TableField::Slot(i, field) => put_request(t, i, field.set(request_at(t, i))),
+        }
     }
 }
 
-// The table with its word, or a field of slot a, set.
-pub fn table_with(t: Table, field: u64, a: u64, b: u64, k: u64) -> Table {
-    let i = a as usize;
-    let mut table = put_request(t, i, request_with(request_at(t, i), field, b, k));
-    table.occupied = number_if(field == OCCUPIED, a, t.occupied);
-    table
-}
-
-// Where the reader stands with a field set, if it is one of its own.
-pub fn position_with(p: Position, field: u64, n: u64, bytes: &[u8]) -> Position {
-    let header = p.header;
-    Position {
-        content: count_if(field == CONTENT, n, p.content),
-        padding: count_if(field == PADDING, n, p.padding),
-        held: count_if(field == HELD, n, p.held),
-        header: eight_if(field == HEADER, bytes, header),
+impl PositionField {
+    pub fn set(self, p: Position) -> Position {
+        match self {
+            PositionField::Held(held) => Position { held, ..p },
+            PositionField::Header(header) => Position { header, ..p },
+            PositionField::Content(content) => Position { content, ..p },
+            PositionField::Padding(padding) => Position { padding, ..p },
+        }
     }
 }

@@ -1,115 +1,60 @@
 // Lines of standard input.
-ghost use Rattle.std.specs.Prelude.{◌≤◌, length};
-
-use host::read_some;
+use host::{large_buffer, read_some};
 use std::io;
-use wire::{copy_into, least};
+use wire::copy_into;
 
 // The most characters of a line.
 pub const LINE: usize = 140000;
 
-// What was read of the input and not cut into lines yet lies in a buffer between two places. Of the line that is being
-// cut so many characters are held, LINE + 1 of one that is too long. `more` says that the line is there.
-#[derive(Clone, Copy)]
-pub struct Input {
-    pub from: usize,
-    pub to: usize,
-    pub held: usize,
-    pub more: bool,
+// How many bytes are read at once.
+const PIECE: usize = 65536;
+
+// What was read of the input and not cut into lines yet lies in the piece between two places.
+#[derive(Drop)]
+pub struct Input<'a> {
+    rt: &'a HostRuntime,
+    piece: [u8; PIECE],
+    from: usize,
+    to: usize,
 }
 
-// Adds a part of a line to what is held of it, and answers how much is held.
+// Adds a part of a line to what is held of it, and answers how much is held: LINE + 1 of a line that is too long.
 fn hold(line: &mut [u8], held: usize, text: &[u8]) -> usize {
-    if LINE < held {
-        return held;
-    }
-    if LINE - held < text.len() {
+    if LINE.saturating_sub(held) < text.len() {
         return LINE + 1;
     }
     copy_into(line, held, text);
-    held + text.len()
+    held.saturating_add(text.len())
 }
 
-// The place of the first newline from a place on, or the end.
-fn line_end(text: &[u8], from: usize) -> usize
-    requires { from ≤ length text.now }
-    ensures { (from ≤ result) × (result ≤ length text.now) }
-{
-    let mut i = from;
-    while i < text.len() {
-        if text[i] == 10 {
-            return i;
+impl<'a> Input<'a> {
+    pub fn new(rt: &'a HostRuntime) -> Self {
+        Input {
+            rt,
+            piece: large_buffer(),
+            from: 0,
+            to: 0,
         }
-        i += 1;
     }
-    i
-}
 
-// Cuts a line off what was read, or holds all of it.
-fn cut(text: &[u8], from: usize, line: &mut [u8], held: usize) -> Input {
-    let to = text.len();
-    if to < from {
-        return Input {
-            from: to,
-            to: to,
-            held: held,
-            more: false,
-        };
-    }
-    let e = line_end(text, from);
-    let now_held = hold(line, held, &text[from..e]);
-    if e < to {
-        return Input {
-            from: e + 1,
-            to: to,
-            held: now_held,
-            more: true,
-        };
-    }
-    Input {
-        from: to,
-        to: to,
-        held: now_held,
-        more: false,
-    }
-}
-
-// Reads on: how many bytes came, 0 at the end.
-fn read_piece(rt: &HostRuntime, piece: &mut [u8]) -> io::Result<usize> {
-    read_some(rt, piece)
-}
-
-// The next line, without its newline; the last may lack it. A proved loop has to end, and nothing says that the input
-// does: so it counts its turns down, from a number that no run uses up.
-pub fn next_line(
-    rt: &HostRuntime,
-    i: Input,
-    piece: &mut [u8],
-    line: &mut [u8],
-) -> io::Result<Input> {
-    let z: usize = 0;
-    let mut from = i.from;
-    let mut to = i.to;
-    let mut held = z;
-    let mut turns = u64::MAX;
-    while turns > 0 {
-        let e = least(to, piece.len());
-        let c = cut(&piece[z..e], from, line, held);
-        if c.more {
-            return Ok(c);
+    // The next line, without its newline, which the last may lack: how many characters it has, or LINE + 1 where it is
+    // too long. A proved loop has to end, and nothing says that the input does: so this one counts to a number of turns
+    // that no run uses up.
+    pub fn next_line(&mut self, line: &mut [u8; LINE]) -> io::Result<Option<usize>> {
+        let mut held: usize = 0;
+        for _ in 0..u64::MAX {
+            let unread = self.piece.get(self.from..self.to).unwrap_or(&[]);
+            if let Some(n) = unread.iter().position(|b| *b == b'\n') {
+                self.from = self.from.saturating_add(n).saturating_add(1);
+                return Ok(Some(hold(line, held, &unread[..n])));
+            }
+            held = hold(line, held, unread);
+            self.from = 0;
+            self.to = read_some(self.rt, &mut self.piece)?;
+            if self.to == 0 {
+                return Ok(Some(held).filter(|n| *n > 0));
+            }
         }
-        held = c.held;
-        from = z;
-        to = read_piece(rt, piece)?;
-        if to == 0 {
-            return Ok(Input {
-                from: z,
-                to: z,
-                held: held,
-                more: 0 < held,
-            });
-        }
-        turns -= 1;
+        Ok(None)
     }
-    Ok(i)
 }

@@ -1,90 +1,150 @@
-// The page: the text of one line on its way to standard output.
+// The page: the text of one line on its way to standard output, and the room that a call writes into.
 use host::{decimal, write_out};
 use std::io;
 use wire::copy_into;
 
-// Writes out what the page holds, and answers where the next text goes: at its start.
-fn flush(rt: &HostRuntime, page: &[u8], at: usize) -> io::Result<usize> {
-    let z: usize = 0;
-    if at <= page.len() {
-        write_out(rt, &page[z..at])?;
-    }
-    Ok(z)
+// How many bytes a page holds.
+const PAGE: usize = 65536;
+
+// What stands in a room before a call.
+const FILL: u8 = 238;
+
+// So many bytes of the text stand on the page and are not written out yet.
+#[derive(Drop)]
+pub struct Page<'a> {
+    rt: &'a HostRuntime,
+    text: [u8; PAGE],
+    held: usize,
 }
 
-// Where so many bytes go: after what the page holds, or at its start once that is written out.
-fn with_room(rt: &HostRuntime, page: &[u8], at: usize, n: usize) -> io::Result<usize> {
-    if at <= page.len() {
-        if n <= page.len() - at {
-            return Ok(at);
+// Fills the room that a call is lent.
+pub fn fill(room: &mut [u8]) {
+    room.fill(FILL);
+}
+
+// The hex digit of a number below 16.
+fn digit(d: u8) -> u8 {
+    if d < 10 {
+        b'0' + d
+    } else {
+        b'a' + (d - 10) % 16
+    }
+}
+
+impl<'a> Page<'a> {
+    pub fn new(rt: &'a HostRuntime) -> Self {
+        Page {
+            rt,
+            text: [0; PAGE],
+            held: 0,
         }
     }
-    flush(rt, page, at)
-}
 
-// Puts text at a place that has room for it, and answers the place after it.
-pub fn put_at(page: &mut [u8], at: usize, text: &[u8]) -> usize {
-    if page.len() < at {
-        return at;
+    // Writes out what the page holds.
+    fn flush(&mut self) -> io::Result<()> {
+        let n = self.held.min(PAGE);
+        self.held = 0;
+        write_out(self.rt, &self.text[..n])
     }
-    if page.len() - at < text.len() {
-        return at;
+
+    // Puts text after what the page holds. A text longer than a page is left out.
+    pub fn put(&mut self, text: &[u8]) -> io::Result<()> {
+        if PAGE.saturating_sub(self.held) < text.len() {
+            self.flush()?;
+        }
+        if text.len() <= PAGE.saturating_sub(self.held) {
+            copy_into(&mut self.text, self.held, text);
+            self.held = self.held.saturating_add(text.len());
+        }
+        Ok(())
     }
-    copy_into(page, at, text);
-    at + text.len()
-}
 
-// Puts text after what the page holds, and answers the place after it.
-pub fn put(rt: &HostRuntime, page: &mut [u8], at: usize, text: &[u8]) -> io::Result<usize> {
-    let place = with_room(rt, page, at, text.len())?;
-    Ok(put_at(page, place, text))
-}
-
-// A mark and a number in decimal.
-pub fn put_number(
-    rt: &HostRuntime,
-    page: &mut [u8],
-    at: usize,
-    mark: &[u8],
-    n: u64,
-) -> io::Result<usize> {
-    let mut text = [0u8; 20];
-    let k = decimal(n, &mut text);
-    let place = put(rt, page, at, mark)?;
-    put(rt, page, place, &text[..k])
-}
-
-// The hex digit of a byte's lower half.
-fn hex_digit(b: u8) -> u8 {
-    let d = b % 16;
-    if d < 10 { 48 + d } else { 87 + d }
-}
-
-// Two hex digits for each byte.
-pub fn put_pairs(rt: &HostRuntime, page: &mut [u8], at: usize, bytes: &[u8]) -> io::Result<usize> {
-    let mut place = at;
-    let mut i: usize = 0;
-    while i < bytes.len() {
-        let b = bytes[i];
-        let two = [hex_digit(b / 16), hex_digit(b)];
-        place = put(rt, page, place, &two)?;
-        i += 1;
+    // A mark and a number in decimal.
+    pub fn put_number(&mut self, mark: &[u8], n: u64) -> io::Result<()> {
+        let mut digits = [0; 20];
+        let k = decimal(n, &mut digits);
+        self.put(mark)?;
+        self.put(&digits[..k])
     }
-    Ok(place)
-}
 
-// A space and bytes in hex; `-` is no bytes.
-pub fn put_hex(rt: &HostRuntime, page: &mut [u8], at: usize, bytes: &[u8]) -> io::Result<usize> {
-    if bytes.len() == 0 {
-        return put(rt, page, at, b" -");
+    // Two hex digits for each byte.
+    pub fn put_pairs(&mut self, bytes: &[u8]) -> io::Result<()> {
+        for b in bytes {
+            self.put(&[digit(*b / 16), digit(*b % 16)])?;
+        }
+        Ok(())
     }
-    let place = put(rt, page, at, b" ")?;
-    put_pairs(rt, page, place, bytes)
-}
 
-// Ends the line, and writes out what the page holds.
-pub fn end_line(rt: &HostRuntime, page: &mut [u8], at: usize) -> io::Result<()> {
-    let e = put(rt, page, at, b"\n")?;
-    flush(rt, page, e)?;
-    Ok(())
+    // A space and bytes in hex; `-` is no bytes.
+    pub fn put_hex(&mut self, bytes: &[u8]) -> io::Result<()> {
+        if bytes.is_empty() {
+            return self.put(b" -");
+        }
+        self.put(b" ")?;
+        self.put_pairs(bytes)
+    }
+
+    // `refused N`
+    pub fn put_refused(&mut self, why: u8) -> io::Result<()> {
+        self.put_number(b"refused ", u64::from(why))
+    }
+
+    // `refused N`, and ` changed` where the call changed something all the same.
+    pub fn put_refusal(&mut self, why: u8, changed: bool) -> io::Result<()> {
+        self.put_refused(why)?;
+        if changed {
+            self.put(b" changed")?;
+        }
+        Ok(())
+    }
+
+    // ` touched` where a byte after those written is not as the room was filled.
+    pub fn put_touched(&mut self, room: &[u8], written: usize) -> io::Result<()> {
+        let beyond = room.get(written..).unwrap_or(&[]);
+        if beyond.iter().any(|b| *b != FILL) {
+            self.put(b" touched")?;
+        }
+        Ok(())
+    }
+
+    // Ends the line, and writes out what the page holds.
+    pub fn end_line(&mut self) -> io::Result<()> {
+        self.put(b"\n")?;
+        self.flush()
+    }
+
+    // A line of words alone.
+    pub fn tell(&mut self, text: &[u8]) -> io::Result<()> {
+        self.put(text)?;
+        self.end_line()
+    }
+
+    // The line of a call that only answers a refusal.
+    pub fn tell_refused(&mut self, why: u8) -> io::Result<()> {
+        self.put_refused(why)?;
+        self.end_line()
+    }
+
+    // The line of a call that writes: how many bytes and which, and a last word; or its refusal.
+    pub fn tell_written(
+        &mut self,
+        written: Result<(usize, &[u8]), u8>,
+        changed: bool,
+        room: &[u8],
+    ) -> io::Result<()> {
+        let count = match written {
+            Ok((n, last_word)) => {
+                self.put_number(b"wrote ", n as u64)?;
+                self.put_hex(room.get(..n).unwrap_or(&[]))?;
+                self.put(last_word)?;
+                n
+            }
+            Err(why) => {
+                self.put_refusal(why, changed)?;
+                0
+            }
+        };
+        self.put_touched(room, count)?;
+        self.end_line()
+    }
 }

@@ -1,102 +1,123 @@
-// A line cut into words. Between two words stands one space: two spaces have a word of no characters between them.
-ghost use Rattle.std.specs.Prelude.{◌≤◌, length};
+// A line read word by word. Between two words stands one space: two spaces have a word of no characters between them.
+// Each method but `next` reads the next word as what it says, and gives nothing where the word is none or there is none.
+use crate::hex::decode;
+use crate::number::{number_of, signed_of};
+use connection::answer::Output;
+use connection::event::Stream;
+use std::mem::take;
 
-use crate::number::Number;
-use wire::same;
+// The most bytes in hex that a line gives, and the most bytes of a room.
+pub const BYTES: usize = 70000;
 
-// The bytes of s from a to e; none where there is no such part.
-pub fn part<'a>(s: &'a [u8], a: usize, e: usize) -> &'a [u8] {
-    if a <= e {
-        if e <= s.len() {
-            return &s[a..e];
+// The most bytes of a piece.
+const PIECE: usize = 65536;
+
+// What is left of the line, nothing once its last word is read; and the room for bytes in hex, of which each word takes
+// what it needs.
+#[derive(Drop)]
+pub struct Words<'a> {
+    rest: Option<&'a [u8]>,
+    room: &'a mut [u8],
+}
+
+impl<'a> Words<'a> {
+    pub fn new(line: &'a [u8], room: &'a mut [u8]) -> Self {
+        Words {
+            rest: Some(line),
+            room,
         }
     }
-    let z: usize = 0;
-    &s[z..z]
-}
 
-// The last n bytes of s; none where there are fewer.
-pub fn last_part<'a>(s: &'a [u8], n: usize) -> &'a [u8] {
-    let e = s.len();
-    if n <= e {
-        return part(s, e - n, e);
+    pub fn next(&mut self) -> Option<&'a [u8]> {
+        let mut words = self.rest?.splitn(2, |b| *b == b' ');
+        let word = words.next();
+        self.rest = words.next();
+        word
     }
-    part(s, e, e)
-}
 
-// 1 if two bytes are the same, else 0.
-fn one_if_same(a: u8, b: u8) -> usize
-    ensures { result ≤ 1 }
-{
-    if a == b { 1 } else { 0 }
-}
-
-// How many bytes of a text are b.
-pub fn count_of(text: &[u8], b: u8) -> usize
-    ensures { result ≤ length text.now }
-{
-    let mut n: usize = 0;
-    let mut i: usize = 0;
-    while i < text.len() {
-        n = n + one_if_same(text[i], b);
-        i += 1;
+    // Whether all words are read.
+    pub fn is_over(&self) -> bool {
+        self.rest.is_none()
     }
-    n
-}
 
-// The place of the first space from a place on, or the line's end.
-fn word_end(line: &[u8], from: usize) -> usize
-    ensures { from ≤ result }
-{
-    let mut i = from;
-    while i < line.len() {
-        if line[i] == 32 {
-            return i;
+    pub fn number(&mut self) -> Option<u64> {
+        number_of(self.next()?)
+    }
+
+    pub fn size(&mut self) -> Option<usize> {
+        usize::try_from(self.number()?).ok()
+    }
+
+    pub fn up_to(&mut self, most: usize) -> Option<usize> {
+        self.size().filter(|n| *n <= most)
+    }
+
+    pub fn byte(&mut self) -> Option<u8> {
+        u8::try_from(self.number()?).ok()
+    }
+
+    // A number of 16 bits; so is an id.
+    pub fn short(&mut self) -> Option<u16> {
+        u16::try_from(self.number()?).ok()
+    }
+
+    // A number of 32 bits.
+    pub fn long(&mut self) -> Option<u32> {
+        u32::try_from(self.number()?).ok()
+    }
+
+    pub fn signed(&mut self) -> Option<i32> {
+        signed_of(self.next()?)
+    }
+
+    // How many bytes a call is lent to write into.
+    pub fn room(&mut self) -> Option<usize> {
+        self.up_to(BYTES)
+    }
+
+    // The size of a piece: a piece has at least one byte.
+    pub fn piece(&mut self) -> Option<usize> {
+        self.up_to(PIECE).filter(|n| *n > 0)
+    }
+
+    // Bytes in hex, at most so many.
+    pub fn bytes(&mut self, most: usize) -> Option<&'a [u8]> {
+        let word = self.next()?;
+        let room = take(&mut self.room);
+        let n = decode(word, most, room)?;
+        let (bytes, rest) = room.split_at_mut_checked(n)?;
+        self.room = rest;
+        Some(bytes)
+    }
+
+    // At most eight bytes in hex, with zeros after them.
+    pub fn eight(&mut self) -> Option<[u8; 8]> {
+        let mut eight = [0; 8];
+        decode(self.next()?, 8, &mut eight)?;
+        Some(eight)
+    }
+
+    pub fn flag(&mut self) -> Option<bool> {
+        match self.next()? {
+            b"0" => Some(false),
+            b"1" => Some(true),
+            _ => None,
         }
-        i += 1;
     }
-    i
-}
 
-// The place after the first space from a place on, or the line's end.
-fn past_space(line: &[u8], from: usize) -> usize {
-    let e = word_end(line, from);
-    if e < line.len() {
-        return e + 1;
-    }
-    e
-}
-
-// What stands after the first word of a line and its space.
-pub fn rest<'a>(line: &'a [u8]) -> &'a [u8] {
-    part(line, past_space(line, 0), line.len())
-}
-
-// Word k of a line, counted from 0.
-pub fn word<'a>(line: &'a [u8], k: usize) -> &'a [u8] {
-    let mut at: usize = 0;
-    let mut i: usize = 0;
-    while i < k {
-        at = past_space(line, at);
-        i += 1;
-    }
-    part(line, at, word_end(line, at))
-}
-
-// Which word of a list a word is, counted from 0.
-pub fn choice(list: &[u8], w: &[u8]) -> Number {
-    let mut k: u64 = 0;
-    let mut at: usize = 0;
-    while at < list.len() {
-        let e = word_end(list, at);
-        if same(part(list, at, e), w) {
-            return Number::Is(k);
+    pub fn output(&mut self) -> Option<Output> {
+        match self.next()? {
+            b"stdout" => Some(Output::Stdout),
+            b"stderr" => Some(Output::Stderr),
+            _ => None,
         }
-        if list.len() <= e {
-            return Number::Not;
-        }
-        at = e + 1;
-        k += 1;
     }
-    Number::Not
+
+    pub fn stream(&mut self) -> Option<Stream> {
+        match self.next()? {
+            b"stdin" => Some(Stream::Stdin),
+            b"data" => Some(Stream::Data),
+            _ => None,
+        }
+    }
 }

@@ -1,6 +1,7 @@
 -- The server's end reads as a reader of records does: its rules keep what cutting asks for.
+use Rattle.connection.specs.Slots.{Slot}
 use Prim.Native.Nat.{ℕ, suc, ◌+◌, ◌≤◌, ◌<◌}
-use Rattle.std.specs.Prelude.{◌≡◌, Bool, false, take, ltb, eqb, if◌then◌else◌}
+use Rattle.std.specs.Prelude.{◌≡◌, Bool, false, take, ltb, eqb, if◌then◌else◌, Some, None}
 use Rattle.std.proofs.Math.Path.{refl}
 use Rattle.std.proofs.Common.{sym, ap, ◌∙◌, subst, arith}
 use Rattle.std.proofs.Math.Bool.{true}
@@ -13,7 +14,6 @@ use Rattle.wire.proofs.BufferLaws.{copied_copied}
 use Rattle.record.specs.declared.header.Header.{Header}
 use Rattle.pair_list.specs.List.{well_formed}
 use Rattle.connection.specs.declared.state.Table.{Table}
-use Rattle.connection.specs.declared.state.Slot.{Slot}
 use Rattle.connection.specs.declared.answer.Output.{Output}
 use Rattle.connection.specs.declared.request.Request.{Request}
 use Rattle.connection.specs.Sizes.{QUERY}
@@ -123,8 +123,8 @@ module _ (s : Inner) (m : ℕ) (ready : Ready s m) (n : ℕ) where
       (λ t. good_output (output_of kind) i u)
 
   good_slot : (kind id : ℕ) (k : Slot) → find s.table id ≡ k → Good (on_slot k (on_request s kind n) (closes s 53))
-  good_slot kind id (Slot.At i) e = let h = find_at s.table id i e in good_request kind i (record { low = h.low; slot_taken = h.slot_taken })
-  good_slot kind id Slot.Nowhere e = good_closes 53
+  good_slot kind id (Some i) e = let h = find_at s.table id i e in good_request kind i (record { low = h.low; slot_taken = h.slot_taken })
+  good_slot kind id None e = good_closes 53
 
 -- A header that is judged leaves a state ready for its content.
 pub ready_judged : (s : Inner) (m : ℕ) (h : Header) → Ready s m → Ready (judged s h).inner h.content

@@ -1,13 +1,13 @@
 -- What the refusal of a call of the server's end says: of one that is let through no row holds, and one that is refused
 -- has changed nothing.
-use Rattle.std.specs.Prelude.{ℕ, ◌≤◌, ◌<◌, ◌≡◌, refl, Bool, true, false, not, List, [], ◌∷◌, length, ltb, if◌then◌else◌}
+use Rattle.connection.specs.Slots.{Slot}
+use Rattle.std.specs.Prelude.{ℕ, ◌≤◌, ◌<◌, ◌≡◌, refl, Bool, true, false, not, List, [], ◌∷◌, length, ltb, if◌then◌else◌, Some, None}
 use Rattle.std.proofs.Common.{sym, ap, ◌∙◌, arith, eqb-true, ltb-true, ltb-false}
 use Rattle.std.proofs.lemmas.Bool.{eqb-false, not-false}
 use Rattle.wire.specs.Test.{◌<?◌, ◌=?◌, by_test}
 use Rattle.record.specs.Names.{GET_VALUES}
 use Rattle.record_writer.specs.Written.{record_bytes}
 use Rattle.pair_list.specs.List.{well_formed}
-use Rattle.connection.specs.declared.state.Slot.{Slot}
 use Rattle.connection.specs.Sizes.{SLOTS, QUERY}
 use Rattle.connection.specs.Request.{is_spent}
 use Rattle.connection.specs.Slots.{request_at, free_slot_of, find, on_slot, is_found}
@@ -52,7 +52,7 @@ not_written n c after bytes buffer e = by_test (n =? 0) (λ t. absurd (e (simp t
 -- ---- an opening
 pub record LetOpen (c : Server) (id role room long : ℕ) : Type 0 where
   pub some_id : id ≡ 0 → ⊥
-  pub none : find c.table id ≡ Slot.Nowhere
+  pub none : find c.table id ≡ None
   pub slot : free_slot_of c.table < SLOTS
   pub known_role : is_role role ≡ true
   pub fits : long ≤ room
@@ -73,18 +73,18 @@ let_open c id role room long e =
 
 -- ---- a part
 pub record LetGive (c : Server) (id : ℕ) (part : Part) (buffer : List ℕ) : Type 0 where
-  pub found : find c.table id ≡ Slot.At (slot_of c id)
+  pub found : find c.table id ≡ Some (slot_of c id)
   pub live : is_spent (request_at c.table (slot_of c id)).state.life ≡ false
   pub in_its_turn : in_turn (request_at c.table (slot_of c id)).state.turn part ≡ true
   pub fits : length (part_bytes (request_at c.table (slot_of c id)).id part) ≤ length buffer
 
-call_found : (c : Server) (id : ℕ) → call_refusal c id ≡ 0 → find c.table id ≡ Slot.At (slot_of c id)
+call_found : (c : Server) (id : ℕ) → call_refusal c id ≡ 0 → find c.table id ≡ Some (slot_of c id)
 unfolding call_refusal
 call_found c id e =
     let s = find c.table id in
     let rows = (9 when not (in_shape c)) ∷ (1 when not c.«open») ∷ (3 when not (is_found s)) ∷ [] in
     let k = found_true s (not-false (is_found s) (row_not rows 3 e refl)) in
-    k.1 ∙ ap Slot.At (sym (ap (λ (x : Slot). on_slot x (λ i. i) SLOTS) k.1))
+    k.1 ∙ ap Some (sym (ap (λ (x : Slot). on_slot x (λ i. i) SLOTS) k.1))
 
 pub let_give : (c : Server) (id : ℕ) (part : Part) (buffer : List ℕ) → (write_part c id part buffer).refusal ≡ 0 → LetGive c id part buffer
 unfolding write_part writes_part

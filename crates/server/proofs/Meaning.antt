@@ -1,5 +1,5 @@
 -- What the records of a station mean to the server's end, between two records: output, the end of a stream, the end of a request, values, an unknown type.
-use Rattle.std.specs.Prelude.{ℕ, ◌+◌, ◌≤◌, ◌<◌, ◌≡◌, false, drop}
+use Rattle.std.specs.Prelude.{ℕ, ◌+◌, ◌≤◌, ◌<◌, ◌≡◌, false, drop, Some}
 use Rattle.std.proofs.Math.Path.{refl, sym, ap, ap₂}
 use Rattle.std.proofs.Common.{◌∙◌, subst, take-append-drop, take_all}
 use Rattle.std.proofs.Math.Bool.{true}
@@ -23,7 +23,6 @@ use Rattle.record_writer.proofs.ReadBack.{header_read_back}
 use Rattle.record_writer.proofs.StreamLaws.{by_chunks, stream_none, stream_more}
 use Rattle.pair_list.specs.List.{pairs_in, pairs_from, ending_of, well_formed}
 use Rattle.connection.specs.declared.answer.Output.{Output}
-use Rattle.connection.specs.declared.state.Slot.{Slot}
 use Rattle.connection.specs.declared.state.Table.{Table}
 use Rattle.connection.specs.Sizes.{QUERY, CHUNK}
 use Rattle.connection.specs.Codes.{output_type}
@@ -70,7 +69,7 @@ module _ (t : Table) (v : List ℕ) (ready : Ready (idle t true v) 0) where
       one_record (idle t true v) kind id x ready refl hi hx
       ∙ ap (λ (k : Left Inner Note). record { reader = between rules lawful k.state; notes = k.notes }) e
 
-  module _ (id i : ℕ) (slot : find t id ≡ Slot.At i) (hi : id < 65536) where
+  module _ (id i : ℕ) (slot : find t id ≡ Some i) (hi : id < 65536) where
     own_id : (request_at t i).id ≡ id
     unfolding request_at
     own_id = (find_at t id i slot).has_id
@@ -155,7 +154,7 @@ by_record_lem t v kind id x u w l ready hi hx e =
     }
 
 module _ (t : Table) (v : List ℕ) (ready : Ready (idle t true v) 0) where
-  module _ (id i : ℕ) (slot : find t id ≡ Slot.At i) (hi : id < 65536) where
+  module _ (id i : ℕ) (slot : find t id ≡ Some i) (hi : id < 65536) where
     pub heard_end : (o : Output) → is_ended o (request_at t i).state ≡ false
         → Heard t v (record_bytes (output_type o) id []) (put_request t i (ended_on (request_at t i) o)) v (Note.Told (Event.Ended id (output_type o)) ∷ [])
     heard_end o live = by_record_lem t v (output_type o) id [] _ v _ ready hi (omega arith) (end_means t v ready id i slot hi o live)

@@ -1,5 +1,6 @@
 -- The public step of the server's end is a step of the reader of records: from a good state it is never refused while it is open, and leaves a good state.
-use Rattle.std.specs.Prelude.{ℕ, ◌+◌, ◌≤◌, ◌<◌, ◌≡◌, Bool, true, false, List, [], ◌∷◌, length, take, ltb, leb, eqb, if◌then◌else◌}
+use Rattle.connection.specs.Slots.{Slot}
+use Rattle.std.specs.Prelude.{ℕ, ◌+◌, ◌≤◌, ◌<◌, ◌≡◌, Bool, true, false, List, [], ◌∷◌, length, take, ltb, leb, eqb, if◌then◌else◌, Some, None}
 use Rattle.std.proofs.Math.Path.{refl}
 use Rattle.std.proofs.Common.{sym, ap, ◌∙◌, arith, lt-ltb, le-leb, eq-eqb, ne_eqb, ltb-true, leb-true, eqb-true}
 use Rattle.std.proofs.lemmas.List.{length-replicate}
@@ -10,7 +11,6 @@ use Rattle.record_reader.specs.declared.Position.{Position}
 use Rattle.record_reader.specs.declared.Phase.{Phase}
 use Rattle.pair_list.specs.List.{well_formed}
 use Rattle.connection.specs.declared.state.Table.{Table}
-use Rattle.connection.specs.declared.state.Slot.{Slot}
 use Rattle.connection.specs.Sizes.{SLOTS, QUERY}
 use Rattle.slot_word.specs.Word.{taken as is_taken}
 use Rattle.connection.specs.Shape.{◌and◌, slots_fit, position_fits, due_fits}
@@ -123,8 +123,8 @@ module _ (s : Inner) (y v : List ℕ) where
       (either Plain (is_ended (output_of kind) (request_at s.table i).state) _ _ (plain_closes 56) (either Plain (eqb n 0) _ _ refl refl))
 
   plain_slot : (kind n : ℕ) (k : Slot) → Plain (on_slot k (on_request s kind n) (closes s 53))
-  plain_slot kind n (Slot.At i) = plain_request kind n i
-  plain_slot kind n Slot.Nowhere = plain_closes 53
+  plain_slot kind n (Some i) = plain_request kind n i
+  plain_slot kind n None = plain_closes 53
 
   plain_judged : (h : Header) → Plain (judged s h)
   unfolding judged

@@ -1,5 +1,5 @@
 -- What the calls of the server's end that write come to, for a request that is open: in its turn a part is refused by 6 or written.
-use Rattle.std.specs.Prelude.{ℕ, ◌≤◌, ◌<◌, ◌≡◌, refl, Bool, true, false, List, length, get_or, eqb}
+use Rattle.std.specs.Prelude.{ℕ, ◌≤◌, ◌<◌, ◌≡◌, refl, Bool, true, false, List, length, get_or, eqb, Some, None}
 use Rattle.std.proofs.Common.{sym, ◌∙◌, subst, arith}
 use Rattle.std.proofs.Math.Path.{ap}
 use borrow.Author.Tests.{lt-ltb, le-ltb, ne_eqb, eqb-true, eqb-false}
@@ -12,7 +12,6 @@ use Rattle.connection.specs.declared.request.Life.{Life}
 use Rattle.connection.specs.declared.request.RequestState.{RequestState}
 use Rattle.connection.specs.declared.request.Request.{Request}
 use Rattle.connection.specs.declared.state.Table.{Table}
-use Rattle.connection.specs.declared.state.Slot.{Slot}
 use Rattle.connection.specs.Sizes.{SLOTS, AREA}
 use Rattle.connection.specs.Codes.{role_number}
 use Rattle.connection.specs.Request.{unshown, with_turn, with_life, opened}
@@ -56,7 +55,7 @@ good_put st i r good same fits =
     let k = good.fit.ready in
     good_table st (put_request t i r) good (put_sized t i r k.sized) (tidy_put t i r same k.sized k.tidy fits) (λ j u. use_put t i j r u)
 
-pub good_take : (st : State) (i : ℕ) (r : Request) → Good st → i < SLOTS → r.length ≤ AREA → (r.id ≡ 0 → ⊥) → find st.server.table r.id ≡ Slot.Nowhere
+pub good_take : (st : State) (i : ℕ) (r : Request) → Good st → i < SLOTS → r.length ≤ AREA → (r.id ≡ 0 → ⊥) → find st.server.table r.id ≡ None
     → Good (with_table st (take_slot st.server.table i r))
 good_take st i r good low fits some none =
     let t = st.server.table in
@@ -71,7 +70,7 @@ writing_state role keep turn life = record { role = role; turn = turn; life = li
 pub record Holding (st : State) (id i : ℕ) (role : Role) (keep : Bool) (turn : Turn) (life : Life) : Type 0 where
   pub good : Good st
   pub is_open : st.server.«open» ≡ true
-  pub slot : find st.server.table id ≡ Slot.At i
+  pub slot : find st.server.table id ≡ Some i
   pub request : request_at st.server.table i ≡ record { id = id; length = 0; state = writing_state role keep turn life }
 
 -- where a part leads
@@ -136,7 +135,7 @@ role_known Role.Responder = (refl, refl)
 role_known Role.Authorizer = (refl, refl)
 role_known Role.Filter = (refl, refl)
 
-module _ (st : State) (id : ℕ) (role : Role) (keep : Bool) (good : Good st) (o : st.server.«open» ≡ true) (some : id ≡ 0 → ⊥) (none : find st.server.table id ≡ Slot.Nowhere)
+module _ (st : State) (id : ℕ) (role : Role) (keep : Bool) (good : Good st) (o : st.server.«open» ≡ true) (some : id ≡ 0 → ⊥) (none : find st.server.table id ≡ None)
     (room : free_slot_of st.server.table < SLOTS) (buffer : List ℕ) where
   abbrev opening : State
   opening = with_table st (take_slot st.server.table (free_slot_of st.server.table) (opened id role keep))

@@ -1,5 +1,5 @@
 -- What each case of the code's enums is in the rules' numbers and values.
-use Rattle.std.specs.Prelude.{ℕ}
+use Rattle.std.specs.Prelude.{ℕ, Ok, Err, Result}
 use Rattle.record.specs.Names.{PARAMS, STDIN, DATA}
 use Rattle.connection.specs.declared.event.Stream.{Stream}
 use Rattle.connection.specs.declared.request.Turn.{Turn}
@@ -8,8 +8,6 @@ use Rattle.server.specs.declared.state.Input.{Input}
 use Rattle.server.specs.declared.event.ServerClose.{ServerClose}
 use Rattle.server.specs.declared.event.ServerEvent.{ServerEvent}
 use Rattle.server.specs.declared.answer.ServerRefusal.{ServerRefusal}
-use Rattle.server.specs.declared.answer.ServerWrote.{ServerWrote}
-use Rattle.server.specs.declared.answer.ServerResult.{ServerResult}
 use Rattle.server.specs.Event.{Event}
 
 -- the type of an input stream, its turn, and the stream among those whose content is shown
@@ -60,19 +58,19 @@ event_of (ServerEvent.Unknown kind) = Event.Unknown kind
 event_of (ServerEvent.Closed close) = Event.Closed (close_number close)
 
 -- what a call wrote: the number of its refusal, 0 for none, and the bytes
-abbrev pub wrote_refusal : ServerWrote → ℕ
-wrote_refusal (ServerWrote.Bytes n) = 0
-wrote_refusal (ServerWrote.Refused r) = refusal_number r
+abbrev pub wrote_refusal : Result ℕ ServerRefusal → ℕ
+wrote_refusal (Ok n) = 0
+wrote_refusal (Err r) = refusal_number r
 
-abbrev pub wrote_bytes : ServerWrote → ℕ
-wrote_bytes (ServerWrote.Bytes n) = n
-wrote_bytes (ServerWrote.Refused r) = 0
+abbrev pub wrote_bytes : Result ℕ ServerRefusal → ℕ
+wrote_bytes (Ok n) = n
+wrote_bytes (Err r) = 0
 
 -- what a step tells, and the number of its refusal
-abbrev pub result_event : ServerResult → Event
-result_event (ServerResult.Event e) = event_of e
-result_event (ServerResult.Refused r) = Event.None
+abbrev pub result_event : Result ServerEvent ServerRefusal → Event
+result_event (Ok e) = event_of e
+result_event (Err r) = Event.None
 
-abbrev pub result_refusal : ServerResult → ℕ
-result_refusal (ServerResult.Event e) = 0
-result_refusal (ServerResult.Refused r) = refusal_number r
+abbrev pub result_refusal : Result ServerEvent ServerRefusal → ℕ
+result_refusal (Ok e) = 0
+result_refusal (Err r) = refusal_number r

@@ -4,7 +4,7 @@ use crate::state::Target;
 use connection::answer::Output;
 
 // What becomes of the table: nothing, a stream of a slot's request ended, a slot given back, or all of it freed.
-#[derive(Clone, Copy)]
+#[derive(Clone, Copy, Debug, PartialEq, Eq)]
 pub enum Change {
     Keep,
     EndStream(usize, Output),
@@ -13,7 +13,7 @@ pub enum Change {
 }
 
 // The change, what the content that follows is for, how many bytes of a body are gathered, that body, and the event.
-#[derive(Clone, Copy)]
+#[derive(Clone, Copy, Debug, PartialEq, Eq)]
 pub struct Decision {
     pub change: Change,
     pub target: Target,

@@ -4,7 +4,7 @@ use connection::answer::Output;
 // Why the connection closes, 51 to 56: a version other than 1, a type that is no reply, an id that is not open, an
 // END_REQUEST or UNKNOWN_TYPE that has not 8 bytes, a result of values that is too long or malformed, output of a stream
 // that is ended.
-#[derive(Clone, Copy)]
+#[derive(Clone, Copy, Debug, PartialEq, Eq)]
 pub enum ServerClose {
     Version,
     NoReply,
@@ -15,7 +15,7 @@ pub enum ServerClose {
 }
 
 // `id` is the request that an event is about; the last three are about none.
-#[derive(Clone, Copy)]
+#[derive(Clone, Copy, Debug, PartialEq, Eq)]
 pub enum ServerEvent {
     // The step has nothing to tell.
     Nothing,

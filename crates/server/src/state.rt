@@ -3,7 +3,7 @@ use connection::state::Table;
 use record_reader::Position;
 
 // An input stream of a request, which this end writes.
-#[derive(Clone, Copy)]
+#[derive(Clone, Copy, Debug, PartialEq, Eq)]
 pub enum Input {
     Params,
     Stdin,
@@ -12,7 +12,7 @@ pub enum Input {
 
 // What the content of the record being read is for: nothing, a request's output, the body of its END_REQUEST, a result
 // of values, or the body of an UNKNOWN_TYPE. Requests by their slot.
-#[derive(Clone, Copy)]
+#[derive(Clone, Copy, Debug, PartialEq, Eq)]
 pub enum Target {
     Skip,
     Stdout(u8),
@@ -24,7 +24,7 @@ pub enum Target {
 
 // The record being read: where the reader stands, what its content is for, and how many bytes of it are gathered. A
 // body of eight bytes is held here; a result lies in the 512 bytes that are lent beside the state.
-#[derive(Clone, Copy)]
+#[derive(Clone, Copy, Debug, PartialEq, Eq)]
 pub struct Frame {
     pub position: Position,
     pub target: Target,
@@ -34,7 +34,7 @@ pub struct Frame {
 
 // The requests that are open, in a table like the station's. A request's turn is the stream that may be written next,
 // and its life says whether it was aborted; its length and what was shown of it are not used at this end.
-#[derive(Clone, Copy)]
+#[derive(Clone, Copy, Debug, PartialEq, Eq)]
 pub struct Server {
     pub table: Table,
     pub frame: Frame,

@@ -1,5 +1,5 @@
 -- A record or a stream at the start of a lent buffer: whether it fits, and what stands there once it is written.
-use Rattle.std.specs.Prelude.{ℕ, ◌+◌, ◌≤◌, ◌≡◌, Bool, true, false, not, List, length, ltb, leb}
+use Rattle.std.specs.Prelude.{ℕ, ◌+◌, ◌≤◌, ◌≡◌, Bool, true, false, not, List, length, ltb, leb, Ok}
 use Rattle.std.proofs.Common.{sym, ap, ◌∙◌, arith, zero-add, ltb-true, ltb-false, le-leb}
 use Rattle.std.proofs.lemmas.Bool.{lt-leb, not-true, not-false}
 use Rattle.wire.specs.Test.{by_test}
@@ -9,7 +9,6 @@ use Rattle.record_writer.proofs.WrittenLaws.{record_length_lem}
 use Rattle.record_writer.proofs.StreamLaws.{stream_length_lem}
 use Rattle.connection.specs.Sizes.{CHUNK}
 use Rattle.server.specs.declared.state.Server.{Server}
-use Rattle.server.specs.declared.answer.ServerWrote.{ServerWrote}
 use Rattle.server.specs.Calls.{writes}
 use Rattle.server.specs.Answer.{written_by, call_wrote}
 
@@ -68,5 +67,5 @@ stream_filled l kind id x t w =
 
 -- A call that is let through and has filled the buffer's start.
 pub call_filled : (n : ℕ) (c after : Server) (bytes buffer : List ℕ) {count : ℕ} {l' : List ℕ} → 0 ≡ n → Filled buffer bytes count l'
-    → written_by (record { wrote = ServerWrote.Bytes count; server = after }) l' ≡ writes n c after bytes buffer
+    → written_by (record { wrote = Ok count; server = after }) l' ≡ writes n c after bytes buffer
 call_filled n c after bytes buffer e f = rw (f.count, f.put) (call_wrote n c after bytes buffer (sym e))

@@ -6,55 +6,29 @@ ghost use Rattle.std.specs.Prelude.{◌≡◌};
 ghost use Rattle.server.specs.Step.{step_refusal};
 ghost use Rattle.server_admit.specs.Admission.{check_number, admitted_by, call_admission};
 
-use connection::state::Slot;
 use server::answer::ServerRefusal;
 use server::state::Server;
 use server_check::in_shape;
 use slot_table::find_from;
 
-// Whether rows let a call through, or which of them refuses it.
-#[derive(Clone, Copy)]
-pub enum Checked {
-    Passed,
-    Refused(ServerRefusal),
-}
-
-// The slot of the request that a call names, or why the call is refused.
-#[derive(Clone, Copy)]
-pub enum Admitted {
-    At(usize),
-    Refused(ServerRefusal),
-}
-
 // Rows 9 and 1: the state's shape, and whether the connection is open.
-pub fn check_state(c: Server) -> Checked
+#[tactic(auto, unfolding(server::specs::Step::step_refusal), using(server_check::proofs::Laws::shape_of_lem))]
+pub fn check_state(c: Server) -> Result<(), ServerRefusal>
     ensures { check_number result ≡ step_refusal c }
 {
-    let t = c.table;
-    let f = c.frame;
-    if !in_shape(&t.ids, &t.lengths, t.occupied, f) {
-        return Checked::Refused(ServerRefusal::OutOfShape);
+    if !in_shape(&c.table.ids, &c.table.lengths, c.table.occupied, c.frame) {
+        return Err(ServerRefusal::OutOfShape);
     }
     if !c.open {
-        return Checked::Refused(ServerRefusal::Closed);
+        return Err(ServerRefusal::Closed);
     }
-    Checked::Passed
+    Ok(())
 }
 
 // Rows 9, 1 and 3: of a call that names a request.
-pub fn admit(c: Server, id: u16) -> Admitted
+pub fn admit(c: Server, id: u16) -> Result<usize, ServerRefusal>
     ensures { admitted_by result ≡ call_admission c id }
 {
-    let checked = check_state(c);
-    match checked {
-        Checked::Refused(why) => Admitted::Refused(why),
-        Checked::Passed => {
-            let t = c.table;
-            let slot = find_from(&t.ids, t.occupied, id, 0);
-            match slot {
-                Slot::At(i) => Admitted::At(i),
-                Slot::Nowhere => Admitted::Refused(ServerRefusal::NotOpen),
-            }
-        }
-    }
+    check_state(c)?;
+    find_from(&c.table.ids, c.table.occupied, id, 0).ok_or(ServerRefusal::NotOpen)
 }

@@ -1,5 +1,5 @@
 -- What asking for values needs: what the rows say together, and what is written.
-use Rattle.std.specs.Prelude.{ℕ, ◌≤◌, ◌≡◌, refl, Bool, true, false, not, List, [], ◌∷◌, length, ltb, if◌then◌else◌}
+use Rattle.std.specs.Prelude.{ℕ, ◌≤◌, ◌≡◌, refl, Bool, true, false, not, List, [], ◌∷◌, length, ltb, if◌then◌else◌, Ok}
 use Rattle.std.proofs.Common.{arith, ltb-false}
 use Rattle.wire.specs.Test.{by_test}
 use Rattle.record.specs.Names.{GET_VALUES}
@@ -7,7 +7,6 @@ use Rattle.record_writer.specs.Written.{Placed, record_bytes, record_placed}
 use Rattle.connection.specs.Sizes.{QUERY}
 use Rattle.connection.specs.Refusal.{◌when◌}
 use Rattle.server.specs.declared.answer.ServerRefusal.{ServerRefusal}
-use Rattle.server.specs.declared.answer.ServerWrote.{ServerWrote}
 use Rattle.server.specs.declared.state.Server.{Server}
 use Rattle.server.specs.Shape.{in_shape}
 use Rattle.server.specs.Step.{step_refusal}
@@ -57,7 +56,7 @@ free c list room e =
 -- what the code made of it
 pub ask_wrote : (c : Server) (list l : List ℕ) {n : ℕ} {l' : List ℕ} → 0 ≡ ask_refusal c list (length l)
     → ◌≡◌ {A = Placed} (record { next = n; buffer = l' }) (record_placed l 0 GET_VALUES 0 list)
-    → written_by (record { wrote = ServerWrote.Bytes n; server = c }) l' ≡ ask_values c list l
+    → written_by (record { wrote = Ok n; server = c }) l' ≡ ask_values c list l
 unfolding ask_values
 ask_wrote c list l e w =
     let f = free c list (length l) e in

@@ -14,20 +14,14 @@ use slot_check::slots_fit;
 fn make_eight(gathered: usize, left: usize) -> bool
     ensures { result ≡ eqb (gathered + left) 8 }
 {
-    if 8 < gathered {
-        return false;
-    }
-    left == 8 - gathered
+    gathered <= 8 && left == 8 - gathered
 }
 
 // The body of an END_REQUEST is due to a slot that is taken.
 fn end_fits(occupied: u16, i: u8, gathered: usize, left: usize) -> bool
     ensures { result ≡ target_of (Target.End i) occupied gathered left }
 {
-    if !due_fits(occupied, i) {
-        return false;
-    }
-    make_eight(gathered, left)
+    due_fits(occupied, i) && make_eight(gathered, left)
 }
 
 fn target_fits(target: Target, occupied: u16, gathered: usize, left: usize) -> bool
@@ -35,8 +29,7 @@ fn target_fits(target: Target, occupied: u16, gathered: usize, left: usize) -> b
 {
     match target {
         Target::Skip => true,
-        Target::Stdout(i) => due_fits(occupied, i),
-        Target::Stderr(i) => due_fits(occupied, i),
+        Target::Stdout(i) | Target::Stderr(i) => due_fits(occupied, i),
         Target::End(i) => end_fits(occupied, i, gathered, left),
         Target::Values => within(QUERY, gathered, left),
         Target::Unknown => make_eight(gathered, left),
@@ -44,6 +37,7 @@ fn target_fits(target: Target, occupied: u16, gathered: usize, left: usize) -> b
 }
 
 // The state with these ids, lengths and slots taken, and this frame, is in shape.
+#[tactic(auto, unfolding(server::specs::Shape::in_shape), using(crate::proofs::Laws::target_of_lem))]
 pub fn in_shape<'a>(
     ids: &'a [u16; SLOTS],
     lengths: &'a [u16; SLOTS],
@@ -52,14 +46,7 @@ pub fn in_shape<'a>(
 ) -> bool
     ensures { result ≡ shape_of ids.now lengths.now occupied f }
 {
-    if !slots_fit(ids, lengths, occupied) {
-        return false;
-    }
-    let p = f.position;
-    if !position_fits(p) {
-        return false;
-    }
-    let target = f.target;
-    let gathered = f.gathered;
-    target_fits(target, occupied, gathered, p.content)
+    slots_fit(ids, lengths, occupied)
+        && position_fits(f.position)
+        && target_fits(f.target, occupied, f.gathered, f.position.content)
 }

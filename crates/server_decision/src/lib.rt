@@ -19,10 +19,7 @@ use server::state::Target;
 pub fn target_if(left: usize, target: Target) -> Target
     ensures { result ≡ target_if left target }
 {
-    if left == 0 {
-        return Target::Skip;
-    }
-    target
+    if left == 0 { Target::Skip } else { target }
 }
 
 // A record goes on, with so many bytes of a body gathered; nothing else changes.
@@ -35,13 +32,12 @@ pub fn goes_on(
 ) -> Decision
     ensures { result ≡ goes_on left target gathered body event }
 {
-    let still = target_if(left, target);
     Decision {
         change: Change::Keep,
-        target: still,
-        gathered: gathered,
-        body: body,
-        event: event,
+        target: target_if(left, target),
+        gathered,
+        body,
+        event,
     }
 }
 
@@ -50,11 +46,11 @@ pub fn done_with(change: Change, event: ServerEvent) -> Decision
     ensures { result ≡ done_with change event }
 {
     Decision {
-        change: change,
+        change,
         target: Target::Skip,
         gathered: 0,
         body: [0; 8],
-        event: event,
+        event,
     }
 }
 
@@ -63,7 +59,7 @@ pub fn closing(cause: ServerClose) -> Decision
     ensures { (t : Table) (f : Frame) (values : List ℕ) → applied result t values
         ≡ closes (inner_in t f values) (close_number cause) }
 {
-    done_with(Change::Close, ServerEvent::Closed { cause: cause })
+    done_with(Change::Close, ServerEvent::Closed { cause })
 }
 
 // A list of values whose last byte is in: malformed, it closes the connection by 55.
@@ -72,8 +68,7 @@ pub fn of_list(list: &[u8]) -> Decision
     ensures { (t : Table) (f : Frame) (values : List ℕ) → applied result t values
         ≡ valued (inner_in t f values) list.now }
 {
-    let ending = list_ending(list);
-    match ending {
+    match list_ending(list) {
         Ending::End => done_with(
             Change::Keep,
             ServerEvent::Values {

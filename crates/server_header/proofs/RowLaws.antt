@@ -1,5 +1,6 @@
 -- That the rows come to what the definition says, and what is known of a record's owner.
-use Rattle.std.specs.Prelude.{ℕ, ◌≡◌, refl, Bool, true, false, List, get_or, if◌then◌else◌}
+use Rattle.connection.specs.Slots.{Slot}
+use Rattle.std.specs.Prelude.{ℕ, ◌≡◌, refl, Bool, true, false, List, get_or, if◌then◌else◌, Some, None}
 use Rattle.std.proofs.Common.{sym, ap, ap₂, ◌∙◌, arith}
 use Rattle.wire.specs.Test.{◌=?◌}
 use Rattle.record.specs.Names.{VERSION}
@@ -7,7 +8,6 @@ use Rattle.record.specs.declared.header.Header.{Header}
 use Rattle.slot_word.specs.Word.{taken}
 use Rattle.connection.specs.declared.answer.Output.{Output}
 use Rattle.connection.specs.declared.state.Table.{Table}
-use Rattle.connection.specs.declared.state.Slot.{Slot}
 use Rattle.connection.specs.Sizes.{SLOTS}
 use Rattle.connection.specs.Codes.{output_type}
 use Rattle.connection.specs.RequestCalls.{is_ended}
@@ -42,8 +42,8 @@ judged_rows s h =
     rows true false m z k = refl
     rows true true true true k = refl
     rows true true true false k = refl
-    rows true true false z (Slot.At i) = refl
-    rows true true false z Slot.Nowhere = refl
+    rows true true false z (Some i) = refl
+    rows true true false z None = refl
 
 -- So is a record of output.
 pub output_rows_lem : (s : Inner) (output : Output) (n i : ℕ) → by_row (output_row (is_ended output (request_at s.table i).state) n) s output n i ≡ on_output s output n i
@@ -79,8 +79,8 @@ owner_slot all word kind id i e = go (is_management kind) (id =? 0) (find_from S
         → HoldsFrom SLOTS all word id 0 i
     go true true k f w = let z : ◌≡◌ {A = ℕ} 0 1 = cc in absurd (omega arith)
     go true false k f w = let z : ◌≡◌ {A = ℕ} 0 1 = cc in absurd (omega arith)
-    go false none (Slot.At j) f w = let same : j ≡ i = cc in found_from SLOTS all word id 0 i (f ∙ ap Slot.At same)
-    go false none Slot.Nowhere f w = let z : ◌≡◌ {A = ℕ} 0 1 = cc in absurd (omega arith)
+    go false none (Some j) f w = let same : j ≡ i = cc in found_from SLOTS all word id 0 i (f ∙ ap Some same)
+    go false none None f w = let z : ◌≡◌ {A = ℕ} 0 1 = cc in absurd (omega arith)
 
 pub slot_id : (t : Table) (all : List ℕ) (word id i : ℕ) → t.ids ≡ all → HoldsFrom SLOTS all word id 0 i → (request_at t i).id ≡ id
 unfolding request_at

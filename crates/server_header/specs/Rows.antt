@@ -1,11 +1,11 @@
 -- The rows that a header is judged by, as the code takes them: whom it is for, then 51 to 53, then its own.
-use Rattle.std.specs.Prelude.{ℕ, ◌≡◌, Bool, true, false, List, if◌then◌else◌}
+use Rattle.connection.specs.Slots.{Slot}
+use Rattle.std.specs.Prelude.{ℕ, ◌≡◌, Bool, true, false, List, if◌then◌else◌, Ok, Err, Result, ⊤}
 use Rattle.wire.specs.Test.{◌=?◌}
 use Rattle.record.specs.Names.{VERSION}
 use Rattle.record.specs.declared.header.Header.{Header}
 use Rattle.connection.specs.declared.answer.Output.{Output}
 use Rattle.connection.specs.declared.state.Table.{Table}
-use Rattle.connection.specs.declared.state.Slot.{Slot}
 use Rattle.connection.specs.Sizes.{SLOTS}
 use Rattle.connection.specs.Codes.{output_type}
 use Rattle.connection.specs.Slots.{request_at, find_from, on_slot}
@@ -16,7 +16,6 @@ use Rattle.server.specs.Decision.{stream_ended}
 use Rattle.server.specs.Step.{Inner, Left, idle, told, aimed, closes, is_management, is_reply, output_target, on_management, on_request}
 use Rattle.server_header.specs.declared.Words.{Words}
 use Rattle.server_header.specs.declared.Owner.{Owner}
-use Rattle.server_header.specs.declared.HeaderCheck.{HeaderCheck}
 use Rattle.server_header.specs.declared.OutputRow.{OutputRow}
 
 -- The parts of a table that a header is judged by.
@@ -40,13 +39,13 @@ is_known (Owner.Request i) = true
 is_known Owner.Nobody = false
 
 -- rows 51, 52 and 53
-abbrev pub rows_of : Bool → Bool → Bool → HeaderCheck
+abbrev pub rows_of : Bool → Bool → Bool → Result ⊤ ServerClose
 rows_of version reply known =
     if version then
-    (if reply then (if known then HeaderCheck.Passed else HeaderCheck.Closed ServerClose.NotOpen) else HeaderCheck.Closed ServerClose.NoReply)
-    else HeaderCheck.Closed ServerClose.Version
+    (if reply then (if known then (Ok tt) else Err ServerClose.NotOpen) else Err ServerClose.NoReply)
+    else Err ServerClose.Version
 
-unfoldable pub checked_header : ℕ → Bool → Bool → HeaderCheck
+unfoldable pub checked_header : ℕ → Bool → Bool → Result ⊤ ServerClose
 checked_header version reply known = rows_of (version =? VERSION) reply known
 
 -- row 56, then the end of a stream
@@ -58,9 +57,9 @@ by_owner Owner.Connection s kind n = on_management s kind n
 by_owner (Owner.Request i) s kind n = on_request s kind n i
 by_owner Owner.Nobody s kind n = closes s 53
 
-abbrev pub by_check : HeaderCheck → Inner → Left → Left
-by_check HeaderCheck.Passed s left = left
-by_check (HeaderCheck.Closed cause) s left = closes s (close_number cause)
+abbrev pub by_check : Result ⊤ ServerClose → Inner → Left → Left
+by_check (Ok tt) s left = left
+by_check (Err cause) s left = closes s (close_number cause)
 
 -- a header judged, once it is known whom it is for
 abbrev pub judged_for : Owner → Inner → Header → Left

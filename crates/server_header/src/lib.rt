@@ -15,7 +15,6 @@ ghost use Rattle.server_header.specs.Rows.{Seen, owner_in, is_known, checked_hea
 
 use connection::answer::Output;
 use connection::sizes::{QUERY, SLOTS};
-use connection::state::Slot;
 use record::header::Header;
 use record::names;
 use server::decision::{Change, Decision};
@@ -35,22 +34,17 @@ pub struct Words {
 }
 
 // Whom a record is for: the connection, the request of a slot, or nobody that is known here.
-#[derive(Clone, Copy)]
+// Three ways, since a record of the connection has no slot and is still for somebody.
+#[derive(Debug, Clone, Copy, PartialEq, Eq)]
 enum Owner {
     Connection,
     Request(usize),
     Nobody,
 }
 
-// Whether a header comes through rows 51 to 53.
-#[derive(Clone, Copy)]
-enum HeaderCheck {
-    Passed,
-    Closed(ServerClose),
-}
-
 // What a record of output is: too late, the end of its stream, or content to show.
-#[derive(Clone, Copy)]
+// Three ways: each is answered by an event of its own.
+#[derive(Debug, Clone, Copy, PartialEq, Eq)]
 enum OutputRow {
     TooLate,
     Ends,
@@ -60,25 +54,13 @@ enum OutputRow {
 fn is_management(kind: u8) -> bool
     ensures { result ≡ is_management kind }
 {
-    if kind == names::GET_VALUES_RESULT {
-        return true;
-    }
-    kind == names::UNKNOWN_TYPE
+    matches!(kind, names::GET_VALUES_RESULT | names::UNKNOWN_TYPE)
 }
 
 fn is_reply(kind: u8) -> bool
     ensures { result ≡ is_reply kind }
 {
-    if kind == names::END_REQUEST {
-        return true;
-    }
-    if kind == names::STDOUT {
-        return true;
-    }
-    if kind == names::STDERR {
-        return true;
-    }
-    is_management(kind)
+    matches!(kind, names::END_REQUEST | names::STDOUT | names::STDERR) || is_management(kind)
 }
 
 // Management records have id 0; any other is for the request of its id.
@@ -91,37 +73,33 @@ fn owner_of(ids: &[u16; SLOTS], occupied: u16, kind: u8, id: u16) -> Owner
         }
         return Owner::Nobody;
     }
-    let slot = find_from(ids, occupied, id, 0);
-    match slot {
-        Slot::At(i) => Owner::Request(i),
-        Slot::Nowhere => Owner::Nobody,
+    match find_from(ids, occupied, id, 0) {
+        Some(i) => Owner::Request(i),
+        None => Owner::Nobody,
     }
 }
 
 fn is_known(owner: Owner) -> bool
     ensures { result ≡ is_known owner }
 {
-    match owner {
-        Owner::Connection => true,
-        Owner::Request(_) => true,
-        Owner::Nobody => false,
-    }
+    !matches!(owner, Owner::Nobody)
 }
 
 // Rows 51, 52 and 53: the first that holds.
-fn check_header(version: u8, reply: bool, known: bool) -> HeaderCheck
+#[tactic(auto, unfolding(crate::specs::Rows::checked_header))]
+fn check_header(version: u8, reply: bool, known: bool) -> Result<(), ServerClose>
     ensures { result ≡ checked_header version reply known }
 {
-    if version == names::VERSION {} else {
-        return HeaderCheck::Closed(ServerClose::Version);
+    if version != names::VERSION {
+        return Err(ServerClose::Version);
     }
-    if reply {} else {
-        return HeaderCheck::Closed(ServerClose::NoReply);
+    if !reply {
+        return Err(ServerClose::NoReply);
     }
-    if known {} else {
-        return HeaderCheck::Closed(ServerClose::NotOpen);
+    if !known {
+        return Err(ServerClose::NotOpen);
     }
-    HeaderCheck::Passed
+    Ok(())
 }
 
 // UNKNOWN_TYPE has 8 bytes (54), GET_VALUES_RESULT at most QUERY (55); an empty result is told at once.
@@ -174,20 +152,13 @@ fn on_output(output: Output, ended: bool, n: usize, i: usize, id: u16) -> Decisi
         → is_ended output (request_at t i).state ≡ ended
         → applied result t values ≡ on_output (inner_in t f values) output n i }
 {
-    let row = output_row(ended, n);
-    match row {
+    match output_row(ended, n) {
         OutputRow::TooLate => closing(ServerClose::StreamEnded),
         OutputRow::Ends => done_with(
             Change::EndStream(i, output),
-            ServerEvent::Ended {
-                id: id,
-                stream: output,
-            },
+            ServerEvent::Ended { id, stream: output },
         ),
-        OutputRow::Shows => {
-            let target = output_target(output, i);
-            goes_on(n, target, 0, [0; 8], ServerEvent::Nothing)
-        }
+        OutputRow::Shows => goes_on(n, output_target(output, i), 0, [0; 8], ServerEvent::Nothing),
     }
 }
 
@@ -230,11 +201,8 @@ pub fn judge(ids: &[u16; SLOTS], w: Words, h: Header) -> Decision
         → applied result t values ≡ judged (inner_in t f values) h }
 {
     let owner = owner_of(ids, w.occupied, h.kind, h.id);
-    let reply = is_reply(h.kind);
-    let known = is_known(owner);
-    let checked = check_header(h.version, reply, known);
-    match checked {
-        HeaderCheck::Closed(cause) => closing(cause),
-        HeaderCheck::Passed => by_owner(owner, h, w),
+    match check_header(h.version, is_reply(h.kind), is_known(owner)) {
+        Err(cause) => closing(cause),
+        Ok(()) => by_owner(owner, h, w),
     }
 }

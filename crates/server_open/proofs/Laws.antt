@@ -1,5 +1,5 @@
 -- What opening a request needs: whether BEGIN_REQUEST fits, what the rows say together, and what is written.
-use Rattle.std.specs.Prelude.{ℕ, ◌≡◌, refl, Bool, true, false, not, List, [], ◌∷◌, length, ltb, eqb, if◌then◌else◌}
+use Rattle.std.specs.Prelude.{ℕ, ◌≡◌, refl, Bool, true, false, not, List, [], ◌∷◌, length, ltb, eqb, if◌then◌else◌, Ok}
 use Rattle.std.proofs.Common.{sym, ap, ◌∙◌, arith}
 use Rattle.wire.specs.Test.{by_test}
 use Rattle.record.specs.Names.{BEGIN_REQUEST}
@@ -14,7 +14,6 @@ use Rattle.connection.specs.Request.{opened}
 use Rattle.connection.specs.Slots.{take_slot, free_slot_of, find, is_found}
 use Rattle.connection.specs.Refusal.{◌when◌}
 use Rattle.server.specs.declared.answer.ServerRefusal.{ServerRefusal}
-use Rattle.server.specs.declared.answer.ServerWrote.{ServerWrote}
 use Rattle.server.specs.declared.state.Server.{Server}
 use Rattle.server.specs.Shape.{in_shape}
 use Rattle.server.specs.Step.{step_refusal}
@@ -30,6 +29,12 @@ pub begin_fits : (id role : ℕ) (keep : Bool) (room : ℕ) → record_fits 8 0 
 begin_fits id role keep room =
     let body = begin_length role keep in
     ap (λ (n : ℕ). record_fits n 0 room) (sym body) ∙ record_room BEGIN_REQUEST id (begin_body_bytes role keep) room (omega arith)
+
+-- so a check of this buffer says what it says of this record
+pub begin_checked : (c : Server) (id role : ℕ) (keep : Bool) (room : ℕ) {fits : Bool} {n : ℕ} → fits ≡ record_fits 8 0 room
+    → ((room long : ℕ) → fits ≡ not (ltb room long) → n ≡ open_refusal c id role room long)
+    → n ≡ open_refusal c id role room (length (begin_bytes id role keep))
+begin_checked c id role keep room f checked = checked room (length (begin_bytes id role keep)) (f ∙ begin_fits id role keep room)
 
 -- ---- the rows
 -- rows 9 and 1 come first
@@ -77,7 +82,7 @@ pub open_wrote : (c : Server) (id role : ℕ) (keep : Bool) (l : List ℕ) {n fr
     → 0 ≡ open_refusal c id role (length l) (length (begin_bytes id role keep))
     → ◌≡◌ {A = Placed} (record { next = n; buffer = l' }) (record_placed l 0 BEGIN_REQUEST id (begin_body_bytes role keep))
     → known ≡ role_of role → r ≡ opened id known keep → free ≡ free_slot_of c.table → t ≡ take_slot c.table free r
-    → written_by (record { wrote = ServerWrote.Bytes n; server = record { table = t; frame = c.frame; «open» = c.«open» } }) l' ≡ open_request c id role keep l
+    → written_by (record { wrote = Ok n; server = record { table = t; frame = c.frame; «open» = c.«open» } }) l' ≡ open_request c id role keep l
 unfolding open_request
 open_wrote c id role keep l e w ek er ef et =
     let begin = begin_bytes id role keep in

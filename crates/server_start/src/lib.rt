@@ -12,6 +12,7 @@ use wire::clear;
 
 // Start: open, with no requests, between two records; the bytes lent for a result of values are zeroed. It is never
 // refused.
+#[tactic(auto, unfolding(server::specs::Step::started))]
 pub fn start_server(values: &mut [u8; QUERY]) -> Server
     ensures { state_of result values.new ≡ started values.old }
 {

@@ -1,5 +1,5 @@
 -- What the code settles before it changes the table, read as what a step leaves.
-use Rattle.std.specs.Prelude.{ℕ, ◌≡◌, refl, Bool, true, false, List, take}
+use Rattle.std.specs.Prelude.{ℕ, ◌≡◌, refl, Bool, true, false, List, take, Ok, Result}
 use Rattle.record_reader.specs.declared.Position.{Position}
 use Rattle.record_reader.specs.declared.Phase.{Phase}
 use Rattle.record_reader.specs.Position.{between_records, advanced}
@@ -9,7 +9,6 @@ use Rattle.server.specs.declared.state.Target.{Target}
 use Rattle.server.specs.declared.state.Frame.{Frame}
 use Rattle.server.specs.declared.state.Server.{Server}
 use Rattle.server.specs.declared.event.ServerEvent.{ServerEvent}
-use Rattle.server.specs.declared.answer.ServerResult.{ServerResult}
 use Rattle.server.specs.declared.decision.Change.{Change}
 use Rattle.server.specs.declared.decision.Decision.{Decision}
 use Rattle.server.specs.Event.{Event}
@@ -18,6 +17,7 @@ use Rattle.server.specs.Step.{Inner, inner_of, Left, no_body, told, judged, take
 use Rattle.server.specs.Decision.{inner_in, stream_ended, applied}
 use Rattle.server_header.specs.declared.Words.{Words}
 use Rattle.server_step.specs.declared.Outcome.{Outcome}
+use Rattle.server.specs.declared.answer.ServerRefusal.{ServerRefusal}
 
 -- nothing but the position changes
 abbrev pub unchanged : Frame → Decision
@@ -54,12 +54,12 @@ stepped_with m c values =
 abbrev pub outcome_of : Outcome → Table → Bool → List ℕ → Stepped
 outcome_of m t o values = stepped_with m (server_after m.change t o m.frame) values
 
-abbrev pub staying : Frame → ServerResult → Outcome
+abbrev pub staying : Frame → Result ServerEvent ServerRefusal → Outcome
 staying f result = record { used = 0; result = result; change = Change.Keep; frame = f }
 
 abbrev pub decided : ℕ → Position → Decision → Outcome
 decided used p m =
-    record { used = used; result = ServerResult.Event m.event; change = m.change; frame = record { position = p; target = m.target; gathered = m.gathered; body = m.body } }
+    record { used = used; result = Ok m.event; change = m.change; frame = record { position = p; target = m.target; gathered = m.gathered; body = m.body } }
 
 -- what a step comes to that reads
 unfoldable pub phased : Server → List ℕ → List ℕ → Stepped

@@ -19,7 +19,7 @@ use connection::answer::Output;
 use connection::sizes::{QUERY, SLOTS};
 use connection::state::Table;
 use record_reader::{Phase, advance, between};
-use server::answer::{ServerRefusal, ServerResult, ServerStepped};
+use server::answer::{ServerRefusal, ServerStepped};
 use server::decision::{Change, Decision};
 use server::event::ServerEvent;
 use server::state::{Frame, Server, Target};
@@ -29,8 +29,8 @@ use server_header::{Words, judge};
 use slot_table::{free_request, no_requests};
 use slot_word::mark_slot;
 
-// Whether a step is refused, has nothing to read, or reads.
-#[derive(Clone, Copy)]
+// Whether a step is refused, has nothing to read, or reads. Three ways: to be idle is no refusal, and reads nothing.
+#[derive(Debug, Clone, Copy, PartialEq, Eq)]
 enum StepCheck {
     Refused(ServerRefusal),
     Idle,
@@ -41,19 +41,20 @@ enum StepCheck {
 #[derive(Clone, Copy)]
 struct Outcome {
     used: usize,
-    result: ServerResult,
+    result: Result<ServerEvent, ServerRefusal>,
     change: Change,
     frame: Frame,
 }
 
 // Rows 9 and 1, then the empty piece.
+#[tactic(auto, unfolding(crate::specs::Check::checked_step))]
 fn check_step(fits: bool, open: bool, bytes: usize) -> StepCheck
     ensures { result ≡ checked_step fits «open» bytes }
 {
-    if fits {} else {
+    if !fits {
         return StepCheck::Refused(ServerRefusal::OutOfShape);
     }
-    if open {} else {
+    if !open {
         return StepCheck::Refused(ServerRefusal::Closed);
     }
     if bytes == 0 {
@@ -66,13 +67,13 @@ fn check_step(fits: bool, open: bool, bytes: usize) -> StepCheck
 fn in_silence(f: Frame) -> Decision
     ensures { result ≡ unchanged f }
 {
-    let target = f.target;
+    // An array that is a field goes into a literal by a variable: the borrow checker covers it only so.
     let body = f.body;
     Decision {
         change: Change::Keep,
-        target: target,
+        target: f.target,
         gathered: f.gathered,
-        body: body,
+        body,
         event: ServerEvent::Nothing,
     }
 }
@@ -120,7 +121,7 @@ fn go_on(ids: &[u16; SLOTS], w: Words, f: Frame, values: &mut [u8; QUERY], piece
     let event = m.event;
     Outcome {
         used: used,
-        result: ServerResult::Event(event),
+        result: Ok(event),
         change: change,
         frame: Frame {
             position: p,
@@ -132,7 +133,7 @@ fn go_on(ids: &[u16; SLOTS], w: Words, f: Frame, values: &mut [u8; QUERY], piece
 }
 
 // A step that changes nothing.
-fn stay(f: Frame, res: ServerResult) -> Outcome
+fn stay(f: Frame, res: Result<ServerEvent, ServerRefusal>) -> Outcome
     ensures { result ≡ staying f res }
 {
     Outcome {
@@ -159,8 +160,8 @@ fn settle(
         ≡ by_check check (server_of t f o) values.old piece.now }
 {
     match check {
-        StepCheck::Refused(why) => stay(f, ServerResult::Refused(why)),
-        StepCheck::Idle => stay(f, ServerResult::Event(ServerEvent::Nothing)),
+        StepCheck::Refused(why) => stay(f, Err(why)),
+        StepCheck::Idle => stay(f, Ok(ServerEvent::Nothing)),
         StepCheck::Read => go_on(ids, w, f, values, piece),
     }
 }

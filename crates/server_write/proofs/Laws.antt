@@ -1,5 +1,5 @@
 -- What holds of a call that is let through or refused, whatever its part.
-use Rattle.std.specs.Prelude.{ℕ, ◌≡◌, List, length, eqb}
+use Rattle.std.specs.Prelude.{ℕ, ◌≡◌, List, length, eqb, Ok, Err}
 use Rattle.std.proofs.Math.Path.{ap}
 use Rattle.std.proofs.Common.{◌∙◌}
 use Rattle.wire.specs.Test.{by_test}
@@ -9,12 +9,10 @@ use Rattle.connection.specs.RequestCalls.{Writing, writes}
 use Rattle.connection.specs.Slots.{request_at}
 use Rattle.connection.proofs.Laws.SlotsLaws.{put_same}
 use Rattle.server.specs.declared.answer.ServerRefusal.{ServerRefusal}
-use Rattle.server.specs.declared.answer.ServerWrote.{ServerWrote}
 use Rattle.server.specs.declared.state.Server.{Server}
 use Rattle.server.specs.Codes.{refusal_number}
 use Rattle.server.specs.Calls.{Written, Part, own_refusal, call_refusal, slot_of, with_request, writes_part, write_part}
 use Rattle.server.specs.Answer.{written_by, refusal_some}
-use Rattle.server_admit.specs.declared.Admitted.{Admitted}
 use Rattle.server_admit.specs.Admission.{admitted_by, call_admission}
 use Rattle.server_admit.proofs.AdmissionLaws.{let_through, refused_by_lem}
 use Rattle.server_part.specs.declared.Said.{Said}
@@ -33,23 +31,23 @@ part_put c i part l =
     (λ t. simp t)
     (λ t. simp t (ap (λ (u : Table). record { refusal = own_refusal r part (length l); written = 0; server = record { table = u; frame = c.frame; «open» = c.«open» }; buffer = l }) (put_same c.table i)))
 
-admitted_not : (c : Server) (id : ℕ) (why : ServerRefusal) → admitted_by (Admitted.Refused why) ≡ call_admission c id → call_refusal c id ≡ refusal_number why
+admitted_not : (c : Server) (id : ℕ) (why : ServerRefusal) → admitted_by (Err why) ≡ call_admission c id → call_refusal c id ≡ refusal_number why
 unfolding call_admission
 admitted_not c id why e = refused_by_lem (call_refusal c id) (slot_of c id) why e
 
-admitted_at : (c : Server) (id i : ℕ) → admitted_by (Admitted.At i) ≡ call_admission c id → (call_refusal c id ≡ 0) × (i ≡ slot_of c id)
+admitted_at : (c : Server) (id i : ℕ) → admitted_by (Ok i) ≡ call_admission c id → (call_refusal c id ≡ 0) × (i ≡ slot_of c id)
 unfolding call_admission
 admitted_at c id i e = let_through (call_refusal c id) (slot_of c id) i e
 
 module _ (c : Server) (id : ℕ) (part : Part) (l : List ℕ) where
   -- refused, nothing is written and nothing changes
-  pub call_refused : (why : ServerRefusal) → admitted_by (Admitted.Refused why) ≡ call_admission c id
-      → written_by (record { wrote = ServerWrote.Refused why; server = c }) l ≡ write_part c id part l
+  pub call_refused : (why : ServerRefusal) → admitted_by (Err why) ≡ call_admission c id
+      → written_by (record { wrote = Err why; server = c }) l ≡ write_part c id part l
   unfolding write_part
   call_refused why e = simp (admitted_not c id why e, refusal_some why)
 
   -- let through, the request of its slot is put back as its part left it
-  pub call_through : (said : Said) (i : ℕ) {r : Request} {l' : List ℕ} → admitted_by (Admitted.At i) ≡ call_admission c id
+  pub call_through : (said : Said) (i : ℕ) {r : Request} {l' : List ℕ} → admitted_by (Ok i) ≡ call_admission c id
       → r ≡ request_at c.table i → said_by said l' ≡ part_in r part l
       → written_by (record { wrote = said.wrote; server = with_request c i said.request }) l' ≡ write_part c id part l
   unfolding write_part

@@ -2,24 +2,23 @@
 // put back.
 #![tactic(auto)]
 
-ghost use Rattle.std.specs.Prelude.{◌≡◌};
-ghost use Rattle.server.specs.declared.answer.ServerWrote.{ServerWrote};
+ghost use Rattle.std.specs.Prelude.{◌≡◌, Ok, Err};
 ghost use Rattle.server.specs.Calls.{APair, Content, EndOf, Abort, with_request, write_part};
 ghost use Rattle.server.specs.Answer.{written_by};
 
 use connection::event::Stream;
-use server::answer::{ServerRefusal, ServerWritten, ServerWrote};
+use server::answer::{ServerRefusal, ServerWritten};
 use server::state::{Input, Server};
-use server_admit::{Admitted, admit};
+use server_admit::admit;
 use server_part::{Said, abort_in, content_in, end_in, pair_in};
 use slot_table::{put_request, request_at};
 
 // A refused call: nothing is written, nothing changes.
 fn refused(c: Server, why: ServerRefusal) -> ServerWritten
-    ensures { result ≡ record { wrote = ServerWrote.Refused why; server = c } }
+    ensures { result ≡ record { wrote = Err why; server = c } }
 {
     ServerWritten {
-        wrote: ServerWrote::Refused(why),
+        wrote: Err(why),
         server: c,
     }
 }
@@ -28,16 +27,11 @@ fn refused(c: Server, why: ServerRefusal) -> ServerWritten
 fn put_back(c: Server, i: usize, said: Said) -> ServerWritten
     ensures { result ≡ record { wrote = said.wrote; server = with_request c i said.request } }
 {
-    let table = c.table;
-    let frame = c.frame;
-    let wrote = said.wrote;
-    let request = said.request;
     ServerWritten {
-        wrote: wrote,
+        wrote: said.wrote,
         server: Server {
-            table: put_request(table, i, request),
-            frame: frame,
-            open: c.open,
+            table: put_request(c.table, i, said.request),
+            ..c
         },
     }
 }
@@ -47,14 +41,9 @@ pub fn add_pair(c: Server, id: u16, name: &[u8], value: &[u8], out: &mut [u8]) -
     ensures { written_by result out.new
         ≡ write_part c id (APair name.now value.now) out.old }
 {
-    let admitted = admit(c, id);
-    match admitted {
-        Admitted::Refused(why) => refused(c, why),
-        Admitted::At(i) => {
-            let t = c.table;
-            let said = pair_in(request_at(t, i), name, value, out);
-            put_back(c, i, said)
-        }
+    match admit(c, id) {
+        Err(why) => refused(c, why),
+        Ok(i) => put_back(c, i, pair_in(request_at(c.table, i), name, value, out)),
     }
 }
 
@@ -69,14 +58,9 @@ pub fn write_input(
     ensures { written_by result out.new
         ≡ write_part c id (Content stream bytes.now) out.old }
 {
-    let admitted = admit(c, id);
-    match admitted {
-        Admitted::Refused(why) => refused(c, why),
-        Admitted::At(i) => {
-            let t = c.table;
-            let said = content_in(request_at(t, i), stream, bytes, out);
-            put_back(c, i, said)
-        }
+    match admit(c, id) {
+        Err(why) => refused(c, why),
+        Ok(i) => put_back(c, i, content_in(request_at(c.table, i), stream, bytes, out)),
     }
 }
 
@@ -84,14 +68,9 @@ pub fn write_input(
 pub fn end_input(c: Server, id: u16, input: Input, out: &mut [u8]) -> ServerWritten
     ensures { written_by result out.new ≡ write_part c id (EndOf input) out.old }
 {
-    let admitted = admit(c, id);
-    match admitted {
-        Admitted::Refused(why) => refused(c, why),
-        Admitted::At(i) => {
-            let t = c.table;
-            let said = end_in(request_at(t, i), input, out);
-            put_back(c, i, said)
-        }
+    match admit(c, id) {
+        Err(why) => refused(c, why),
+        Ok(i) => put_back(c, i, end_in(request_at(c.table, i), input, out)),
     }
 }
 
@@ -99,13 +78,8 @@ pub fn end_input(c: Server, id: u16, input: Input, out: &mut [u8]) -> ServerWrit
 pub fn abort_request(c: Server, id: u16, out: &mut [u8]) -> ServerWritten
     ensures { written_by result out.new ≡ write_part c id Abort out.old }
 {
-    let admitted = admit(c, id);
-    match admitted {
-        Admitted::Refused(why) => refused(c, why),
-        Admitted::At(i) => {
-            let t = c.table;
-            let said = abort_in(request_at(t, i), out);
-            put_back(c, i, said)
-        }
+    match admit(c, id) {
+        Err(why) => refused(c, why),
+        Ok(i) => put_back(c, i, abort_in(request_at(c.table, i), out)),
     }
 }

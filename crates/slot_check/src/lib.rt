@@ -31,10 +31,7 @@ fn has_bit(occupied: u16, bits: &[u16; SLOTS], i: usize) -> bool
 fn key_if(taken: bool, id: u16) -> u16
     ensures { result ≡ key_if taken id }
 {
-    if taken {
-        return id;
-    }
-    0
+    if taken { id } else { 0 }
 }
 
 // Keys twice over: after the last comes the first again. And whether a slot is taken whose key is 0.
@@ -60,13 +57,10 @@ fn keys_of(ids: &[u16; SLOTS], occupied: u16, n: usize) -> Keys
         let key = key_if(taken, id);
         keys[i] = key;
         keys[i + 16] = key;
-        nameless = nameless | (taken & (key == 0));
+        nameless |= taken & (key == 0);
         i += 1;
     }
-    Keys {
-        keys: keys,
-        nameless: nameless,
-    }
+    Keys { keys, nameless }
 }
 
 fn any_long(lengths: &[u16; SLOTS]) -> bool
@@ -75,7 +69,7 @@ fn any_long(lengths: &[u16; SLOTS]) -> bool
     let mut any = false;
     let mut i: usize = 0;
     while i < SLOTS {
-        any = any | (AREA < widen(lengths[i]));
+        any |= AREA < widen(lengths[i]);
         i += 1;
     }
     any
@@ -105,7 +99,7 @@ fn any_repeats(keys: &[u16; 32], n: usize) -> bool
     let mut any = false;
     let mut i: usize = 0;
     while i < n {
-        any = any | key_repeats(keys, i);
+        any |= key_repeats(keys, i);
         i += 1;
     }
     any
@@ -141,17 +135,13 @@ fn ids_fit(ids: &[u16; SLOTS], occupied: u16) -> bool
     }
     let n = reach(occupied);
     let found = keys_of(ids, occupied, n);
-    let keys = found.keys;
-    let same = any_repeats(&keys, n);
-    !(found.nameless | same)
+    !(found.nameless | any_repeats(&found.keys, n))
 }
 
 // No area's length is over AREA, no id of a slot taken is 0, and no two are the same.
+#[tactic(auto, using(crate::proofs::QuickRow::long_row))]
 pub fn slots_fit<'a>(ids: &'a [u16; SLOTS], lengths: &'a [u16; SLOTS], occupied: u16) -> bool
     ensures { result ≡ slots_fit SLOTS ids.now lengths.now occupied 0 }
 {
-    if any_long(lengths) {
-        return false;
-    }
-    ids_fit(ids, occupied)
+    !any_long(lengths) && ids_fit(ids, occupied)
 }

@@ -1,5 +1,5 @@
 -- What the proofs of this crate share.
-use Rattle.std.specs.Prelude.{ℕ, suc, ◌+◌, ◌-◌, ◌^◌, ◌≤◌, ◌<◌, ◌≡◌, List, map, length, if◌then◌else◌}
+use Rattle.std.specs.Prelude.{ℕ, suc, ◌+◌, ◌-◌, ◌^◌, ◌≤◌, ◌<◌, ◌≡◌, List, map, length, if◌then◌else◌, Some, None}
 use Rattle.std.proofs.Common.{sym, ◌∙◌, arith}
 use Rattle.std.proofs.lemmas.List.{length-map}
 use Rattle.std.proofs.Math.ListN.{get_or-eq_default}
@@ -7,7 +7,6 @@ use Rattle.std.proofs.Math.Seq.{set_out}
 use Rattle.slot_word.proofs.WordLaws.{taken_out, mark_out}
 use Rattle.connection.specs.declared.request.Request.{Request}
 use Rattle.connection.specs.declared.state.Table.{Table}
-use Rattle.connection.specs.declared.state.Slot.{Slot}
 use Rattle.connection.specs.Sizes.{SLOTS}
 use Rattle.connection.specs.Slots.{put_request, request_at, no_request, no_standing, standing_of, holds_id, find_from}
 use Rattle.connection.proofs.Laws.SlotsLaws.{Sized}
@@ -60,10 +59,10 @@ mapped_length f l n e = sym (length-map l f) ∙ e
 
 -- a turn of the search for an id, and its end
 pub find_turn : (ids : List ℕ) (occupied id i : ℕ) → i < SLOTS
-    → find_from (SLOTS - i) ids occupied id i ≡ (if holds_id ids occupied id i then Slot.At i else find_from (SLOTS - (i + 1)) ids occupied id (i + 1))
+    → find_from (SLOTS - i) ids occupied id i ≡ (if holds_id ids occupied id i then Some i else find_from (SLOTS - (i + 1)) ids occupied id (i + 1))
 unfolding find_from
 find_turn ids occupied id i h = let n : SLOTS - i ≡ suc (SLOTS - (i + 1)) = omega arith in rw n
 
-pub find_end : (ids : List ℕ) (occupied id i : ℕ) → SLOTS ≤ i → find_from (SLOTS - i) ids occupied id i ≡ Slot.Nowhere
+pub find_end : (ids : List ℕ) (occupied id i : ℕ) → SLOTS ≤ i → find_from (SLOTS - i) ids occupied id i ≡ None
 unfolding find_from
 find_end ids occupied id i h = let n : SLOTS - i ≡ 0 = omega arith in rw n

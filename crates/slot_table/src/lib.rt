@@ -8,7 +8,7 @@ ghost use Rattle.connection.specs.Slots.{take_slot, free_slot, holds_id, find_fr
 
 use connection::request::{Life, Request, RequestState, Role, Shown, Standing, Turn};
 use connection::sizes::SLOTS;
-use connection::state::{Slot, Table};
+use connection::state::Table;
 use slot_word::{free_slot, is_taken, mark_slot, take_slot};
 
 // The state of a free slot.
@@ -39,35 +39,32 @@ fn no_request() -> Request
 }
 
 // The part of a state that is no mark.
-fn standing_of(m: RequestState) -> Standing
-    ensures { result ≡ standing_of m }
+fn standing_of(state: RequestState) -> Standing
+    ensures { result ≡ standing_of state }
 {
-    let role = m.role;
-    let turn = m.turn;
-    let life = m.life;
-    Standing {
-        role: role,
-        turn: turn,
-        life: life,
-    }
+    let RequestState {
+        role,
+        turn,
+        life,
+        ..
+    } = state;
+    Standing { role, turn, life }
 }
 
 // The request in slot i. From 16 on there is none.
+#[tactic(auto, unfolding(connection::specs::Slots::request_at))]
 pub fn request_at(t: Table, i: usize) -> Request
     ensures { result ≡ request_at t i }
 {
     if i < SLOTS {
-        let standing = t.standings[i];
-        let role = standing.role;
-        let turn = standing.turn;
-        let life = standing.life;
+        let Standing { role, turn, life } = t.standings[i];
         return Request {
             id: t.ids[i],
             length: t.lengths[i],
             state: RequestState {
-                role: role,
-                turn: turn,
-                life: life,
+                role,
+                turn,
+                life,
                 keep: is_taken(t.keep, i),
                 out_ended: is_taken(t.out_ended, i),
                 err_used: is_taken(t.err_used, i),
@@ -83,26 +80,26 @@ pub fn request_at(t: Table, i: usize) -> Request
 }
 
 // Slot i with that request. There is no slot from 16 on.
-pub fn put_request(t: Table, i: usize, r: Request) -> Table
+#[tactic(auto, unfolding(connection::specs::Slots::put_request))]
+pub fn put_request(mut t: Table, i: usize, r: Request) -> Table
     ensures { result ≡ put_request t i r }
 {
-    let mut table = t;
     if i < SLOTS {
-        let standing = standing_of(r.state);
-        table.ids[i] = r.id;
-        table.lengths[i] = r.length;
-        table.standings[i] = standing;
-        table.keep = mark_slot(t.keep, i, r.state.keep);
-        table.out_ended = mark_slot(t.out_ended, i, r.state.out_ended);
-        table.err_used = mark_slot(t.err_used, i, r.state.err_used);
-        table.err_ended = mark_slot(t.err_ended, i, r.state.err_ended);
-        table.stdin_shown[i] = r.state.shown.stdin;
-        table.data_shown[i] = r.state.shown.data;
+        t.ids[i] = r.id;
+        t.lengths[i] = r.length;
+        t.standings[i] = standing_of(r.state);
+        t.keep = mark_slot(t.keep, i, r.state.keep);
+        t.out_ended = mark_slot(t.out_ended, i, r.state.out_ended);
+        t.err_used = mark_slot(t.err_used, i, r.state.err_used);
+        t.err_ended = mark_slot(t.err_ended, i, r.state.err_ended);
+        t.stdin_shown[i] = r.state.shown.stdin;
+        t.data_shown[i] = r.state.shown.data;
     }
-    table
+    t
 }
 
 // A free slot taken by that request.
+#[tactic(auto, unfolding(connection::specs::Slots::take_slot))]
 pub fn take_request(t: Table, i: usize, r: Request) -> Table
     ensures { result ≡ take_slot t i r }
 {
@@ -112,6 +109,7 @@ pub fn take_request(t: Table, i: usize, r: Request) -> Table
 }
 
 // A slot given back: its record is reset and it is free.
+#[tactic(auto, unfolding(connection::specs::Slots::free_slot))]
 pub fn free_request(t: Table, i: usize) -> Table
     ensures { result ≡ free_slot t i }
 {
@@ -124,11 +122,10 @@ pub fn free_request(t: Table, i: usize) -> Table
 pub fn no_requests() -> Table
     ensures { result ≡ no_requests }
 {
-    let standing = standing_of(no_state());
     Table {
         ids: [0; SLOTS],
         lengths: [0; SLOTS],
-        standings: [standing; SLOTS],
+        standings: [standing_of(no_state()); SLOTS],
         keep: 0,
         out_ended: 0,
         err_used: 0,
@@ -140,26 +137,23 @@ pub fn no_requests() -> Table
 }
 
 // Whether slot i is taken and has that id.
+#[tactic(auto, unfolding(connection::specs::Slots::holds_id))]
 fn holds_id(ids: &[u16; SLOTS], occupied: u16, id: u16, i: usize) -> bool
     requires { i < SLOTS }
     ensures { result ≡ holds_id ids.now occupied id i }
 {
-    if is_taken(occupied, i) {
-        return ids[i] == id;
-    }
-    false
+    is_taken(occupied, i) && ids[i] == id
 }
 
 // The first slot from a given one on that is taken and has that id.
-pub fn find_from(ids: &[u16; SLOTS], occupied: u16, id: u16, from: usize) -> Slot
+#[tactic(auto, using(crate::proofs::Laws::find_turn, crate::proofs::Laws::find_end))]
+pub fn find_from(ids: &[u16; SLOTS], occupied: u16, id: u16, from: usize) -> Option<usize>
     ensures { result ≡ find_from (SLOTS - from) ids.now occupied id from }
 {
-    let mut i = from;
-    while i < SLOTS {
+    for i in from..SLOTS {
         if holds_id(ids, occupied, id, i) {
-            return Slot::At(i);
+            return Some(i);
         }
-        i += 1;
     }
-    Slot::Nowhere
+    None
 }

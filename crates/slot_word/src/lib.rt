@@ -8,24 +8,21 @@ ghost use Rattle.slot_word.specs.Word.{taken, lowest_free, taken_count, with_slo
 pub fn lowest_free(occupied: u16) -> u32
     ensures { result ≡ lowest_free 16 occupied }
 {
-    u16::trailing_zeros(!occupied)
+    (!occupied).trailing_zeros()
 }
 
 // How many slots are taken.
 pub fn taken_count(occupied: u16) -> u32
     ensures { result ≡ taken_count 16 occupied }
 {
-    u16::count_ones(occupied)
+    occupied.count_ones()
 }
 
 // Whether slot i is taken. There is no slot from 16 on.
 pub fn is_taken(occupied: u16, i: usize) -> bool
     ensures { result ≡ taken i occupied }
 {
-    if i < 16 {
-        return (occupied >> (i as u32)) & 1 == 1;
-    }
-    false
+    i < 16 && (occupied >> (i as u32)) & 1 == 1
 }
 
 // The word with slot i taken.
@@ -33,9 +30,10 @@ pub fn take_slot(occupied: u16, i: usize) -> u16
     ensures { result ≡ with_slot i occupied }
 {
     if i < 16 {
-        return occupied | (1u16 << (i as u32));
+        occupied | (1u16 << (i as u32))
+    } else {
+        occupied
     }
-    occupied
 }
 
 // The word with slot i free.
@@ -43,9 +41,10 @@ pub fn free_slot(occupied: u16, i: usize) -> u16
     ensures { result ≡ without_slot i occupied }
 {
     if i < 16 {
-        return occupied & !(1u16 << (i as u32));
+        occupied & !(1u16 << (i as u32))
+    } else {
+        occupied
     }
-    occupied
 }
 
 // The word with the mark of slot i set or cleared.
@@ -53,7 +52,8 @@ pub fn mark_slot(word: u16, i: usize, on: bool) -> u16
     ensures { result ≡ marked i on word }
 {
     if on {
-        return take_slot(word, i);
+        take_slot(word, i)
+    } else {
+        free_slot(word, i)
     }
-    free_slot(word, i)
 }

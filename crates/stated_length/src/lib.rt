@@ -2,44 +2,21 @@
 #![tactic(auto)]
 
 ghost use Rattle.std.specs.Prelude.{◌≡◌};
-ghost use Rattle.decimal.specs.Decimal.{read_as};
-ghost use Rattle.stated_length.specs.Stated.{stated_by, up_to_largest, stated_in};
+ghost use Rattle.stated_length.specs.Stated.{stated_in};
 
-use decimal::{Decimal, read_decimal};
-use pair_list::{Found, first_named};
+use decimal::read_decimal;
+use pair_list::first_named;
 
-// A stated length, or none.
-#[derive(Clone, Copy)]
-pub enum Stated {
-    Length(u32),
-    Unstated,
-}
-
-// A number that a count of 32 bits can pass.
-fn stated_by(number: Decimal) -> Stated
-    ensures { stated_by result ≡ up_to_largest (read_as number) }
+// What a list states under a name. The first pair with that name decides. A count of 32 bits can pass what is stated.
+#[tactic(auto, unfolding(crate::specs::Stated::stated_in))]
+pub fn stated_in<'a>(list: &'a [u8], name: &'a [u8]) -> Option<u32>
+    ensures { result ≡ stated_in list.now name.now }
 {
-    match number {
-        Decimal::Number(n) => {
-            if 4294967294 < n {
-                return Stated::Unstated;
-            }
-            Stated::Length(n as u32)
-        }
-        Decimal::NoNumber => Stated::Unstated,
+    let pair = first_named(list, name)?;
+    let end = pair.value + pair.value_len;
+    let number = read_decimal(&list[pair.value..end])?;
+    if 4294967294 < number {
+        return None;
     }
-}
-
-// What a list states under a name. The first pair with that name decides.
-pub fn stated_in<'a>(list: &'a [u8], name: &'a [u8]) -> Stated
-    ensures { stated_by result ≡ stated_in list.now name.now }
-{
-    let found = first_named(list, name);
-    let Found::At(p) = found else {
-        return Stated::Unstated;
-    };
-    let a = p.value;
-    let e = a + p.value_len;
-    let number = read_decimal(&list[a..e]);
-    stated_by(number)
+    Some(number as u32)
 }

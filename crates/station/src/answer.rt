@@ -1,195 +1,86 @@
 // What the station says to its requests. It comes to wait in the queue, part by part, as far as a request's bytes of
 // the queue have room, and behind it the end of the request.
-use fastcgi_queue::{
-    Calibration, Conn, Output, QUEUE, Queued, Queueing, ROOM, SLOTS, WAITS, queue_finish,
-    queue_output, value,
-};
+use connection::answer::Refusal;
+use fastcgi_queue::{Calibration, Output, ROOM};
 use station_cards::read_calibration;
-use station_kept::{FAILED, HEADER, KEPT, LOGGED, PHASE, SAID, id_of, kept_of, some};
-use station_work::{CHAINS, PART, POOL, Stage, fill, go_on, stage_of, strike, wanted_of};
-use wire::same;
+use station_kept::{FAILED, HEADER, KEPT, LOGGED, PHASE, SAID, id_of, kept_of};
+use station_work::{CHAINS, PART, POOL, fill, go_on, stage_of, strike, wanted_of};
+use talk::Talk;
 
-// The connection after a part, and whether another one can be tried.
-#[derive(Clone, Copy)]
-struct Said {
-    conn: Conn,
-    more: bool,
+// What the station holds of its requests: what it keeps of each, in numbers, and their bodies. The pool is borrowed: it
+// takes half of a usual stack, and a struct that is made with it inside needs room for it twice.
+#[derive(Drop)]
+pub struct Held<'a> {
+    pub kept: [usize; KEPT],
+    pub chains: [usize; CHAINS],
+    pub pool: &'a mut [u8; POOL],
+}
+
+// A parameter of a request, or the fallback.
+fn value<'a>(talk: &'a Talk, id: u16, name: &[u8], fallback: &'a [u8]) -> &'a [u8] {
+    talk.queued.value(&talk.store, id, name, fallback)
 }
 
 // The cards that a request's parameters have.
-fn cards_of(c: Conn, waits: &[u16; WAITS], store: &[u8], id: u16) -> Calibration {
-    let thawed_offset = value(c, waits, store, id, b"THAWED_OFFSET", b"0");
-    let frozen_slope = value(c, waits, store, id, b"FROZEN_SLOPE", b"0");
-    let frozen_offset = value(c, waits, store, id, b"FROZEN_OFFSET", b"0");
-    read_calibration(thawed_offset, frozen_slope, frozen_offset)
-}
-
-// Whether a request wants the header alone.
-fn is_head(c: Conn, waits: &[u16; WAITS], store: &[u8], id: u16) -> bool {
-    same(value(c, waits, store, id, b"REQUEST_METHOD", b""), b"HEAD")
-}
-
-// The stream on which a request in that phase is told something.
-fn output_of(phase: usize) -> Output {
-    if phase == LOGGED {
-        return Output::Stderr;
-    }
-    Output::Stdout
-}
-
-// What was said waits, so that more can be said; where it is refused there is no room before the pump makes some.
-fn is_waiting(res: Queued) -> bool {
-    match res {
-        Queued::Waits => true,
-        Queued::Refused(_) => false,
-    }
-}
-
-// After the text of a stage was said: the entry goes on from there, if it waits.
-fn after_saying(q: Queueing, kept: &mut [usize; KEPT], i: usize, s: Stage) -> Said {
-    let result = q.result;
-    let waiting = is_waiting(result);
-    go_on(kept, i, s, waiting);
-    let conn = q.conn;
-    Said {
-        conn: conn,
-        more: waiting,
-    }
-}
-
-// The next part of the answer of entry i.
-fn say_part(
-    c: Conn,
-    waits: &mut [u16; WAITS],
-    marks: &mut [u8; QUEUE],
-    queue: &mut [u8],
-    store: &[u8],
-    kept: &mut [usize; KEPT],
-    chains: &[usize; CHAINS],
-    pool: &[u8; POOL],
-    i: usize,
-) -> Said {
-    let mut text = [0u8; PART];
-    let id = id_of(kept, i);
-    let s = fill(
-        &mut text,
-        pool,
-        chains,
-        stage_of(kept, i),
-        wanted_of(
-            kept,
-            i,
-            cards_of(c, waits, store, id),
-            is_head(c, waits, store, id),
-        ),
-    );
-    let output = output_of(kept_of(kept, PHASE, i));
-    after_saying(
-        queue_output(c, waits, marks, queue, id, output, some(&text, 0, s.at)),
-        kept,
-        i,
-        s,
+fn cards_of(talk: &Talk, id: u16) -> Calibration {
+    read_calibration(
+        value(talk, id, b"THAWED_OFFSET", b"0"),
+        value(talk, id, b"FROZEN_SLOPE", b"0"),
+        value(talk, id, b"FROZEN_OFFSET", b"0"),
     )
 }
 
-// The end of the request of entry i comes to wait.
-fn end_request(
-    c: Conn,
-    waits: &mut [u16; WAITS],
-    marks: &mut [u8; QUEUE],
-    kept: &mut [usize; KEPT],
-    chains: &mut [usize; CHAINS],
-    i: usize,
-    status: u32,
-) -> Said {
-    let id = id_of(kept, i);
-    strike(kept, chains, i);
-    let over = queue_finish(c, waits, marks, id, status);
-    let conn = over.conn;
-    Said {
-        conn: conn,
-        more: false,
-    }
+// Whether a request wants the header alone.
+fn is_head(talk: &Talk, id: u16) -> bool {
+    matches!(value(talk, id, b"REQUEST_METHOD", b""), b"HEAD")
 }
 
-// The next part of what is to be said to the request of entry i, or its end.
-fn say_next(
-    c: Conn,
-    waits: &mut [u16; WAITS],
-    marks: &mut [u8; QUEUE],
-    queue: &mut [u8],
-    store: &[u8],
-    kept: &mut [usize; KEPT],
-    chains: &mut [usize; CHAINS],
-    pool: &[u8; POOL],
-    i: usize,
-) -> Said {
-    let phase = kept_of(kept, PHASE, i);
-    if SAID <= phase {
-        return end_request(c, waits, marks, kept, chains, i, status_of(phase));
-    }
-    say_part(c, waits, marks, queue, store, kept, chains, pool, i)
-}
-
-// The application status with which a request in its last phase ends.
-fn status_of(phase: usize) -> u32 {
-    if phase == FAILED {
-        return 1;
-    }
-    0
-}
-
-// Whether there is something to say to the request of entry i.
-fn is_answered(kept: &[usize; KEPT], i: usize) -> bool {
-    if id_of(kept, i) == 0 {
-        return false;
-    }
-    HEADER <= kept_of(kept, PHASE, i)
-}
-
-// Says as much to the request of entry i as its part of the queue takes. That is at most a part for each byte.
-fn say_on(
-    c: Conn,
-    waits: &mut [u16; WAITS],
-    marks: &mut [u8; QUEUE],
-    queue: &mut [u8],
-    store: &[u8],
-    kept: &mut [usize; KEPT],
-    chains: &mut [usize; CHAINS],
-    pool: &[u8; POOL],
-    i: usize,
-) -> Conn {
-    let mut said = Said {
-        conn: c,
-        more: is_answered(kept, i),
-    };
-    let mut parts = ROOM;
-    while parts > 0 {
-        parts -= 1;
-        if !said.more {
-            return said.conn;
+impl Held<'_> {
+    // Says as much to the request of entry i as its part of the queue takes. That is at most a part for each byte.
+    pub fn say_on(&mut self, talk: &mut Talk, i: usize) {
+        if !self.is_answered(i) {
+            return;
         }
-        said = say_next(said.conn, waits, marks, queue, store, kept, chains, pool, i);
+        for _ in 0..ROOM {
+            let phase = kept_of(&self.kept, PHASE, i);
+            if phase >= SAID {
+                let status = if phase == FAILED { 1 } else { 0 };
+                self.end_request(talk, i, status);
+                return;
+            }
+            // Where a part is refused there is no room before the pump makes some.
+            if self.say_part(talk, i).is_err() {
+                return;
+            }
+        }
     }
-    said.conn
-}
 
-// The same for every entry.
-pub fn say_all(
-    c: Conn,
-    waits: &mut [u16; WAITS],
-    marks: &mut [u8; QUEUE],
-    queue: &mut [u8],
-    store: &[u8],
-    kept: &mut [usize; KEPT],
-    chains: &mut [usize; CHAINS],
-    pool: &[u8; POOL],
-) -> Conn {
-    let mut conn = c;
-    let mut i: usize = 0;
-    while i < SLOTS {
-        conn = say_on(conn, waits, marks, queue, store, kept, chains, pool, i);
-        i += 1;
+    // Whether there is something to say to the request of entry i.
+    fn is_answered(&self, i: usize) -> bool {
+        id_of(&self.kept, i) != 0 && kept_of(&self.kept, PHASE, i) >= HEADER
     }
-    conn
+
+    // Says the next part of the answer of entry i, which goes on from there if it waits.
+    fn say_part(&mut self, talk: &mut Talk, i: usize) -> Result<(), Refusal> {
+        let mut text = [0; PART];
+        let id = id_of(&self.kept, i);
+        let wanted = wanted_of(&self.kept, i, cards_of(talk, id), is_head(talk, id));
+        let stage = stage_of(&self.kept, i);
+        let next = fill(&mut text, self.pool, &self.chains, stage, wanted);
+        let output = if stage.phase == LOGGED {
+            Output::Stderr
+        } else {
+            Output::Stdout
+        };
+        talk.queued.say(id, output, &text[..next.at.min(PART)])?;
+        go_on(&mut self.kept, i, next, true);
+        Ok(())
+    }
+
+    // The end of the request of entry i comes to wait.
+    fn end_request(&mut self, talk: &mut Talk, i: usize, status: u32) {
+        let id = id_of(&self.kept, i);
+        strike(&mut self.kept, &mut self.chains, i);
+        let _ = talk.queued.finish(id, status);
+    }
 }

@@ -1,8 +1,7 @@
 -- What is written reads back: a number's digits as that number, and a text in thousandths, as a card's parameter is read,
 -- as that number of thousandths.
-use Rattle.std.specs.Prelude.{ℕ, zero, suc, ◌+◌, ◌*◌, ◌/◌, ◌%◌, ◌≤◌, ◌<◌, ◌≡◌, refl, true, List, [], ◌∷◌, ◌++◌, ℤ, pos, negsuc, length, take, drop, get_or}
+use Rattle.std.specs.Prelude.{ℕ, zero, suc, ◌+◌, ◌*◌, ◌/◌, ◌%◌, ◌≤◌, ◌<◌, ◌≡◌, refl, true, List, [], ◌∷◌, ◌++◌, ℤ, pos, negsuc, length, take, drop, get_or, Some}
 use Rattle.std.proofs.Common.{ap, ◌∙◌, arith, length-append, take_at, le-ltb, le-leb, ltb-true, ltb-false, ne_eqb}
-use Rattle.std.proofs.Math.Option.{some}
 use Rattle.std.proofs.Math.Seq.{drop-append-add}
 use Rattle.wire.specs.Test.{by_test, ◌<?◌}
 use Rattle.decimal.specs.Decimal.{is_digit, digit_value, digits_after, decimal_of}
@@ -21,26 +20,26 @@ worth : (d : ℕ) → digit_value (digit d) ≡ d
 worth d = omega arith
 
 -- one digit more
-digits_more : (x : List ℕ) (d v n : ℕ) → d < 10 → digits_after v x ≡ some n → digits_after v (x ++ (digit d ∷ [])) ≡ some (n * 10 + d)
+digits_more : (x : List ℕ) (d v n : ℕ) → d < 10 → digits_after v x ≡ Some n → digits_after v (x ++ (digit d ∷ [])) ≡ Some (n * 10 + d)
 unfolding digits_after
-digits_more [] d v n h e = simp (is_digit_lem d h) (ap some (ap (λ (k : ℕ). v * 10 + k) (worth d) ∙ ap (λ (k : ℕ). k * 10 + d) (the_number e)))
+digits_more [] d v n h e = simp (is_digit_lem d h) (ap Some (ap (λ (k : ℕ). v * 10 + k) (worth d) ∙ ap (λ (k : ℕ). k * 10 + d) (the_number e)))
   where
-    the_number : {a b : ℕ} → some a ≡ some b → a ≡ b
+    the_number : {a b : ℕ} → Some a ≡ Some b → a ≡ b
     the_number q = cc q
 digits_more (byte ∷ x) d v n h e =
     by_test (is_digit byte) (λ t. simp t (digits_more x d (v * 10 + digit_value byte) n h (simp t at e)))
     (λ t. let z : ◌≡◌ {A = ℕ} 0 1 = cc (simp t at e) in absurd (omega arith))
 
-digits_back : (k n : ℕ) → n < k → digits_after 0 (decimal n) ≡ some n
+digits_back : (k n : ℕ) → n < k → digits_after 0 (decimal n) ≡ Some n
 unfolding digits_after
 digits_back zero n h = absurd (omega arith)
 digits_back (suc k) n h =
     by_test (n <? 10)
     (λ t. let one : 0 * 10 + digit_value (digit n) ≡ n = omega arith in
-    rw (decimal_one n (ltb-true n 10 t)) (simp (is_digit_lem n (ltb-true n 10 t)) (ap some one)))
+    rw (decimal_one n (ltb-true n 10 t)) (simp (is_digit_lem n (ltb-true n 10 t)) (ap Some one)))
     (λ t. let more : 10 ≤ n = ltb-false n 10 t in
     let whole : n / 10 * 10 + n % 10 ≡ n = omega arith in
-    rw (decimal_more n more) (digits_more (decimal (n / 10)) (n % 10) 0 (n / 10) (omega arith) (digits_back k (n / 10) (omega arith)) ∙ ap some whole))
+    rw (decimal_more n more) (digits_more (decimal (n / 10)) (n % 10) 0 (n / 10) (omega arith) (digits_back k (n / 10) (omega arith)) ∙ ap Some whole))
 
 not_empty : (n : ℕ) → length (decimal n) ≡ 0 → ⊥
 not_empty n e =
@@ -48,14 +47,14 @@ not_empty n e =
     (λ t. omega (arith, e, ap length (decimal_more n (ltb-false n 10 t)), length-append (decimal (n / 10)) (digit (n % 10) ∷ [])))
 
 -- The digits of a number of up to ten digits, read by the reader of lengths.
-pub decimal_back : (n : ℕ) → n < 10000000000 → decimal_of (decimal n) ≡ some n
+pub decimal_back : (n : ℕ) → n < 10000000000 → decimal_of (decimal n) ≡ Some n
 unfolding decimal_of ten_to
 decimal_back n h =
     simp (ne_eqb _ _ (not_empty n), le-ltb 10 (length (decimal n)) (digits_few 9 n (omega arith)), digits_back (suc n) n (omega arith))
 
 -- ---- a number with a point
 -- The first point stands behind the digits.
-point_behind : (x r : List ℕ) (v n : ℕ) → digits_after v x ≡ some n → index_of 46 (x ++ (46 ∷ r)) ≡ length x
+point_behind : (x r : List ℕ) (v n : ℕ) → digits_after v x ≡ Some n → index_of 46 (x ++ (46 ∷ r)) ≡ length x
 unfolding digits_after index_of
 point_behind [] r v n e = refl
 point_behind (byte ∷ x) r v n e =
@@ -64,17 +63,17 @@ point_behind (byte ∷ x) r v n e =
     simp (ne_eqb byte 46 other) (ap suc (point_behind x r (v * 10 + digit_value byte) n (simp t at e))))
     (λ t. let z : ◌≡◌ {A = ℕ} 0 1 = cc (simp t at e) in absurd (omega arith))
 
-whole_back : (n : ℕ) → n < 10000 → whole_of (decimal n) ≡ some (n * 1000)
+whole_back : (n : ℕ) → n < 10000 → whole_of (decimal n) ≡ Some (n * 1000)
 unfolding whole_of ten_to
 whole_back n h = simp (le-ltb 4 (length (decimal n)) (digits_few 3 n (omega arith)), decimal_back n (omega arith))
 
-fraction_back : (a b c : ℕ) → a < 10 → b < 10 → c < 10 → fraction_of (digit a ∷ digit b ∷ digit c ∷ []) ≡ some (a * 100 + b * 10 + c)
+fraction_back : (a b c : ℕ) → a < 10 → b < 10 → c < 10 → fraction_of (digit a ∷ digit b ∷ digit c ∷ []) ≡ Some (a * 100 + b * 10 + c)
 unfolding fraction_of decimal_of digits_after
 fraction_back a b c h g l =
     let sum : (((0 * 10 + digit_value (digit a)) * 10 + digit_value (digit b)) * 10 + digit_value (digit c)) * 1 ≡ a * 100 + b * 10 + c = omega arith in
-    simp (is_digit_lem a h, is_digit_lem b g, is_digit_lem c l) (ap some sum)
+    simp (is_digit_lem a h, is_digit_lem b g, is_digit_lem c l) (ap Some sum)
 
-unsigned_back : (w : ℕ) (r : List ℕ) (f : ℕ) → w < 10000 → fraction_of r ≡ some f → unsigned_of (decimal w ++ (46 ∷ r)) ≡ some (w * 1000 + f)
+unsigned_back : (w : ℕ) (r : List ℕ) (f : ℕ) → w < 10000 → fraction_of r ≡ Some f → unsigned_of (decimal w ++ (46 ∷ r)) ≡ Some (w * 1000 + f)
 unfolding unsigned_of
 unsigned_back w r f h e =
     let x = decimal w in
@@ -92,14 +91,14 @@ parts n = omega arith
 abbrev size_text : ℕ → List ℕ
 size_text n = decimal (n / 1000) ++ (46 ∷ digit (n / 100 % 10) ∷ digit (n / 10 % 10) ∷ digit (n % 10) ∷ [])
 
-size_back : (n : ℕ) → n < 10000000 → unsigned_of (size_text n) ≡ some n
+size_back : (n : ℕ) → n < 10000000 → unsigned_of (size_text n) ≡ Some n
 size_back n h =
     unsigned_back (n / 1000) (digit (n / 100 % 10) ∷ digit (n / 10 % 10) ∷ digit (n % 10) ∷ []) (n / 100 % 10 * 100 + n / 10 % 10 * 10 + n % 10) (omega arith)
     (fraction_back (n / 100 % 10) (n / 10 % 10) (n % 10) (omega arith) (omega arith) (omega arith))
-    ∙ ap some (parts n)
+    ∙ ap Some (parts n)
 
 -- It begins with a digit.
-digit_first : (x r : List ℕ) (v n : ℕ) → digits_after v x ≡ some n → (length x ≡ 0 → ⊥) → get_or (x ++ r) 0 0 ≡ 45 → ⊥
+digit_first : (x r : List ℕ) (v n : ℕ) → digits_after v x ≡ Some n → (length x ≡ 0 → ⊥) → get_or (x ++ r) 0 0 ≡ 45 → ⊥
 unfolding digits_after
 digit_first [] r v n e long minus = long refl
 digit_first (byte ∷ x) r v n e long minus =

@@ -1,6 +1,5 @@
 -- The calibration cards of a station, from the texts of three parameters.
-use Rattle.std.specs.Prelude.{ℕ, suc, ◌+◌, ◌*◌, Bool, true, false, List, [], ◌∷◌, length, take, drop, ℤ, pos, Float, if◌then◌else◌}
-use Rattle.std.proofs.Math.Option.{Option, none, some}
+use Rattle.std.specs.Prelude.{ℕ, suc, ◌+◌, ◌*◌, Bool, true, false, List, [], ◌∷◌, length, take, drop, ℤ, pos, Float, if◌then◌else◌, Some, None, Option}
 use Rattle.std.specs.Float.{binary64}
 use Rattle.std.specs.Float.Ieee.{div, of_int}
 use Rattle.wire.specs.Test.{◌<?◌, ◌=?◌}
@@ -17,24 +16,24 @@ index_of b (x ∷ xs) = if x =? b then 0 else suc (index_of b xs)
 
 -- ---- a number without a sign, in thousandths
 abbrev pub times : ℕ → Option ℕ → Option ℕ
-times k none = none
-times k (some n) = some (n * k)
+times k None = None
+times k (Some n) = Some (n * k)
 
 abbrev pub plus : Option ℕ → Option ℕ → Option ℕ
-plus none m = none
-plus (some n) none = none
-plus (some n) (some m) = some (n + m)
+plus None m = None
+plus (Some n) None = None
+plus (Some n) (Some m) = Some (n + m)
 
 -- Before the point stand one to four digits.
 unfoldable pub whole_of : List ℕ → Option ℕ
-whole_of text = if 4 <? length text then none else times 1000 (decimal_of text)
+whole_of text = if 4 <? length text then None else times 1000 (decimal_of text)
 
 -- After it stand one to three digits: tenths, hundredths or thousandths.
 abbrev pub weight : ℕ → ℕ
 weight n = if n =? 1 then 100 else if n =? 2 then 10 else 1
 
 unfoldable pub fraction_of : List ℕ → Option ℕ
-fraction_of text = if 3 <? length text then none else times (weight (length text)) (decimal_of text)
+fraction_of text = if 3 <? length text then None else times (weight (length text)) (decimal_of text)
 
 -- The first point, 46, parts the two; without a point there is no fraction.
 unfoldable pub unsigned_of : List ℕ → Option ℕ
@@ -49,8 +48,8 @@ abbrev pub NO_NUMBER : ℤ
 NO_NUMBER = pos 2000000
 
 abbrev pub card_number : Bool → Option ℕ → ℤ
-card_number below none = NO_NUMBER
-card_number below (some n) = signed below n
+card_number below None = NO_NUMBER
+card_number below (Some n) = signed below n
 
 -- A minus sign, 45, or nothing, and then a number.
 unfoldable pub thousandths_in : List ℕ → ℤ

@@ -1,7 +1,6 @@
 -- A number that was read is below a bound.
-use Rattle.std.specs.Prelude.{ℕ, ◌<◌}
-use Rattle.decimal.specs.declared.Decimal.{Decimal}
+use Rattle.std.specs.Prelude.{ℕ, ◌<◌, Some, None, Option}
 
-abbrev pub Under : Decimal → ℕ → Type 0
-Under (Decimal.Number n) bound = n < bound
-Under Decimal.NoNumber bound = Unit {0}
+abbrev pub Under : Option ℕ → ℕ → Type 0
+Under (Some n) bound = n < bound
+Under None bound = Unit {0}

@@ -1,13 +1,12 @@
 // The calibration cards of a request, from the texts of its parameters.
 #![tactic(auto)]
 
-ghost use Rattle.std.specs.Prelude.{◌≡◌};
-ghost use Rattle.decimal.specs.Decimal.{read_as};
-ghost use Rattle.station_cards.specs.Cards.{index_of, plus, weight, whole_of, fraction_of, unsigned_of};
+ghost use Rattle.std.specs.Prelude.{◌≡◌, ◌≤◌, length};
+ghost use Rattle.station_cards.specs.Cards.{index_of, weight, whole_of, fraction_of, unsigned_of};
 ghost use Rattle.station_cards.specs.Cards.{card_number, thousandths_in, card_float, calibration_of};
 ghost use Rattle.station_cards.specs.Under.{Under};
 
-use decimal::{Decimal, read_decimal};
+use decimal::read_decimal;
 use ice_correction::{Calibration, Card, Curve};
 use station_number::signed;
 
@@ -18,120 +17,95 @@ const NO_NUMBER: i32 = 2000000;
 fn weight_of(digits: usize) -> u64
     ensures { result ≡ weight digits }
 {
-    if digits == 1 {
-        return 100;
+    match digits {
+        1 => 100,
+        2 => 10,
+        _ => 1,
     }
-    if digits == 2 {
-        return 10;
-    }
-    1
 }
 
 // What stands before the point, one to four digits, in thousandths.
-fn read_whole(text: &[u8]) -> Decimal
-    ensures { (read_as result ≡ whole_of text.now) × Under result 9999001 }
+#[tactic(auto, using(crate::proofs::CardsLaws::whole_under), unfolding(crate::specs::Cards::whole_of))]
+fn read_whole(text: &[u8]) -> Option<u64>
+    ensures { (result ≡ whole_of text.now) × Under result 9999001 }
 {
     if 4 < text.len() {
-        return Decimal::NoNumber;
+        return None;
     }
-    let read = read_decimal(text);
-    match read {
-        Decimal::Number(value) => Decimal::Number(value * 1000),
-        Decimal::NoNumber => Decimal::NoNumber,
-    }
+    Some(read_decimal(text)? * 1000)
 }
 
 // What stands after the point.
-fn read_fraction(text: &[u8]) -> Decimal
-    ensures { (read_as result ≡ fraction_of text.now) × Under result 1000 }
+#[tactic(auto, using(crate::proofs::CardsLaws::fraction_under), unfolding(crate::specs::Cards::fraction_of))]
+fn read_fraction(text: &[u8]) -> Option<u64>
+    ensures { (result ≡ fraction_of text.now) × Under result 1000 }
 {
-    let n = text.len();
-    if 3 < n {
-        return Decimal::NoNumber;
+    if 3 < text.len() {
+        return None;
     }
-    let read = read_decimal(text);
-    match read {
-        Decimal::Number(value) => Decimal::Number(value * weight_of(n)),
-        Decimal::NoNumber => Decimal::NoNumber,
-    }
-}
-
-fn sum(whole: Decimal, fraction: Decimal) -> Decimal
-    requires { Under whole 9999001 × Under fraction 1000 }
-    ensures { (read_as result ≡ plus (read_as whole) (read_as fraction)) × Under result 10000000 }
-{
-    match whole {
-        Decimal::Number(n) => match fraction {
-            Decimal::Number(m) => Decimal::Number(n + m),
-            Decimal::NoNumber => Decimal::NoNumber,
-        },
-        Decimal::NoNumber => Decimal::NoNumber,
-    }
+    Some(read_decimal(text)? * weight_of(text.len()))
 }
 
 // Where a byte stands first in a text; the text's length where it stands nowhere.
 fn find(text: &[u8], byte: u8) -> usize
-    ensures { result ≡ index_of byte text.now }
+    ensures place { result ≡ index_of byte text.now }
+    ensures within { result ≤ length text.now }
 {
-    let mut i: usize = 0;
-    while i < text.len() {
-        if text[i] == byte {
+    for (i, &own) in text.iter().enumerate() {
+        if own == byte {
             return i;
         }
-        i += 1;
     }
-    i
+    text.len()
 }
 
 // A number without a sign, in thousandths.
-fn read_unsigned(text: &[u8]) -> Decimal
-    ensures { (read_as result ≡ unsigned_of text.now) × Under result 10000000 }
+#[tactic(auto, using(crate::proofs::CardsLaws::under_more), unfolding(crate::specs::Cards::unsigned_of))]
+fn read_unsigned(text: &[u8]) -> Option<u64>
+    ensures { (result ≡ unsigned_of text.now) × Under result 10000000 }
 {
-    let start: usize = 0;
-    let end = text.len();
-    let point = find(text, 46);
-    if point == end {
+    let point = find(text, b'.');
+    if point == text.len() {
         return read_whole(text);
     }
-    let after = point + 1;
-    sum(
-        read_whole(&text[start..point]),
-        read_fraction(&text[after..end]),
-    )
+    let whole = read_whole(&text[..point])?;
+    let fraction = read_fraction(&text[point + 1..])?;
+    Some(whole + fraction)
 }
 
-fn card_number(below: bool, read: Decimal) -> i32
+fn card_number(below: bool, read: Option<u64>) -> i32
     requires { Under read 10000000 }
-    ensures { result ≡ card_number below (read_as read) }
+    ensures { result ≡ card_number below read }
 {
     match read {
-        Decimal::Number(n) => signed(below, n),
-        Decimal::NoNumber => NO_NUMBER,
+        Some(n) => signed(below, n),
+        None => NO_NUMBER,
     }
 }
 
 // The number of thousandths that the text of a parameter stands for.
+#[tactic(auto, unfolding(crate::specs::Cards::thousandths_in))]
 fn read_thousandths(text: &[u8]) -> i32
     ensures { result ≡ thousandths_in text.now }
 {
-    let end = text.len();
-    if end == 0 {
-        return NO_NUMBER;
+    if text.is_empty() {
+        NO_NUMBER
+    } else if text[0] == b'-' {
+        card_number(true, read_unsigned(&text[1..]))
+    } else {
+        card_number(false, read_unsigned(text))
     }
-    if text[0] == 45 {
-        let after: usize = 1;
-        return card_number(true, read_unsigned(&text[after..end]));
-    }
-    card_number(false, read_unsigned(text))
 }
 
+#[tactic(auto, using(crate::proofs::CardsLaws::thousand), unfolding(crate::specs::Cards::card_float))]
 fn read_float(text: &[u8]) -> f64
     ensures { result ≡ card_float text.now }
 {
-    read_thousandths(text) as f64 / 1000.0
+    f64::from(read_thousandths(text)) / 1000.0
 }
 
 // The station's calibration by three texts.
+#[tactic(auto, unfolding(crate::specs::Cards::calibration_of))]
 pub fn read_calibration(thawed: &[u8], slope: &[u8], offset: &[u8]) -> Calibration
     ensures { result
         ≡ calibration_of thawed.now slope.now offset.now }

@@ -63,25 +63,23 @@ pub const SAID: usize = 7;
 pub const FAILED: usize = 8;
 
 // A number of entry i.
+#[tactic(auto, unfolding(crate::specs::Kept::number_of))]
 pub fn kept_of(kept: &[usize; KEPT], field: usize, i: usize) -> usize
     ensures { result ≡ number_of kept.now field i }
 {
-    if SLOTS <= i {
-        return 0;
+    if i < SLOTS && field < FIELDS {
+        kept[field * SLOTS + i]
+    } else {
+        0
     }
-    if FIELDS <= field {
-        return 0;
-    }
-    kept[field * SLOTS + i]
 }
 
+#[tactic(auto, unfolding(crate::specs::Kept::with_number))]
 pub fn keep(kept: &mut [usize; KEPT], field: usize, i: usize, n: usize)
     ensures { kept.new ≡ with_number kept.old field i n }
 {
-    if i < SLOTS {
-        if field < FIELDS {
-            kept[field * SLOTS + i] = n;
-        }
+    if i < SLOTS && field < FIELDS {
+        kept[field * SLOTS + i] = n;
     }
 }
 
@@ -96,14 +94,12 @@ pub fn id_of(kept: &[usize; KEPT], i: usize) -> u16
 pub fn find(kept: &[usize; KEPT], id: u16) -> usize
     ensures { result ≡ entry_of kept.now id }
 {
-    let mut i: usize = 0;
-    while i < SLOTS {
+    for i in 0..SLOTS {
         if id_of(kept, i) == id {
             return i;
         }
-        i += 1;
     }
-    i
+    SLOTS
 }
 
 // A request is open. There are as many entries as there can be requests, so one is free.
@@ -112,7 +108,7 @@ pub fn note(kept: &mut [usize; KEPT], id: u16, role: usize, none: usize)
         ≡ noted kept.old (entry_of kept.old 0) id role none }
 {
     let i = find(kept, 0);
-    keep(kept, ID, i, id as usize);
+    keep(kept, ID, i, usize::from(id));
     keep(kept, ROLE, i, role);
     keep(kept, PHASE, i, COMING);
     keep(kept, FIRST, i, none);
@@ -134,19 +130,16 @@ fn measure_number(measure: Measure) -> usize
     }
 }
 
+#[tactic(auto, unfolding(crate::specs::Kept::measure_by))]
 fn measure_by(number: usize) -> Measure
     ensures { result ≡ measure_by number }
 {
-    if number == 1 {
-        return Measure::Exact;
+    match number {
+        1 => Measure::Exact,
+        2 => Measure::Short,
+        3 => Measure::Over,
+        _ => Measure::Unstated,
     }
-    if number == 2 {
-        return Measure::Short;
-    }
-    if number == 3 {
-        return Measure::Over;
-    }
-    Measure::Unstated
 }
 
 pub fn note_measure(kept: &mut [usize; KEPT], i: usize, measure: Measure)
@@ -166,42 +159,31 @@ fn place_number(fault: Fault) -> usize
     ensures { result ≡ place_number fault }
 {
     match fault {
-        Fault::BeginAgain => 0,
-        Fault::OutOfTurn => 0,
-        Fault::WrongType => 0,
-        Fault::TooLong => 0,
-        Fault::Malformed { at } => at as usize,
-        Fault::Repeated => 0,
+        Fault::Malformed { at } => usize::from(at),
+        _ => 0,
     }
 }
 
+#[tactic(auto, unfolding(crate::specs::Kept::fault_by))]
 fn fault_by(number: usize, place: usize) -> Fault
     ensures { result ≡ fault_by number place }
 {
-    if number == 21 {
-        return Fault::BeginAgain;
-    }
-    if number == 22 {
-        return Fault::OutOfTurn;
-    }
-    if number == 23 {
-        return Fault::WrongType;
-    }
-    if number == 24 {
-        return Fault::TooLong;
-    }
-    if number == 25 {
-        return Fault::Malformed {
+    match number {
+        21 => Fault::BeginAgain,
+        22 => Fault::OutOfTurn,
+        23 => Fault::WrongType,
+        24 => Fault::TooLong,
+        25 => Fault::Malformed {
             at: (place % 65536) as u16,
-        };
+        },
+        _ => Fault::Repeated,
     }
-    Fault::Repeated
 }
 
 pub fn note_fault(kept: &mut [usize; KEPT], i: usize, fault: Fault)
     ensures { kept.new ≡ with_fault kept.old i fault }
 {
-    keep(kept, FAULT, i, fault_number(fault) as usize);
+    keep(kept, FAULT, i, usize::from(fault_number(fault)));
     keep(kept, PLACE, i, place_number(fault));
 }
 

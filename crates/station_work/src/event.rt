@@ -8,7 +8,7 @@ use connection::event::{Event, Fault, Measure, Stream};
 use connection::sizes::SLOTS;
 use station_kept::{
     BLOCK_AT, COMING, DROPPED, FAILED, FAULTY, FIRST, HEADER, KEPT, PHASE, ROLE, TOO_LONG, find,
-    keep, kept_of, minus, note, note_fault, note_measure, some,
+    keep, kept_of, note, note_fault, note_measure, some,
 };
 
 // Roles by their numbers.
@@ -23,49 +23,18 @@ fn count_of(e: Event) -> usize
     ensures { result ≡ count_of e }
 {
     match e {
-        Event::Data {
-            id: _,
-            stream: _,
-            count,
-        } => count,
-        Event::Nothing => 0,
-        Event::Open {
-            id: _,
-            role: _,
-            keep: _,
-        } => 0,
-        Event::Ready { id: _, length: _ } => 0,
-        Event::End {
-            id: _,
-            stream: _,
-            measure: _,
-        } => 0,
-        Event::Abort { id: _ } => 0,
-        Event::Refuse { id: _, status: _ } => 0,
-        Event::Fault { id: _, fault: _ } => 0,
-        Event::Query {
-            max_conns: _,
-            max_reqs: _,
-            mpxs_conns: _,
-        } => 0,
-        Event::Unknown { kind: _ } => 0,
-        Event::Closed { cause: _ } => 0,
+        Event::Data { count, .. } => count,
+        _ => 0,
     }
 }
 
 // The bytes of a piece before a place that an event shows.
+#[tactic(auto, unfolding(station_kept::specs::Part::shown_of))]
 fn shown<'a>(piece: &'a [u8], upto: usize, e: Event) -> &'a [u8]
     ensures { result.now ≡ shown_of piece.now upto e }
 {
     let n = count_of(e);
-    some(piece, minus(upto, n), n)
-}
-
-fn is_stdin(stream: Stream) -> bool {
-    match stream {
-        Stream::Stdin => true,
-        Stream::Data => false,
-    }
+    some(piece, upto.saturating_sub(n), n)
 }
 
 // The role whose last stream this is.
@@ -86,34 +55,32 @@ fn take_in(
     bytes: &[u8],
 ) {
     let i = find(kept, id);
-    if i < SLOTS {
-        if kept_of(kept, PHASE, i) == COMING {
-            if is_stdin(stream) {
-                let b = append(pool, chains, body_of(kept, i), bytes);
-                hold(kept, chains, i, b);
-            }
-        }
+    if i < SLOTS && kept_of(kept, PHASE, i) == COMING && matches!(stream, Stream::Stdin) {
+        let body = append(pool, chains, body_of(kept, i), bytes);
+        hold(kept, chains, i, body);
     }
 }
 
 // All input of the request of entry i is in, if it has that role: it is answered from here on.
 fn all_in(kept: &mut [usize; KEPT], i: usize, role: usize) {
-    if kept_of(kept, ROLE, i) == role {
-        if kept_of(kept, PHASE, i) == COMING {
+    if kept_of(kept, ROLE, i) != role {
+        return;
+    }
+    match kept_of(kept, PHASE, i) {
+        COMING => {
             let block = kept_of(kept, FIRST, i);
             keep(kept, BLOCK_AT, i, block);
             keep(kept, PHASE, i, HEADER);
         }
-        if kept_of(kept, PHASE, i) == DROPPED {
-            keep(kept, PHASE, i, TOO_LONG);
-        }
+        DROPPED => keep(kept, PHASE, i, TOO_LONG),
+        _ => {}
     }
 }
 
 // A stream ended.
 fn end_stream(kept: &mut [usize; KEPT], id: u16, stream: Stream, measure: Measure) {
     let i = find(kept, id);
-    if is_stdin(stream) {
+    if matches!(stream, Stream::Stdin) {
         note_measure(kept, i, measure);
     }
     all_in(kept, i, last_of(stream));
@@ -135,16 +102,12 @@ fn take_event(
     bytes: &[u8],
 ) {
     match e {
-        Event::Open { id, role, keep: _ } => note(kept, id, role_number(role) as usize, BLOCKS),
-        Event::Ready { id, length: _ } => {
+        Event::Open { id, role, .. } => note(kept, id, usize::from(role_number(role)), BLOCKS),
+        Event::Ready { id, .. } => {
             let i = find(kept, id);
             all_in(kept, i, AUTHORIZER);
         }
-        Event::Data {
-            id,
-            stream,
-            count: _,
-        } => take_in(kept, chains, pool, id, stream, bytes),
+        Event::Data { id, stream, .. } => take_in(kept, chains, pool, id, stream, bytes),
         Event::End {
             id,
             stream,
@@ -155,15 +118,7 @@ fn take_event(
             let i = find(kept, id);
             drop_body(kept, chains, i, FAILED);
         }
-        Event::Nothing => {}
-        Event::Refuse { id: _, status: _ } => {}
-        Event::Query {
-            max_conns: _,
-            max_reqs: _,
-            mpxs_conns: _,
-        } => {}
-        Event::Unknown { kind: _ } => {}
-        Event::Closed { cause: _ } => {}
+        _ => {}
     }
 }
 

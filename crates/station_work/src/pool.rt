@@ -4,10 +4,8 @@ ghost use Rattle.std.specs.Prelude.{◌≡◌};
 ghost use Rattle.station_work.specs.Pool.{behind_of, linked, rest_of_block};
 
 use connection::sizes::SLOTS;
-use station_kept::{
-    COMING, DROPPED, FIRST, ID, KEPT, LAST, LENGTH, PHASE, keep, kept_of, minus, plus, some,
-};
-use wire::{copy_into, least};
+use station_kept::{COMING, DROPPED, FIRST, ID, KEPT, LAST, LENGTH, PHASE, keep, kept_of, some};
+use wire::copy_into;
 
 // The bytes of a block, how many blocks there are, and the bytes of all of them.
 pub const BLOCK: usize = 4096;
@@ -22,7 +20,7 @@ pub const CHAINS: usize = BLOCKS + 1;
 
 // A body: the first and the last block of its chain, and how many bytes it has. Where `fits` is false, no block was
 // left.
-#[derive(Clone, Copy)]
+#[derive(Clone, Copy, Debug, PartialEq, Eq)]
 pub struct Body {
     pub first: usize,
     pub last: usize,
@@ -31,6 +29,7 @@ pub struct Body {
 }
 
 // The number of the block behind one; of the first free block behind BLOCKS.
+#[tactic(auto, unfolding(crate::specs::Pool::behind_of))]
 pub fn behind(chains: &[usize; CHAINS], block: usize) -> usize
     ensures { result ≡ behind_of chains.now block }
 {
@@ -40,6 +39,7 @@ pub fn behind(chains: &[usize; CHAINS], block: usize) -> usize
     chains[block]
 }
 
+#[tactic(auto, unfolding(crate::specs::Pool::linked))]
 fn link(chains: &mut [usize; CHAINS], block: usize, next: usize)
     ensures { chains.new ≡ linked chains.old block next }
 {
@@ -50,25 +50,22 @@ fn link(chains: &mut [usize; CHAINS], block: usize, next: usize)
 
 // All blocks are free.
 pub fn free_all(chains: &mut [usize; CHAINS]) {
-    let mut i: usize = 0;
-    while i < BLOCKS {
-        let next = i + 1;
-        link(chains, i, next);
-        i = next;
+    for block in 0..BLOCKS {
+        link(chains, block, block + 1);
     }
     link(chains, BLOCKS, 0);
 }
 
-// Takes a free block for the end of a chain; BLOCKS if there is none.
-fn take_block(chains: &mut [usize; CHAINS]) -> usize {
+// Takes a free block for the end of a chain, if there is one.
+fn take_block(chains: &mut [usize; CHAINS]) -> Option<usize> {
     let block = behind(chains, BLOCKS);
     if BLOCKS <= block {
-        return BLOCKS;
+        return None;
     }
     let next = behind(chains, block);
     link(chains, BLOCKS, next);
     link(chains, block, BLOCKS);
-    block
+    Some(block)
 }
 
 // Gives the blocks of a body back.
@@ -81,52 +78,34 @@ pub fn give_back(chains: &mut [usize; CHAINS], first: usize, last: usize) {
 }
 
 // A body with a block for its next byte.
-fn with_room(chains: &mut [usize; CHAINS], b: Body) -> Body {
-    if b.length % BLOCK != 0 {
-        return b;
+fn with_room(chains: &mut [usize; CHAINS], body: Body) -> Body {
+    if body.length % BLOCK != 0 {
+        return body;
     }
-    let block = take_block(chains);
-    if BLOCKS <= block {
+    let Some(block) = take_block(chains) else {
         return Body {
-            first: b.first,
-            last: b.last,
-            length: b.length,
             fits: false,
+            ..body
         };
-    }
-    if b.length == 0 {
+    };
+    if body.length == 0 {
         return Body {
             first: block,
             last: block,
-            length: 0,
-            fits: true,
+            ..body
         };
     }
-    link(chains, b.last, block);
+    link(chains, body.last, block);
     Body {
-        first: b.first,
         last: block,
-        length: b.length,
-        fits: true,
+        ..body
     }
 }
 
 // Puts bytes into a block from a place of it on.
 fn put_in_block(pool: &mut [u8], block: usize, place: usize, bytes: &[u8]) {
-    if block < BLOCKS {
-        if place < BLOCK {
-            copy_into(pool, block * BLOCK + place, bytes);
-        }
-    }
-}
-
-// A body that is n bytes longer.
-fn longer(b: Body, n: usize) -> Body {
-    Body {
-        first: b.first,
-        last: b.last,
-        length: plus(b.length, n),
-        fits: b.fits,
+    if block < BLOCKS && place < BLOCK {
+        copy_into(pool, block * BLOCK + place, bytes);
     }
 }
 
@@ -138,14 +117,17 @@ fn append_some(
     bytes: &[u8],
     from: usize,
 ) -> Body {
-    let b = with_room(chains, body);
-    if !b.fits {
-        return b;
+    let roomy = with_room(chains, body);
+    if !roomy.fits {
+        return roomy;
     }
-    let place = b.length % BLOCK;
+    let place = roomy.length % BLOCK;
     let part = some(bytes, from, BLOCK - place);
-    put_in_block(pool, b.last, place, part);
-    longer(b, part.len())
+    put_in_block(pool, roomy.last, place, part);
+    Body {
+        length: roomy.length.saturating_add(part.len()),
+        ..roomy
+    }
 }
 
 // Puts bytes behind a body, block by block.
@@ -155,36 +137,27 @@ pub fn append(
     body: Body,
     bytes: &[u8],
 ) -> Body {
-    let mut b = body;
-    let start = body.length;
-    let mut turns = bytes.len();
-    while turns > 0 {
-        turns -= 1;
-        if !b.fits {
-            return b;
+    let mut longer = body;
+    for _ in 0..bytes.len() {
+        let from = longer.length.saturating_sub(body.length);
+        if !longer.fits || bytes.len() <= from {
+            return longer;
         }
-        let from = minus(b.length, start);
-        if bytes.len() <= from {
-            return b;
-        }
-        b = append_some(pool, chains, b, bytes, from);
+        longer = append_some(pool, chains, longer, bytes, from);
     }
-    b
+    longer
 }
 
 // The bytes of a body from a place on that lie in one block.
+#[tactic(auto, unfolding(crate::specs::Pool::rest_of_block))]
 pub fn rest_of_block<'a>(pool: &'a [u8], block: usize, place: usize, length: usize) -> &'a [u8]
     ensures { result.now ≡ rest_of_block pool.now block place length }
 {
-    let none: usize = 0;
-    if BLOCKS <= block {
-        return &pool[none..none];
-    }
-    if length <= place {
-        return &pool[none..none];
+    if BLOCKS <= block || length <= place {
+        return &[];
     }
     let inside = place % BLOCK;
-    let n = least(BLOCK - inside, length - place);
+    let n = (BLOCK - inside).min(length - place);
     some(pool, block * BLOCK + inside, n)
 }
 
@@ -208,11 +181,11 @@ pub fn drop_body(kept: &mut [usize; KEPT], chains: &mut [usize; CHAINS], i: usiz
 }
 
 // Holds a body that grew. One that did not fit is dropped, and so is what comes of it later.
-pub fn hold(kept: &mut [usize; KEPT], chains: &mut [usize; CHAINS], i: usize, b: Body) {
-    keep(kept, FIRST, i, b.first);
-    keep(kept, LAST, i, b.last);
-    keep(kept, LENGTH, i, b.length);
-    if !b.fits {
+pub fn hold(kept: &mut [usize; KEPT], chains: &mut [usize; CHAINS], i: usize, body: Body) {
+    keep(kept, FIRST, i, body.first);
+    keep(kept, LAST, i, body.last);
+    keep(kept, LENGTH, i, body.length);
+    if !body.fits {
         drop_body(kept, chains, i, DROPPED);
     }
 }

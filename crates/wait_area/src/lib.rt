@@ -7,22 +7,13 @@ ghost use Rattle.wait_area.specs.Behind.{end_behind};
 
 use connection::answer::Output;
 use wait_mark::mark_ended;
-use wire::least;
 
 // The same byte n times, from a place on, where there is room for that.
 pub fn fill(area: &mut [u8], at: usize, n: usize, x: u8)
     ensures { area.new ≡ copied area.old at (replicate n x) }
 {
-    if area.len() < at {
-        return;
-    }
-    if area.len() - at < n {
-        return;
-    }
-    let mut i: usize = 0;
-    while i < n {
-        area[at + i] = x;
-        i += 1;
+    if at <= area.len() && n <= area.len() - at {
+        area[at..at + n].fill(x);
     }
 }
 
@@ -30,15 +21,8 @@ pub fn fill(area: &mut [u8], at: usize, n: usize, x: u8)
 pub fn move_down(area: &mut [u8], k: usize, count: usize)
     ensures { area.new ≡ put_at area.old 0 (drop k (take count area.old)) }
 {
-    let n = least(count, area.len());
-    if n < k {
-        return;
-    }
-    let rest = n - k;
-    let mut i: usize = 0;
-    while i < rest {
-        area[i] = area[i + k];
-        i += 1;
+    for i in k..count.min(area.len()) {
+        area[i - k] = area[i];
     }
 }
 
@@ -46,12 +30,7 @@ pub fn move_down(area: &mut [u8], k: usize, count: usize)
 pub fn end_behind(marks: &mut [u8], count: usize, output: Output)
     ensures { marks.new ≡ end_behind marks.old count output }
 {
-    if count == 0 {
-        return;
+    if count != 0 && count <= marks.len() {
+        marks[count - 1] = mark_ended(marks[count - 1], output);
     }
-    if marks.len() < count {
-        return;
-    }
-    let last = marks[count - 1];
-    marks[count - 1] = mark_ended(last, output);
 }

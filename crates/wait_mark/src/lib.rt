@@ -4,7 +4,7 @@
 ghost use Rattle.std.specs.Prelude.{◌≡◌, ◌≤◌, ◌<◌, length};
 ghost use Rattle.slot_check.specs.Quick.{any_of};
 ghost use Rattle.queue_slot.specs.Atoms.{RUN};
-ghost use Rattle.queue_slot.specs.Wait.{one_end, with_end, no_ends, stream_number, ends_number, ends_of};
+ghost use Rattle.queue_slot.specs.Wait.{with_end, no_ends, stream_number, ends_of};
 ghost use Rattle.queue_slot.specs.Wait.{mark_of, mark_stream, mark_ends, mark_ended, run_length};
 ghost use Rattle.queue_slot.specs.declared.Ends.{Ends};
 ghost use Rattle.wait_mark.specs.Joins.{doubled, joins, is_other, run_from};
@@ -12,48 +12,19 @@ ghost use Rattle.wait_mark.specs.Joins.{doubled, joins, is_other, run_from};
 use connection::answer::Output;
 use queue::sizes::RUN;
 use queue_slot::Ends;
-use wire::least;
-
-// One end.
-fn one_end(output: Output) -> Ends
-    ensures { result ≡ one_end output }
-{
-    match output {
-        Output::Stdout => Ends::Out,
-        Output::Stderr => Ends::Err,
-    }
-}
-
-// STDERR's end behind STDOUT's, or none where the stream is STDOUT.
-fn behind_out(output: Output) -> Ends
-    ensures { result ≡ with_end Ends.Out output }
-{
-    match output {
-        Output::Stdout => Ends::Out,
-        Output::Stderr => Ends::OutErr,
-    }
-}
-
-// STDOUT's end behind STDERR's, or none where the stream is STDERR.
-fn behind_err(output: Output) -> Ends
-    ensures { result ≡ with_end Ends.Err output }
-{
-    match output {
-        Output::Stdout => Ends::ErrOut,
-        Output::Stderr => Ends::Err,
-    }
-}
 
 // One more end behind these. A stream ends once.
 pub fn with_end(e: Ends, output: Output) -> Ends
     ensures { result ≡ with_end e output }
 {
-    match e {
-        Ends::None => one_end(output),
-        Ends::Out => behind_out(output),
-        Ends::Err => behind_err(output),
-        Ends::OutErr => Ends::OutErr,
-        Ends::ErrOut => Ends::ErrOut,
+    match (e, output) {
+        (Ends::None, Output::Stdout) => Ends::Out,
+        (Ends::None, Output::Stderr) => Ends::Err,
+        (Ends::Out, Output::Stderr) => Ends::OutErr,
+        (Ends::Err, Output::Stdout) => Ends::ErrOut,
+        (Ends::Out, Output::Stdout)
+        | (Ends::Err, Output::Stderr)
+        | (Ends::OutErr | Ends::ErrOut, _) => e,
     }
 }
 
@@ -61,13 +32,7 @@ pub fn with_end(e: Ends, output: Output) -> Ends
 pub fn no_ends(e: Ends) -> bool
     ensures { result ≡ no_ends e }
 {
-    match e {
-        Ends::None => true,
-        Ends::Out => false,
-        Ends::Err => false,
-        Ends::OutErr => false,
-        Ends::ErrOut => false,
-    }
+    matches!(e, Ends::None)
 }
 
 fn stream_number(output: Output) -> u8
@@ -93,22 +58,17 @@ fn doubled(e: Ends) -> u8
 }
 
 // The ends of a number. Over 4 there are none.
+#[tactic(auto, unfolding(queue_slot::specs::Wait::ends_of))]
 fn ends_of(n: u8) -> Ends
     ensures { result ≡ ends_of n }
 {
-    if n == 1 {
-        return Ends::Out;
+    match n {
+        1 => Ends::Out,
+        2 => Ends::Err,
+        3 => Ends::OutErr,
+        4 => Ends::ErrOut,
+        _ => Ends::None,
     }
-    if n == 2 {
-        return Ends::Err;
-    }
-    if n == 3 {
-        return Ends::OutErr;
-    }
-    if n == 4 {
-        return Ends::ErrOut;
-    }
-    Ends::None
 }
 
 // The mark of a byte.
@@ -119,13 +79,15 @@ pub fn mark_of(output: Output, e: Ends) -> u8
 }
 
 // The stream of a marked byte.
+#[tactic(auto, unfolding(queue_slot::specs::Wait::mark_stream))]
 pub fn mark_stream(mark: u8) -> Output
     ensures { result ≡ mark_stream mark }
 {
     if mark % 2 == 0 {
-        return Output::Stdout;
+        Output::Stdout
+    } else {
+        Output::Stderr
     }
-    Output::Stderr
 }
 
 // The ends behind it.
@@ -136,24 +98,19 @@ pub fn mark_ends(mark: u8) -> Ends
 }
 
 // The mark with one more end behind its byte.
+#[tactic(auto, unfolding(queue_slot::specs::Wait::mark_ended))]
 pub fn mark_ended(mark: u8, output: Output) -> u8
     ensures { result ≡ mark_ended mark output }
 {
-    let stream = mark_stream(mark);
-    let before = mark_ends(mark);
-    let ends = with_end(before, output);
-    mark_of(stream, ends)
+    let ends = with_end(mark_ends(mark), output);
+    mark_of(mark_stream(mark), ends)
 }
 
 // Two bytes, one after the other, go into one record: no end is between them, and they are of one stream.
 fn joins(mark: u8, next: u8) -> bool
     ensures { result ≡ joins mark next }
 {
-    let ends = mark_ends(mark);
-    if no_ends(ends) {
-        return mark % 2 == next % 2;
-    }
-    false
+    no_ends(mark_ends(mark)) && mark % 2 == next % 2
 }
 
 // One of the first n marks is not this one. The loop has no early end, so that it takes many marks at a time.
@@ -177,10 +134,7 @@ fn run_known(marks: &[u8], n: usize) -> usize
     ensures { (0 < result) × (result ≤ n) × (run_length RUN marks.now ≡ run_from marks.now result) }
 {
     let first = marks[0];
-    if 1 < first {
-        return 1;
-    }
-    if any_other(marks, first, n - 1) {
+    if 1 < first || any_other(marks, first, n - 1) {
         return 1;
     }
     n - 1
@@ -190,16 +144,14 @@ fn run_known(marks: &[u8], n: usize) -> usize
 pub fn run_length(marks: &[u8]) -> usize
     ensures { result ≡ run_length RUN marks.now }
 {
-    let n = least(RUN, marks.len());
+    let n = RUN.min(marks.len());
     if n < 2 {
         return n;
     }
-    let mut k = run_known(marks, n);
-    while k < n {
+    for k in run_known(marks, n)..n {
         if !joins(marks[k - 1], marks[k]) {
             return k;
         }
-        k += 1;
     }
-    k
+    n
 }

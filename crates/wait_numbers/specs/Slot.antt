@@ -1,9 +1,9 @@
 -- The numbers of one slot, read and put; what waits by the words; the slot that is served next.
-use Rattle.std.specs.Prelude.{ℕ, Bool, List, get_or}
+use Rattle.connection.specs.Slots.{Slot}
+use Rattle.std.specs.Prelude.{ℕ, Bool, List, get_or, Some, None}
 use Rattle.std.proofs.Math.Option.{Option, none, some}
 use Rattle.std.specs.Int.Bits.{bit_or}
 use Rattle.wire.specs.Test.{◌<?◌, ◌≤?◌}
-use Rattle.connection.specs.declared.state.Slot.{Slot}
 use Rattle.connection.specs.Sizes.{SLOTS}
 use Rattle.machine_queue.specs.Pump.{next_waiting}
 use Rattle.queue_slot.specs.declared.Numbers.{Numbers}
@@ -32,8 +32,8 @@ some_word waits =
 
 -- a slot found, as an option
 abbrev pub slot_of : Slot → Option ℕ
-slot_of (Slot.At i) = some i
-slot_of Slot.Nowhere = none
+slot_of (Some i) = some i
+slot_of None = none
 
 -- the first slot that waits, going round from a slot on
 abbrev pub next_from : List ℕ → ℕ → Option ℕ

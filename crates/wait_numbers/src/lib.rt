@@ -12,7 +12,6 @@ ghost use Rattle.wait_numbers.specs.Slot.{numbers_in, put_numbers, waits_in, slo
 ghost use Rattle.wait_numbers.specs.Slot.{some_word, is_long, is_over};
 
 use connection::sizes::SLOTS;
-use connection::state::Slot;
 use queue::sizes::{ROOM, WAITS};
 use queue_slot::{Ends, Numbers};
 use slot_check::reach;
@@ -317,7 +316,7 @@ pub fn waits_fit(waits: &[u16; WAITS], occupied: u16) -> bool
 }
 
 // The first slot that waits, going round from a slot on.
-pub fn next_waiting(waits: &[u16; WAITS], first: usize) -> Slot
+pub fn next_waiting(waits: &[u16; WAITS], first: usize) -> Option<usize>
     ensures { first < SLOTS → slot_of result ≡ next_from waits.now first }
 {
     let some = some_waits(waits);
@@ -325,12 +324,12 @@ pub fn next_waiting(waits: &[u16; WAITS], first: usize) -> Slot
     let mut left = SLOTS;
     while 0 < left {
         if is_taken(some, i) {
-            return Slot::At(i);
+            return Some(i);
         }
         i = slot_after(i);
         left -= 1;
     }
-    Slot::Nowhere
+    None
 }
 
 // The slot after slot i, going round.

@@ -1,10 +1,11 @@
-use mathlib.Core.Path.{sym, ap, ◌∙◌}
-use Rattle.call_admit.specs.Admission.{admitted_by}
+use Rattle.std.proofs.lemmas.Result.{err_from_is_err_and}
 use Rattle.call_request.proofs.Laws.{request_refused, request_through}
 use Rattle.call_request.proofs.request_of.Goals as goal
 
-pub returns-in-Refused : goal.returns-in-Refused
-returns-in-Refused c = request_refused _ _ c.in-Refused.why (ap admitted_by (sym c.in-Refused.is) ∙ c.admit-admitted.ensures)
+pub returns-in_err-slot : goal.returns-in_err-slot
+returns-in_err-slot c =
+    let p = err_from_is_err_and c.from_residual.result c.from_residual.ensures.1 in
+    rw (p.1, p.2) (request_refused _ _ _ c.in_err-slot.ensures)
 
-pub returns-in-At : goal.returns-in-At
-returns-in-At c = request_through _ _ c.in-At.i (ap admitted_by (sym c.in-At.is) ∙ c.admit-admitted.ensures) c.request_at.ensures
+pub returns : goal.returns
+returns c = request_through _ _ c.in_ok-slot.slot c.in_ok-slot.ensures c.request_at.ensures

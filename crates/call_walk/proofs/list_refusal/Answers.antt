@@ -1,8 +1,8 @@
 use Rattle.call_list.proofs.Laws.{walk_listed}
 use Rattle.call_walk.proofs.list_refusal.Goals as goal
 
-pub returns-in-At : goal.returns-in-At
-returns-in-At c = simp (walk_listed, ← c.list_at-listed.ensures, c.in-At.is)
+pub returns-in-Ok : goal.returns-in-Ok
+returns-in-Ok c = simp (walk_listed, ← c.in-Ok.ensures)
 
-pub returns-in-Refused : goal.returns-in-Refused
-returns-in-Refused c = simp (walk_listed, ← c.list_at-listed.ensures, c.in-Refused.is, c.refusal_number.ensures)
+pub returns-in-Err : goal.returns-in-Err
+returns-in-Err c = simp (walk_listed, ← c.in-Err.ensures, c.refusal_number.ensures)

@@ -1,12 +1,8 @@
 use mathlib.Core.Path.{refl, sym, ap, ◌∙◌}
-use Prim.Native.Nat.{◌<◌}
 use native.Mathlib.Omega.{arith}
-use Rattle.connection.specs.declared.state.Target.{Target}
-use Rattle.connection.specs.Sizes.{SLOTS}
 use Rattle.connection.proofs.Laws.PartLaws.{part_lent, part_back}
-use Rattle.connection.specs.Step.{on_target}
-use Rattle.conn_content.proofs.Laws.{aimed_at}
 use Rattle.connection.specs.Decision.{open_state, applied}
+use Rattle.conn_content.proofs.Laws.{aimed_at, params_low, on_known}
 use borrow.Author.Rules.{rules}
 use Rattle.conn_content.proofs.feed.Goals as goal
 
@@ -24,49 +20,41 @@ of_query-requires c =
 
 pub overflow_mul-a : goal.overflow_mul-a
 overflow_mul-a c =
-    let low : c.in-Params.i < SLOTS =
     let a = c.args in
-    (aimed_at a.f.target (Target.Params c.in-Params.i) a.t a.f.gathered a.f.position.content c.requires.1 c.in-Params.is).slot.low in
-    omega (arith, low)
+    omega (arith, params_low a.f.target c.in-Params.i a.t a.f.gathered a.f.position.content c.requires.1 c.in-Params.is)
 
-pub overflow_add-e : goal.overflow_add-e
-overflow_add-e c =
-    let low : c.in-Params.i < SLOTS =
+pub overflow_add-a : goal.overflow_add-a
+overflow_add-a c =
     let a = c.args in
-    (aimed_at a.f.target (Target.Params c.in-Params.i) a.t a.f.gathered a.f.position.content c.requires.1 c.in-Params.is).slot.low in
-    omega (arith, low)
+    omega (arith, params_low a.f.target c.in-Params.i a.t a.f.gathered a.f.position.content c.requires.1 c.in-Params.is)
 
 pub slice_bounds-of_params-start : goal.slice_bounds-of_params-start
 slice_bounds-of_params-start c =
-    let low : c.in-Params.i < SLOTS =
     let a = c.args in
-    (aimed_at a.f.target (Target.Params c.in-Params.i) a.t a.f.gathered a.f.position.content c.requires.1 c.in-Params.is).slot.low in
-    omega (arith, low)
+    omega (arith, params_low a.f.target c.in-Params.i a.t a.f.gathered a.f.position.content c.requires.1 c.in-Params.is)
 
 pub slice_bounds-of_params-end : goal.slice_bounds-of_params-end
 slice_bounds-of_params-end c =
-    let low : c.in-Params.i < SLOTS =
     let a = c.args in
-    (aimed_at a.f.target (Target.Params c.in-Params.i) a.t a.f.gathered a.f.position.content c.requires.1 c.in-Params.is).slot.low in
-    omega (arith, low)
+    omega (arith, params_low a.f.target c.in-Params.i a.t a.f.gathered a.f.position.content c.requires.1 c.in-Params.is)
 
 pub returns-in-Skip : goal.returns-in-Skip
 returns-in-Skip c =
     let a = c.args in
     c.skipped.ensures a.t a.gathered.now a.store.now
-    ∙ ap (λ (w : Target). on_target w (open_state a.t a.f a.gathered.now) a.store.now a.bytes.now a.p) (sym c.in-Skip.is)
+    ∙ on_known a.f.target _ (open_state a.t a.f a.gathered.now) a.store.now a.bytes.now a.p c.in-Skip.is
 
 pub returns-in-Begin : goal.returns-in-Begin
 returns-in-Begin c =
     let a = c.args in
     c.of_begin.ensures a.t a.gathered.now a.store.now (sym c.lowest_free-free.ensures)
-    ∙ ap (λ (w : Target). on_target w (open_state a.t a.f a.gathered.now) a.store.now a.bytes.now a.p) (sym c.in-Begin.is)
+    ∙ on_known a.f.target _ (open_state a.t a.f a.gathered.now) a.store.now a.bytes.now a.p c.in-Begin.is
 
 pub returns-in-Query : goal.returns-in-Query
 returns-in-Query c =
     let a = c.args in
     c.of_query.ensures a.t a.store.now
-    ∙ ap (λ (w : Target). on_target w (open_state a.t a.f a.gathered.now) a.store.now a.bytes.now a.p) (sym c.in-Query.is)
+    ∙ on_known a.f.target _ (open_state a.t a.f a.gathered.now) a.store.now a.bytes.now a.p c.in-Query.is
 
 pub returns-in-Params : goal.returns-in-Params
 returns-in-Params c =
@@ -74,16 +62,16 @@ returns-in-Params c =
     let i = c.in-Params.i in
     ap (applied c.of_params.result a.t a.gathered.now) (part_back a.store.now i c.of_params.new.area)
     ∙ c.of_params.ensures a.t a.gathered.now a.store.now (sym c.request_at-r.ensures) (part_lent a.store.now i)
-    ∙ ap (λ (w : Target). on_target w (open_state a.t a.f a.gathered.now) a.store.now a.bytes.now a.p) (sym c.in-Params.is)
+    ∙ on_known a.f.target _ (open_state a.t a.f a.gathered.now) a.store.now a.bytes.now a.p c.in-Params.is
 
 pub returns-in-Stdin : goal.returns-in-Stdin
 returns-in-Stdin c =
     let a = c.args in
     c.of_stream.ensures a.t a.gathered.now a.store.now a.bytes.now (sym c.request_at-r-in-Stdin.ensures) refl
-    ∙ ap (λ (w : Target). on_target w (open_state a.t a.f a.gathered.now) a.store.now a.bytes.now a.p) (sym c.in-Stdin.is)
+    ∙ on_known a.f.target _ (open_state a.t a.f a.gathered.now) a.store.now a.bytes.now a.p c.in-Stdin.is
 
 pub returns-in-Data : goal.returns-in-Data
 returns-in-Data c =
     let a = c.args in
     c.of_stream-in-Data.ensures a.t a.gathered.now a.store.now a.bytes.now (sym c.request_at-r-in-Data.ensures) refl
-    ∙ ap (λ (w : Target). on_target w (open_state a.t a.f a.gathered.now) a.store.now a.bytes.now a.p) (sym c.in-Data.is)
+    ∙ on_known a.f.target _ (open_state a.t a.f a.gathered.now) a.store.now a.bytes.now a.p c.in-Data.is

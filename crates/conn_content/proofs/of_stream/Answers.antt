@@ -5,4 +5,4 @@ pub returns : goal.returns
 returns c =
     λ t g s bytes hr hn.
     let a = c.args in
-    simp (c.frame_within-frame.ensures, c.count_shown-counted.ensures, c.stream_due-due.ensures, ← hr, ← hn) (stream_shown a.stream t a.f g s a.i bytes a.p)
+    simp (c.frame_within.ensures, c.count_shown-counted.ensures, c.stream_due.ensures, ← hr, ← hn) (stream_shown a.stream t a.f g s a.i bytes a.p)

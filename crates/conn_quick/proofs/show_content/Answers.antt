@@ -4,6 +4,6 @@ use Rattle.conn_quick.proofs.show_content.Goals as goal
 pub returns : goal.returns
 returns c =
     let a = c.args in (
-      rw c.slot_of-i.ensures c.requires.1,
-      λ t g s e. simp (c.frame_within-frame.ensures, c.stream_due-due.ensures, c.stream_of-stream.ensures, c.slot_of-i.ensures, c.advance-a.ensures, ← e) (content_shown t a.f g s a.piece.now c.requires.0),
+      rw c.slot_of-slot.ensures c.requires.1,
+      λ t g s e. simp (c.frame_within.ensures, c.stream_due.ensures, c.stream_of-stream.ensures, c.slot_of-slot.ensures, c.advance-a.ensures, ← e) (content_shown t a.f g s a.piece.now c.requires.0),
     )

@@ -25,12 +25,6 @@ no_header e f h w = let z : ◌≡◌ {A = ℕ} 0 1 = cc (sym f ∙ ap is_whole 
 pub returns-in-Content : goal.returns-in-Content
 returns-in-Content c = (c.feed.ensures ∙ ap (λ (w : Phase). on_phase w (open_state c.args.t c.args.f c.args.gathered.now) c.args.store.now c.args.bytes.now c.args.p) (sym c.in-Content.is), no_header (sym c.in-Content.is) refl)
 
-pub returns-in-Padding : goal.returns-in-Padding
-returns-in-Padding c = (simp (c.only_frame.ensures, c.frame_at.ensures, c.in-Padding.is), no_header (sym c.in-Padding.is) refl)
-
-pub returns-in-Part : goal.returns-in-Part
-returns-in-Part c = (simp (c.only_frame-in-Part.ensures, c.frame_at-in-Part.ensures, c.in-Part.is), no_header (sym c.in-Part.is) refl)
-
 pub returns-in-Whole : goal.returns-in-Whole
 returns-in-Whole c =
     let is = c.in-Whole.is in (

@@ -1,6 +1,7 @@
 -- Which header and which content closes a connection, and by which number and place.
+use Rattle.connection.specs.Slots.{Slot}
 use Rattle.std.proofs.Math.Path.{◌≡◌}
-use Rattle.std.specs.Prelude.{refl, ℕ, ◌+◌, ◌<◌, Bool, true, false, ◌↔◌, ◌⊎◌, List, [], length, take, ltb, eqb, if◌then◌else◌}
+use Rattle.std.specs.Prelude.{refl, ℕ, ◌+◌, ◌<◌, Bool, true, false, ◌↔◌, ◌⊎◌, List, [], length, take, ltb, eqb, if◌then◌else◌, Some, None}
 use Rattle.std.proofs.Common.{sym, ap, inl, inr, arith}
 use borrow.Author.Tests.{ltb-true, eqb-true, eqb-false, lt-ltb, eq-eqb, ne_eqb}
 use Rattle.wire.specs.Test.{by_test}
@@ -13,7 +14,6 @@ use Rattle.record_reader.specs.declared.Position.{Position}
 use Rattle.record_reader.specs.declared.Phase.{Phase}
 use Rattle.pair_list.specs.List.{well_formed, broken_at}
 use Rattle.connection.specs.declared.request.Role.{Role}
-use Rattle.connection.specs.declared.state.Slot.{Slot}
 use Rattle.connection.specs.declared.state.Target.{Target}
 use Rattle.connection.specs.declared.state.Frame.{Frame}
 use Rattle.connection.specs.Sizes.{SLOTS, QUERY}
@@ -35,7 +35,7 @@ pub record LongQuery (h : Header) : Type 0 where
 pub record OddBegin (st : State) (h : Header) : Type 0 where
   pub version : h.version ≡ VERSION
   pub some : h.id ≡ 0 → ⊥
-  pub inactive : find st.conn.table h.id ≡ Slot.Nowhere
+  pub inactive : find st.conn.table h.id ≡ None
   pub kind : h.kind ≡ BEGIN_REQUEST
   pub odd : h.content ≡ 8 → ⊥
 
@@ -76,8 +76,8 @@ module _ (st : State) (store : List ℕ) (h : Header) where
     where
       placed : h.version ≡ VERSION → (h.id ≡ 0 → ⊥) → (k : Slot) → find st.conn.table h.id ≡ k
           → Verdict st h (on_slot k (on_active st store h) (on_inactive st store h)).event
-      placed is some (Slot.At i) e = Verdict.Goes _ (header_goes_on h.kind h.content (held_at st.conn.table store i))
-      placed is some Slot.Nowhere e =
+      placed is some (Some i) e = Verdict.Goes _ (header_goes_on h.kind h.content (held_at st.conn.table store i))
+      placed is some None e =
           choose (eqb h.kind BEGIN_REQUEST) _ _
           (λ k.
           choose (eqb h.content 8) _ _ (λ m. Verdict.Goes _ refl)

@@ -1,10 +1,10 @@
 -- What closes a connection, and what closing leaves.
+use Rattle.connection.specs.Slots.{Slot}
 use Rattle.std.specs.Prelude.{◌≡◌, refl, ℕ, Bool, true, false, List, length}
 use Rattle.std.proofs.Common.{ap, ◌∙◌, arith, eq-eqb}
 use Rattle.std.proofs.lemmas.List.{length-replicate}
 use Rattle.wire.specs.Buffer.{zeros}
 use Rattle.connection.specs.declared.request.Due.{Due}
-use Rattle.connection.specs.declared.state.Slot.{Slot}
 use Rattle.connection.specs.declared.state.Conn.{Conn}
 use Rattle.connection.specs.Sizes.{STORE}
 use Rattle.connection.specs.Event.{Event}

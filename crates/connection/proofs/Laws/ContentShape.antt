@@ -1,5 +1,5 @@
 -- What content bytes leave is in shape.
-use Rattle.std.specs.Prelude.{◌≡◌, ℕ, ◌+◌, ◌≤◌, ◌<◌, List, ltb, leb, eqb}
+use Rattle.std.specs.Prelude.{◌≡◌, ℕ, ◌+◌, ◌≤◌, ◌<◌, List, ltb, leb, eqb, None}
 use Rattle.std.proofs.Math.Path.{refl}
 use Rattle.std.proofs.Common.{◌∙◌, arith}
 use Rattle.std.proofs.Math.ListN.{length}
@@ -15,7 +15,6 @@ use Rattle.connection.specs.declared.request.Role.{Role}
 use Rattle.connection.specs.declared.request.Due.{Due}
 use Rattle.connection.specs.declared.request.RequestState.{RequestState}
 use Rattle.connection.specs.declared.state.Table.{Table}
-use Rattle.connection.specs.declared.state.Slot.{Slot}
 use Rattle.connection.specs.declared.state.Target.{Target}
 use Rattle.connection.specs.declared.state.Frame.{Frame}
 use Rattle.connection.specs.Sizes.{SLOTS, AREA, QUERY}
@@ -41,7 +40,7 @@ used_up st left = at left st.conn.frame.position.padding st.conn.frame.position.
 
 module _ (st : State) (store : List ℕ) (before : Good st.conn) where
   -- the BEGIN body is whole: the frame that is left fits any table
-  module _ (id : ℕ) (some : id ≡ 0 → ⊥) (inactive : find st.conn.table id ≡ Slot.Nowhere) (b : BeginBody) (f : Frame) (idle : (t : Table) → GoodFrame t f) where
+  module _ (id : ℕ) (some : id ≡ 0 → ⊥) (inactive : find st.conn.table id ≡ None) (b : BeginBody) (f : Frame) (idle : (t : Table) → GoodFrame t f) where
     good_opens : (role : Role) → Good (opens st store id b role f).conn
     unfolding opens opened
     good_opens role =

@@ -1,6 +1,5 @@
 -- What is shown in two parts is counted as what is shown at once, also where the count stays at its largest number.
-use Rattle.std.specs.Prelude.{ℕ, ◌+◌, ◌≤◌, ◌≡◌, refl, List, ◌++◌, length, ltb}
-use Rattle.std.proofs.Math.Option.{some}
+use Rattle.std.specs.Prelude.{ℕ, ◌+◌, ◌≤◌, ◌≡◌, refl, List, ◌++◌, length, ltb, Some}
 use Rattle.std.proofs.Common.{arith, length-append, ltb-true, ltb-false, lt-ltb, le-ltb}
 use Rattle.wire.specs.Test.{by_test}
 use Rattle.stated_length.specs.Stated.{stated_in}
@@ -36,7 +35,7 @@ pub showed_twice : (due : Due) (x y : List ℕ) (h : Held) → showed due (lengt
 showed_twice due x y h = rw (length-append x y, more_twice due (length x) (length y) h.request.state.shown)
 
 -- A count that stays at its largest number is over against every stated length.
-pub most_is_over : (list name : List ℕ) (n : ℕ) → stated_in list name ≡ some n → measured MOST (stated_in list name) ≡ Measure.Over
+pub most_is_over : (list name : List ℕ) (n : ℕ) → stated_in list name ≡ Some n → measured MOST (stated_in list name) ≡ Measure.Over
 unfolding measured
 most_is_over list name n e =
     let low = stated_largest list name n e in

@@ -1,5 +1,5 @@
 -- After a step the counts of R's request are those before it, changed by what the step tells of R.
-use Rattle.std.specs.Prelude.{◌≡◌, refl, List, [], ◌∷◌, ◌++◌, map, Bool, true, ℕ, suc, ◌+◌, ◌<◌, min, length, take, eqb, leb}
+use Rattle.std.specs.Prelude.{◌≡◌, refl, List, [], ◌∷◌, ◌++◌, map, Bool, true, ℕ, suc, ◌+◌, ◌<◌, min, length, take, eqb, leb, Some, None}
 use Rattle.std.proofs.Common.{ap, ap₂, sym, ◌∙◌, subst, arith, take_all, length-take-le, eqb-true, eq-eqb, ne_eqb}
 use Rattle.std.proofs.lemmas.Bool.{eqb-false}
 use Rattle.wire.specs.Test.{by_test}
@@ -10,7 +10,6 @@ use Rattle.connection.specs.declared.request.Role.{Role}
 use Rattle.connection.specs.declared.request.Due.{Due}
 use Rattle.connection.specs.declared.request.Shown.{Shown}
 use Rattle.connection.specs.declared.state.Table.{Table}
-use Rattle.connection.specs.declared.state.Slot.{Slot}
 use Rattle.connection.specs.declared.state.Target.{Target}
 use Rattle.connection.specs.declared.state.Conn.{Conn}
 use Rattle.connection.specs.Sizes.{SLOTS, AREA}
@@ -157,7 +156,7 @@ content_counts R Due.Data bytes x h e some = stream_counts R Due.Data DATA bytes
 -- ---- the slots
 -- The counts of R, where a slot holds it.
 abbrev pub CountsIn : ℕ → Shown → Table → Type 0
-CountsIn R c t = (i : ℕ) → find t R ≡ Slot.At i → (request_at t i).state.shown ≡ c
+CountsIn R c t = (i : ℕ) → find t R ≡ Some i → (request_at t i).state.shown ≡ c
 
 -- The same of a connection, while it is open.
 abbrev pub CountsOf : ℕ → Shown → Conn → Type 0
@@ -165,9 +164,9 @@ CountsOf R c conn = conn.«open» ≡ true → CountsIn R c conn.table
 
 -- A request put into slot j, with the id of the one that it held.
 pub put_counts : (R : ℕ) (c d : Shown) (t : Table) (j : ℕ) (r : Request) → Sized t → CountsIn R c t → r.id ≡ (request_at t j).id
-    → (find t R ≡ Slot.At j → r.state.shown ≡ d) → ((find t R ≡ Slot.At j → ⊥) → c ≡ d) → CountsIn R d (put_request t j r)
+    → (find t R ≡ Some j → r.state.shown ≡ d) → ((find t R ≡ Some j → ⊥) → c ≡ d) → CountsIn R d (put_request t j r)
 put_counts R c d t j r sized counts id own other i f =
-    let found : find t R ≡ Slot.At i = sym (find_put t j r R id) ∙ f in
+    let found : find t R ≡ Some i = sym (find_put t j r R id) ∙ f in
     by_test (eqb i j)
     (λ e.
     let q : i ≡ j = eqb-true i j e in
@@ -178,7 +177,7 @@ put_counts R c d t j r sized counts id own other i f =
     ap (λ (x : Request). x.state.shown) (request_of_other t j i r ne) ∙ counts i found ∙ other (λ g. ne (cc (found, g))))
 
 -- An id that is not active takes the free slot k: it opens with no bytes shown.
-take_counts : (R : ℕ) (c : Shown) (t : Table) (id : ℕ) (role : Role) (keep : Bool) (x : List ℕ) → Sized t → Distinct t → free_slot_of t < SLOTS → find t id ≡ Slot.Nowhere → CountsIn R c t
+take_counts : (R : ℕ) (c : Shown) (t : Table) (id : ℕ) (role : Role) (keep : Bool) (x : List ℕ) → Sized t → Distinct t → free_slot_of t < SLOTS → find t id ≡ None → CountsIn R c t
     → CountsIn R (shown_after R c (heard_of (Event.Open id (role_number role) keep) x)) (take_slot t (free_slot_of t) (opened id role keep))
 unfolding opened shown_in request_at
 take_counts R c t id role keep x sized distinct low idle counts i f =
@@ -205,7 +204,7 @@ take_counts R c t id role keep x sized distinct low idle counts i f =
     taken_before : (i ≡ k → ⊥) → (request_at (take_slot t k r) i).state.shown ≡ d
     taken_before ne =
         let kept = other_of_take t k i r ne in
-        let found : find t R ≡ Slot.At i =
+        let found : find t R ≡ Some i =
         only_slot t distinct R i
         (record { low = own.low; slot_taken = sym (taken_of_take_other t k i r ne) ∙ own.slot_taken; has_id = ap (λ (x : Request). x.id) (sym kept) ∙ own.has_id }) in
         let apart : id ≡ R → ⊥ = λ q. let z : ◌≡◌ {A = ℕ} 0 1 = cc (idle, ap (λ n. find t n) q, found) in omega arith in
@@ -249,7 +248,7 @@ some_counts R c st store piece many sized counts =
     t = st.conn.table
 
     -- the request of slot j is put back
-    puts : (j : ℕ) (q : Held) (seen : List Observed) → CountsIn R c t → ((request_at t j).id ≡ R → find t R ≡ Slot.At j) → Counts R (held_at t store j) q seen
+    puts : (j : ℕ) (q : Held) (seen : List Observed) → CountsIn R c t → ((request_at t j).id ≡ R → find t R ≡ Some j) → Counts R (held_at t store j) q seen
         → CountsIn R (shown_after R c seen) (put_request t j q.request)
     puts j q seen now mine w =
         put_counts R c (shown_after R c seen) t j q.request sized now w.id
@@ -272,7 +271,7 @@ some_counts R c st store piece many sized counts =
     go fits used _ (Way.Reads g f e q) same o = subst (λ d. CountsIn R d t) (sym (nameless_counts R c t e (take used piece) q)) (counts fits.is_open)
     go fits used _ (Way.Closes g n k) same o = let z : ◌≡◌ {A = ℕ} 0 1 = cc in absurd (omega arith)
     go fits used _ (Way.Rules h j k e) same o =
-        puts j _ _ (counts fits.is_open) (λ q. subst (λ n. find t n ≡ Slot.At j) (sym (find_at t h.id j e).has_id ∙ q) e)
+        puts j _ _ (counts fits.is_open) (λ q. subst (λ n. find t n ≡ Some j) (sym (find_at t h.id j e).has_id ∙ q) e)
         (header_counts R h.kind h.content (held_at t store j) (take used piece))
     go fits used _ (Way.Feeds Due.Skip j bytes p k low aim some) same o = let now = counts fits.is_open in put_counts R c c t j (request_at t j) sized now refl (now j) (λ f. refl)
     go fits used _ (Way.Feeds Due.Params j bytes p k low aim some) same o = feeds Due.Params j bytes p used (λ x. let z : ◌≡◌ {A = ℕ} 0 1 = cc in omega arith) fits aim some same o

@@ -1,5 +1,5 @@
 -- A fault or an abort touches its own request alone, and no step touches a slot that it is not about.
-use Rattle.std.specs.Prelude.{◌≡◌, refl, ℕ, ◌<◌, true, false, List, length, eqb}
+use Rattle.std.specs.Prelude.{◌≡◌, refl, ℕ, ◌<◌, true, false, List, length, eqb, Some}
 use Rattle.std.proofs.Common.{sym, ap, ◌∙◌, arith}
 use Rattle.std.proofs.lemmas.List.{length-replicate}
 use Rattle.wire.specs.Test.{by_test}
@@ -13,7 +13,6 @@ use Rattle.connection.specs.declared.request.RequestState.{RequestState}
 use Rattle.connection.specs.declared.request.Due.{Due}
 use Rattle.connection.specs.declared.request.Request.{Request}
 use Rattle.connection.specs.declared.state.Table.{Table}
-use Rattle.connection.specs.declared.state.Slot.{Slot}
 use Rattle.connection.specs.declared.state.Target.{Target}
 use Rattle.connection.specs.declared.state.Frame.{Frame}
 use Rattle.connection.specs.Sizes.{SLOTS, AREA, STORE}
@@ -47,14 +46,14 @@ module _ (st : State) (store : List ℕ) (i : ℕ) (full : length store ≡ STOR
       }
 
 -- A step that leaves the connection open leaves every slot alone but the one that it is about.
-pub step_other_slots : (st : State) (store piece : List ℕ) (j : ℕ) → (concerned st piece ≡ Slot.At j → ⊥) → (stepped st store piece).state.conn.«open» ≡ true
+pub step_other_slots : (st : State) (store piece : List ℕ) (j : ℕ) → (concerned st piece ≡ Some j → ⊥) → (stepped st store piece).state.conn.«open» ≡ true
     → Untouched st store j (stepped st store piece)
 unfolding closes on_active of_request
 step_other_slots st store piece j apart =
     by_way (λ (s : Stepped). s.state.conn.«open» ≡ true → Untouched st store j s) st store piece (λ n o. record { request = refl; area = refl; slot_taken = refl }) go
   where
-    other : (i : ℕ) → concerned st piece ≡ Slot.At i → j ≡ i → ⊥
-    other i k q = apart (k ∙ ap (λ (n : ℕ). Slot.At n) (sym q))
+    other : (i : ℕ) → concerned st piece ≡ Some i → j ≡ i → ⊥
+    other i k q = apart (k ∙ ap (λ (n : ℕ). Some n) (sym q))
 
     go : Fits st.conn store → (used : ℕ) (l : Left) → Way st store (concerned st piece) l → l.conn.«open» ≡ true → Untouched st store j (leaves used l)
     go fits used _ (Way.Reads g f e q) o = record { request = refl; area = refl; slot_taken = refl }
@@ -87,7 +86,7 @@ content_spends_none Due.Data bytes h = refl
 
 -- only a header spends a request
 by_header : (P : Stepped → Type 0) (st : State) (store piece : List ℕ)
-    → ((used : ℕ) (h : Header) (i : ℕ) → length store ≡ STORE → find st.conn.table h.id ≡ Slot.At i → P (leaves used (on_active st store h i)))
+    → ((used : ℕ) (h : Header) (i : ℕ) → length store ≡ STORE → find st.conn.table h.id ≡ Some i → P (leaves used (on_active st store h i)))
     → is_final (stepped st store piece).event ≡ true → is_closing (stepped st store piece).event ≡ false → P (stepped st store piece)
 unfolding closes of_request
 by_header P st store piece spent =
@@ -102,12 +101,12 @@ by_header P st store piece spent =
     go fits used _ (Way.Takes id role keep frame k low idle) f c = let z : ◌≡◌ {A = ℕ} 0 1 = cc in absurd (omega arith)
 
 -- the slot found has the id of its request
-id_found : (t : Table) (id i : ℕ) → find t id ≡ Slot.At i → (request_at t i).id ≡ id
+id_found : (t : Table) (id i : ℕ) → find t id ≡ Some i → (request_at t i).id ≡ id
 unfolding request_at
 id_found t id i e = (find_at t id i e).has_id
 
 -- what a header leaves where the rules skip the rest of its record
-only_rules : (st : State) (store : List ℕ) (h : Header) (i used : ℕ) → Sized st.conn.table → length store ≡ STORE → find st.conn.table h.id ≡ Slot.At i
+only_rules : (st : State) (store : List ℕ) (h : Header) (i used : ℕ) → Sized st.conn.table → length store ≡ STORE → find st.conn.table h.id ≡ Some i
     → (r : Ruled) → on_header h.kind h.content (held_at st.conn.table store i) ≡ r → r.due ≡ Due.Skip → length r.held.area ≡ AREA
     → (q : Request) (a : List ℕ) → r.held.request ≡ q → r.held.area ≡ a → Only st store i q a (leaves used (on_active st store h i))
 unfolding on_active
@@ -180,7 +179,7 @@ life_alone m l = (refl, refl, refl, refl, refl, refl, refl, refl)
 -- life, its length and its counts are 0 and its area zeros.
 abbrev pub FaultAlone : State → List ℕ → ℕ → Cause → Stepped → Type 0
 FaultAlone st store id cause s =
-    (i : ℕ) × (find st.conn.table id ≡ Slot.At i) × (is_fault cause ≡ true)
+    (i : ℕ) × (find st.conn.table id ≡ Some i) × (is_fault cause ≡ true)
     × Only st store i (record { id = id; length = 0; state = with_shown (with_life (request_at st.conn.table i).state Life.Faulted) unshown }) (zeros AREA) s
 
 -- Where a step tells a fault, it is one of its own request alone.
@@ -207,7 +206,7 @@ fault_own_request st store piece id cause sized e =
 -- stays.
 abbrev pub AbortAlone : State → List ℕ → ℕ → Stepped → Type 0
 AbortAlone st store id s =
-    (i : ℕ) × (find st.conn.table id ≡ Slot.At i)
+    (i : ℕ) × (find st.conn.table id ≡ Some i)
     × Only st store i (record { id = id; length = (request_at st.conn.table i).length; state = with_life (request_at st.conn.table i).state Life.Aborted })
     (area_at store i) s
 

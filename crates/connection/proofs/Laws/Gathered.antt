@@ -1,5 +1,6 @@
 -- Gathered bytes past the count never matter: what a step answers does not depend on them.
-use Rattle.std.specs.Prelude.{◌≡◌, Bool, true, false, length, take, drop, ltb, eqb, if◌then◌else◌}
+use Rattle.connection.specs.Slots.{Slot}
+use Rattle.std.specs.Prelude.{◌≡◌, Bool, true, false, length, take, drop, ltb, eqb, if◌then◌else◌, Some, None}
 use Rattle.std.proofs.Math.Path.{refl}
 use Rattle.std.proofs.Common.{sym, ap, ◌∙◌, arith, length-append, take_at, eqb-true}
 use Prim.Native.Nat.{ℕ, ◌+◌, ◌≤◌, min}
@@ -18,7 +19,6 @@ use Rattle.record_reader.specs.declared.Advanced.{Advanced}
 use Rattle.pair_list.specs.List.{well_formed, broken_at}
 use Rattle.connection.specs.declared.request.Role.{Role}
 use Rattle.connection.specs.declared.request.Due.{Due}
-use Rattle.connection.specs.declared.state.Slot.{Slot}
 use Rattle.connection.specs.declared.state.Target.{Target}
 use Rattle.connection.specs.declared.state.Frame.{Frame}
 use Rattle.connection.specs.declared.state.Conn.{Conn}
@@ -128,9 +128,9 @@ module _ (c : Conn) (g g' store : List ℕ) where
 
   placed_agree : (h : Header) (k : Slot) → Agree g g' (on_slot k (on_active one store h) (on_inactive one store h)) (on_slot k (on_active two store h) (on_inactive two store h))
   unfolding on_active
-  placed_agree h (Slot.At i) =
+  placed_agree h (Some i) =
       record { conn = refl; store = refl; event = refl; alike = alike_none (target_if h.content _) g g'; long = refl; long' = refl }
-  placed_agree h Slot.Nowhere = inactive_agree h
+  placed_agree h None = inactive_agree h
 
   judged_agree : (h : Header) → Agree g g' (judged one store h) (judged two store h)
   unfolding judged

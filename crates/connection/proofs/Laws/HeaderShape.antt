@@ -1,5 +1,6 @@
 -- What a header leaves is in shape.
-use Rattle.std.specs.Prelude.{◌≡◌, refl, ℕ, ◌≤◌, ◌<◌, ltb, eqb}
+use Rattle.connection.specs.Slots.{Slot}
+use Rattle.std.specs.Prelude.{◌≡◌, refl, ℕ, ◌≤◌, ◌<◌, ltb, eqb, Some, None}
 use mathlib.Core.List.{List, []}
 use Rattle.std.proofs.Common.{arith}
 use borrow.Author.Tests.{ltb-false, eqb-true, eqb-false}
@@ -8,7 +9,6 @@ use Rattle.record.specs.declared.header.Header.{Header}
 use Rattle.connection.specs.declared.request.Request.{Request}
 use Rattle.connection.specs.declared.request.Due.{Due}
 use Rattle.connection.specs.declared.state.Table.{Table}
-use Rattle.connection.specs.declared.state.Slot.{Slot}
 use Rattle.connection.specs.declared.state.Target.{Target}
 use Rattle.connection.specs.Sizes.{AREA, QUERY}
 use Rattle.connection.specs.Request.{on_header}
@@ -47,7 +47,7 @@ module _ (st : State) (store : List ℕ) (before : Good st.conn) (h : Header) (f
       (λ c. good_reads st.conn before (frame_after h Target.Query) (good_behind _ h Target.Query fits (λ _. omega (arith, ltb-false QUERY h.content b))))))
       (λ a. good_reads st.conn before (frame_after h Target.Skip) (good_behind _ h Target.Skip fits (λ _. tt)))
 
-  good_inactive : (h.id ≡ 0 → ⊥) → find st.conn.table h.id ≡ Slot.Nowhere → Good (on_inactive st store h).conn
+  good_inactive : (h.id ≡ 0 → ⊥) → find st.conn.table h.id ≡ None → Good (on_inactive st store h).conn
   unfolding on_inactive
   good_inactive some inactive =
       either (eqb h.kind BEGIN_REQUEST) _ _
@@ -65,7 +65,7 @@ module _ (st : State) (store : List ℕ) (before : Good st.conn) (h : Header) (f
   aimed_due Due.Stdin i r u room = use_put st.conn.table i i r u
   aimed_due Due.Data i r u room = use_put st.conn.table i i r u
 
-  good_active : (i : ℕ) → find st.conn.table h.id ≡ Slot.At i → Good (on_active st store h i).conn
+  good_active : (i : ℕ) → find st.conn.table h.id ≡ Some i → Good (on_active st store h i).conn
   unfolding on_active
   good_active i e =
       let u = find_at st.conn.table h.id i e in
@@ -86,5 +86,5 @@ module _ (st : State) (store : List ℕ) (before : Good st.conn) (h : Header) (f
       (λ a. good_closes st store (Plain 11))
     where
       go : (h.id ≡ 0 → ⊥) → (s : Slot) → find st.conn.table h.id ≡ s → Good (on_slot s (on_active st store h) (on_inactive st store h)).conn
-      go some (Slot.At i) e = good_active i e
-      go some Slot.Nowhere e = good_inactive some e
+      go some (Some i) e = good_active i e
+      go some None e = good_inactive some e

@@ -1,6 +1,7 @@
 -- The events of headers, of BEGIN bodies and of queries show no bytes: what they tell does not depend on the bytes
 -- they came with.
-use Rattle.std.specs.Prelude.{ℕ, ◌≡◌, refl, List, [], ltb, eqb}
+use Rattle.connection.specs.Slots.{Slot}
+use Rattle.std.specs.Prelude.{ℕ, ◌≡◌, refl, List, [], ltb, eqb, Some, None}
 use Rattle.wire.specs.Test.{by_test}
 use Rattle.record.specs.Names.{VERSION, BEGIN_REQUEST, GET_VALUES, RESPONDER, AUTHORIZER, FILTER}
 use Rattle.record.specs.declared.header.Header.{Header}
@@ -8,7 +9,6 @@ use Rattle.record.specs.declared.body.BeginBody.{BeginBody}
 use Rattle.record_reader.specs.declared.Position.{Position}
 use Rattle.pair_list.specs.List.{well_formed}
 use Rattle.connection.specs.declared.request.Role.{Role}
-use Rattle.connection.specs.declared.state.Slot.{Slot}
 use Rattle.connection.specs.declared.state.Frame.{Frame}
 use Rattle.connection.specs.Sizes.{SLOTS, QUERY}
 use Rattle.connection.specs.Event.{Event}
@@ -54,8 +54,8 @@ plain_judged st store h x y =
         by_test (eqb h.kind BEGIN_REQUEST) (λ t. by_test (eqb h.content 8) (λ q. simp (t, q)) (λ q. simp (t, q))) (λ t. simp t)
 
     placed : (k : Slot) → notes (on_slot k (on_active st store h) (on_inactive st store h)).event x ≡ notes (on_slot k (on_active st store h) (on_inactive st store h)).event y
-    placed (Slot.At i) = plain_header h.kind h.content (held_at st.conn.table store i) x y
-    placed Slot.Nowhere = inactive
+    placed (Some i) = plain_header h.kind h.content (held_at st.conn.table store i) x y
+    placed None = inactive
 
 plain_opens : (st : State) (store : List ℕ) (id : ℕ) (b : BeginBody) (role : Role) (f : Frame) → Plain (opens st store id b role f).event
 unfolding opens

@@ -1,8 +1,7 @@
 -- A step that tells that a request is ready tells the length of its list.
-use Rattle.std.specs.Prelude.{◌≡◌, ℕ, List}
+use Rattle.std.specs.Prelude.{◌≡◌, ℕ, List, Some}
 use Rattle.std.proofs.Common.{sym, ◌∙◌, subst, arith}
 use Rattle.connection.specs.declared.request.Due.{Due}
-use Rattle.connection.specs.declared.state.Slot.{Slot}
 use Rattle.connection.specs.Event.{Event}
 use Rattle.connection.specs.Request.{Held, Ruled, faulted, aborted, turned, on_header}
 use Rattle.connection.specs.Slots.{request_at, held_at, find}
@@ -27,7 +26,7 @@ ready_rule kind m h id n =
 pub record ReadyWith (st : State) (store : List ℕ) (id n : ℕ) : Type 0 where
   pub fits : Fits st.conn store
   pub slot : ℕ
-  pub found : find st.conn.table id ≡ Slot.At slot
+  pub found : find st.conn.table id ≡ Some slot
   pub length : (request_at st.conn.table slot).length ≡ n
 
 -- Where a step tells that a request is ready, it tells the length of its list.

@@ -1,15 +1,14 @@
 -- The refusal of every call is that of all its own rows at once, also where the definition tests them one after the
 -- other: the one order governs.
-use Rattle.std.specs.Prelude.{◌≡◌, Bool, not, List, [], ◌∷◌, ℕ, eqb, if◌then◌else◌}
+use Rattle.connection.specs.Slots.{Slot}
+use Rattle.std.specs.Prelude.{◌≡◌, Bool, not, List, [], ◌∷◌, ℕ, eqb, if◌then◌else◌, Some, None, Option}
 use Rattle.std.proofs.Math.Path.{refl}
 use Rattle.std.proofs.Common.{sym, ◌∙◌, arith, eqb-true}
 use Rattle.std.proofs.Math.Bool.{true, false}
 use Rattle.std.proofs.Math.ListN.{length}
 use Rattle.wire.specs.Test.{by_test, ◌<?◌, ◌=?◌}
 use Rattle.pair_list.specs.List.{first_named, pair_number}
-use Rattle.pair_list.specs.declared.Found.{Found}
 use Rattle.connection.specs.declared.request.Request.{Request}
-use Rattle.connection.specs.declared.state.Slot.{Slot}
 use Rattle.connection.specs.declared.state.Conn.{Conn}
 use Rattle.connection.specs.declared.answer.Output.{Output}
 use Rattle.connection.specs.Sizes.{SLOTS, STORE}
@@ -20,6 +19,7 @@ use Rattle.connection.specs.Slots.{request_at, held_at, find, on_slot, is_found}
 use Rattle.connection.specs.Shape.{in_shape}
 use Rattle.connection.specs.Step.{State, advances, step_refusal, stepped, started}
 use Rattle.connection.specs.Calls as C
+use Rattle.pairs.specs.declared.pair.Pair.{Pair}
 
 -- ---- the order
 -- Of rows that hold the first counts, in the order 2, 9, 1, 3, 4, 5, 7, 8, 6, 10; where none holds the number is 0.
@@ -69,9 +69,9 @@ abbrev pub of_slot : Conn → ℕ → (ℕ → Bool) → Bool → Bool
 of_slot c id test absent = on_slot (find c.table id) test absent
 
 -- no pair was found
-abbrev pub is_missing : Found → Bool
-is_missing (Found.At p) = false
-is_missing Found.Nothing = true
+abbrev pub is_missing : Option Pair → Bool
+is_missing (Some p) = false
+is_missing None = true
 
 -- ---- the numbers of refusal in answers, 0 for none
 abbrev pub source_number : Of.Source → ℕ
@@ -109,7 +109,7 @@ nested number refused_by law false false false true rest inner f = law 3
 nested number refused_by law false false false false rest inner f = f refl
 
 module _ {A : Type 0} (number : A → ℕ) (refused_by : ℕ → A) (law : (n : ℕ) → number (refused_by n) ≡ n) (c : Conn) (id : ℕ) (rest : Slot → List Row) (inner : ℕ → A)
-    (answers : (i : ℕ) → number (inner i) ≡ first_in late_rows (rest (Slot.At i))) where
+    (answers : (i : ℕ) → number (inner i) ≡ first_in late_rows (rest (Some i))) where
   -- a call that is lent the store
   lent_nested : (store : List ℕ) → number (if C.lent_refusal c store id =? 0 then inner (C.slot_of c id) else refused_by (C.lent_refusal c store id))
       ≡ refusal (lent_rows c store id (rest (find c.table id)))
@@ -118,10 +118,10 @@ module _ {A : Type 0} (number : A → ℕ) (refused_by : ℕ → A) (law : (n : 
     where
       go : (s : Slot) → find c.table id ≡ s → number (if C.lent_refusal c store id =? 0 then inner (C.slot_of c id) else refused_by (C.lent_refusal c store id))
           ≡ refusal (lent_rows c store id (rest (find c.table id)))
-      go (Slot.At i) e =
-          rw e (nested number refused_by law (not (length store =? STORE)) (not (in_shape c)) (not c.«open») false (rest (Slot.At i)) (inner i) (λ q. answers i))
-      go Slot.Nowhere e =
-          rw e (nested number refused_by law (not (length store =? STORE)) (not (in_shape c)) (not c.«open») true (rest Slot.Nowhere) (inner SLOTS) (λ q. true_false q))
+      go (Some i) e =
+          rw e (nested number refused_by law (not (length store =? STORE)) (not (in_shape c)) (not c.«open») false (rest (Some i)) (inner i) (λ q. answers i))
+      go None e =
+          rw e (nested number refused_by law (not (length store =? STORE)) (not (in_shape c)) (not c.«open») true (rest None) (inner SLOTS) (λ q. true_false q))
 
   -- a call that is not
   call_nested : number (if C.call_refusal c id =? 0 then inner (C.slot_of c id) else refused_by (C.call_refusal c id))
@@ -131,19 +131,19 @@ module _ {A : Type 0} (number : A → ℕ) (refused_by : ℕ → A) (law : (n : 
     where
       go : (s : Slot) → find c.table id ≡ s → number (if C.call_refusal c id =? 0 then inner (C.slot_of c id) else refused_by (C.call_refusal c id))
           ≡ refusal ((2 when false) ∷ call_rows c id (rest (find c.table id)))
-      go (Slot.At i) e = rw e (nested number refused_by law false (not (in_shape c)) (not c.«open») false (rest (Slot.At i)) (inner i) (λ q. answers i))
-      go Slot.Nowhere e = rw e (nested number refused_by law false (not (in_shape c)) (not c.«open») true (rest Slot.Nowhere) (inner SLOTS) (λ q. true_false q))
+      go (Some i) e = rw e (nested number refused_by law false (not (in_shape c)) (not c.«open») false (rest (Some i)) (inner i) (λ q. answers i))
+      go None e = rw e (nested number refused_by law false (not (in_shape c)) (not c.«open») true (rest None) (inner SLOTS) (λ q. true_false q))
 
 -- what a request answers itself
-source_inner : (unready : Bool) (f : Found) → source_number (if unready then Of.SourceRefused 4 else Of.on_found f (λ p. Of.FromStore) Of.FromFallback) ≡ refusal ((4 when unready) ∷ [])
+source_inner : (unready : Bool) (f : Option Pair) → source_number (if unready then Of.SourceRefused 4 else Of.on_found f (λ p. Of.FromStore) Of.FromFallback) ≡ refusal ((4 when unready) ∷ [])
 source_inner true f = refl
-source_inner false (Found.At p) = refl
-source_inner false Found.Nothing = refl
+source_inner false (Some p) = refl
+source_inner false None = refl
 
-pair_inner : (unready : Bool) (f : Found) → pair_refusal (if unready then Of.PairRefused 4 else Of.on_found f Of.PairIs (Of.PairRefused 7)) ≡ refusal ((4 when unready) ∷ (7 when is_missing f) ∷ [])
+pair_inner : (unready : Bool) (f : Option Pair) → pair_refusal (if unready then Of.PairRefused 4 else Of.on_found f Of.PairIs (Of.PairRefused 7)) ≡ refusal ((4 when unready) ∷ (7 when is_missing f) ∷ [])
 pair_inner true f = refl
-pair_inner false (Found.At p) = refl
-pair_inner false Found.Nothing = refl
+pair_inner false (Some p) = refl
+pair_inner false None = refl
 
 walk_inner : (unready : Bool) (l : List ℕ) → (if unready then Of.no_walk 4 else record { list = l; place = 0; refusal = 0 }).refusal ≡ refusal ((4 when unready) ∷ [])
 walk_inner true l = refl

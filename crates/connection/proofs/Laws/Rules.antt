@@ -1,7 +1,6 @@
 -- What a header can do to its request, case by case: one list of cases for all that is proved of rules 5 to 10.
-use Rattle.std.specs.Prelude.{◌≡◌, ℕ, ◌+◌, ◌≤◌, Bool, true, false, ltb, eqb, if◌then◌else◌}
+use Rattle.std.specs.Prelude.{◌≡◌, ℕ, ◌+◌, ◌≤◌, Bool, true, false, ltb, eqb, if◌then◌else◌, None}
 use Rattle.std.proofs.Math.Path.{refl}
-use Rattle.std.proofs.Math.Option.{none}
 use borrow.Author.Tests.{ltb-false, eqb-true}
 use Rattle.wire.specs.Test.{◌=?◌, by_test}
 use Rattle.record.specs.Names.{BEGIN_REQUEST, ABORT_REQUEST, STDIN, DATA}
@@ -38,7 +37,7 @@ pub data Rule (kind n : ℕ) (h : Held) : Ruled → Type 0 where
   Aborts : is_spent h.request.state.life ≡ false → Rule kind n h (aborted h)
   Params : OnTurn kind h Turn.Params → h.request.length + n ≤ AREA → Rule kind n h (ruled h Due.Params Event.None)
   Breaks : OnTurn kind h Turn.Params → n ≡ 0 → well_formed (list_of h) ≡ false → Rule kind n h (faulted h (At 25 (broken_at (list_of h))))
-  Readies : OnTurn kind h Turn.Params → n ≡ 0 → params_fault (list_of h) ≡ none
+  Readies : OnTurn kind h Turn.Params → n ≡ 0 → params_fault (list_of h) ≡ None
       → Rule kind n h (turned h (after_params h.request.state.role) (Event.Ready h.request.id h.request.length))
   Stdin : OnTurn kind h Turn.Stdin → Rule kind n h (ruled h Due.Stdin Event.None)
   StdinEnds : OnTurn kind h Turn.Stdin → n ≡ 0

@@ -1,12 +1,12 @@
 -- What a state in shape is: the test of row 9 as a record of facts.
-use Rattle.std.specs.Prelude.{◌≡◌, refl, ℕ, zero, suc, ◌+◌, ◌≤◌, ◌<◌, Bool, true, false, not, List, get_or, eqb}
+use Rattle.connection.specs.Slots.{Slot}
+use Rattle.std.specs.Prelude.{◌≡◌, refl, ℕ, zero, suc, ◌+◌, ◌≤◌, ◌<◌, Bool, true, false, not, List, get_or, eqb, None}
 use Rattle.std.proofs.Common.{sym, ◌∙◌, arith, leb-true, ltb-true, eqb-true, le-leb, lt-ltb, eq-eqb, ne_eqb}
 use Rattle.std.proofs.lemmas.Bool.{eqb-false, not-true}
 use Rattle.wire.specs.Test.{by_test, ◌≤?◌, ◌<?◌, ◌=?◌}
 use Rattle.slot_word.specs.Word.{taken}
 use Rattle.record_reader.specs.declared.Position.{Position}
 use Rattle.connection.specs.declared.state.Table.{Table}
-use Rattle.connection.specs.declared.state.Slot.{Slot}
 use Rattle.connection.specs.declared.state.Target.{Target}
 use Rattle.connection.specs.declared.state.Conn.{Conn}
 use Rattle.connection.specs.Fits.{InUse, Aimed}
@@ -55,7 +55,7 @@ record Fit (n : ℕ) (ids lengths : List ℕ) (occupied i : ℕ) : Type 0 where
 -- one slot: what its test says
 record IdFit (n : ℕ) (ids : List ℕ) (occupied i : ℕ) : Type 0 where
   some : taken i occupied ≡ true → get_or ids i 0 ≡ 0 → ⊥
-  alone : taken i occupied ≡ true → find_from n ids occupied (get_or ids i 0) (i + 1) ≡ Slot.Nowhere
+  alone : taken i occupied ≡ true → find_from n ids occupied (get_or ids i 0) (i + 1) ≡ None
 
 id_fit : (n : ℕ) (ids : List ℕ) (occupied i : ℕ) → id_fits ids occupied n i ≡ true → IdFit n ids occupied i
 unfolding id_fits

@@ -1,5 +1,6 @@
 -- What holds of the slots: a request or an area that is put is read back, all others stay; what a slot found is.
-use Rattle.std.specs.Prelude.{◌≡◌, refl, ℕ, zero, suc, ◌+◌, ◌-◌, ◌*◌, ◌≤◌, ◌<◌, false, take, get_or, eqb}
+use Rattle.connection.specs.Slots.{Slot}
+use Rattle.std.specs.Prelude.{◌≡◌, refl, ℕ, zero, suc, ◌+◌, ◌-◌, ◌*◌, ◌≤◌, ◌<◌, false, take, get_or, eqb, Some, None}
 use Rattle.std.proofs.Math.Path.{sym, ap}
 use Rattle.std.proofs.Common.{◌∙◌, length-append, length-drop, length-set, take-append-drop, get_or-set_same, get_or-set_other, drop-drop, drop_at}
 use Rattle.std.proofs.Math.Bool.{true}
@@ -15,7 +16,6 @@ use Rattle.slot_word.specs.Word.{taken, with_slot, without_slot}
 use Rattle.slot_word.proofs.WordLaws.{with_taken_lem, with_other, without_free, without_other, mark_same, mark_read, mark_other}
 use Rattle.connection.specs.declared.request.Request.{Request}
 use Rattle.connection.specs.declared.state.Table.{Table}
-use Rattle.connection.specs.declared.state.Slot.{Slot}
 use Rattle.connection.specs.Sizes.{SLOTS, AREA, STORE}
 use Rattle.connection.specs.Slots.{no_standing, standing_of, no_request, request_at, area_at, put_request, put_area, take_slot, free_slot, holds_id, find_from, find, is_found}
 
@@ -254,7 +254,7 @@ unfolding holds_id
 true_holds ids occupied id i t e = simp t (eq-eqb (get_or ids i 0) id e)
 
 -- What a slot found among n slots is.
-pub found_from : (n : ℕ) (ids : List ℕ) (occupied id i k : ℕ) → find_from n ids occupied id i ≡ Slot.At k → HoldsFrom n ids occupied id i k
+pub found_from : (n : ℕ) (ids : List ℕ) (occupied id i k : ℕ) → find_from n ids occupied id i ≡ Some k → HoldsFrom n ids occupied id i k
 unfolding find_from
 found_from zero ids occupied id i k e = let z : ◌≡◌ {A = ℕ} 0 1 = cc in absurd (omega arith)
 found_from (suc n) ids occupied id i k e =
@@ -271,7 +271,7 @@ found_from (suc n) ids occupied id i k e =
     later h = record { low = omega arith; high = omega arith; slot_taken = h.slot_taken; has_id = h.has_id }
 
 -- Where none is found among n slots, none of them holds the id.
-pub none_from : (n : ℕ) (ids : List ℕ) (occupied id i k : ℕ) → find_from n ids occupied id i ≡ Slot.Nowhere → HoldsFrom n ids occupied id i k → ⊥
+pub none_from : (n : ℕ) (ids : List ℕ) (occupied id i k : ℕ) → find_from n ids occupied id i ≡ None → HoldsFrom n ids occupied id i k → ⊥
 unfolding find_from
 none_from zero ids occupied id i k e h = omega arith
 none_from (suc n) ids occupied id i k e h =
@@ -289,12 +289,12 @@ none_from (suc n) ids occupied id i k e h =
     later q = record { low = omega arith; high = omega arith; slot_taken = h.slot_taken; has_id = h.has_id }
 
 -- Where none of n slots holds the id, none is found.
-pub nowhere_from : (n : ℕ) (ids : List ℕ) (occupied id i : ℕ) → ((k : ℕ) → HoldsFrom n ids occupied id i k → ⊥) → find_from n ids occupied id i ≡ Slot.Nowhere
+pub nowhere_from : (n : ℕ) (ids : List ℕ) (occupied id i : ℕ) → ((k : ℕ) → HoldsFrom n ids occupied id i k → ⊥) → find_from n ids occupied id i ≡ None
 nowhere_from n ids occupied id i none = go (find_from n ids occupied id i) refl
   where
-    go : (s : Slot) → find_from n ids occupied id i ≡ s → s ≡ Slot.Nowhere
-    go (Slot.At k) e = absurd (none k (found_from n ids occupied id i k e))
-    go Slot.Nowhere e = refl
+    go : (s : Slot) → find_from n ids occupied id i ≡ s → s ≡ None
+    go (Some k) e = absurd (none k (found_from n ids occupied id i k e))
+    go None e = refl
 
 -- To hold an id is to hold it among the SLOTS slots from the first on.
 pub all_slots : (t : Table) (id i : ℕ) → Holds t id i → HoldsFrom SLOTS t.ids t.occupied id 0 i
@@ -305,15 +305,15 @@ pub of_all_slots : (t : Table) (id i : ℕ) → HoldsFrom SLOTS t.ids t.occupied
 of_all_slots t id i h = record { low = omega arith; slot_taken = h.slot_taken; has_id = h.has_id }
 
 -- The slot found holds the id.
-pub find_at : (t : Table) (id i : ℕ) → find t id ≡ Slot.At i → Holds t id i
+pub find_at : (t : Table) (id i : ℕ) → find t id ≡ Some i → Holds t id i
 find_at t id i e = of_all_slots t id i (found_from SLOTS t.ids t.occupied id 0 i e)
 
 -- Where none is found, no slot holds the id.
-pub find_nowhere : (t : Table) (id : ℕ) → find t id ≡ Slot.Nowhere → (i : ℕ) → Holds t id i → ⊥
+pub find_nowhere : (t : Table) (id : ℕ) → find t id ≡ None → (i : ℕ) → Holds t id i → ⊥
 find_nowhere t id e i h = none_from SLOTS t.ids t.occupied id 0 i e (all_slots t id i h)
 
 -- Where no slot holds the id, none is found.
-pub nowhere_find : (t : Table) (id : ℕ) → ((i : ℕ) → Holds t id i → ⊥) → find t id ≡ Slot.Nowhere
+pub nowhere_find : (t : Table) (id : ℕ) → ((i : ℕ) → Holds t id i → ⊥) → find t id ≡ None
 nowhere_find t id none =
     nowhere_from SLOTS t.ids t.occupied id 0 (λ k h. none k (of_all_slots t id k h))
 
@@ -322,19 +322,19 @@ abbrev pub Distinct : Table → Type 0
 Distinct t = (id i j : ℕ) → Holds t id i → Holds t id j → i ≡ j
 
 -- With the ids distinct, the slot that holds an id is the one found.
-pub only_slot : (t : Table) → Distinct t → (id i : ℕ) → Holds t id i → find t id ≡ Slot.At i
+pub only_slot : (t : Table) → Distinct t → (id i : ℕ) → Holds t id i → find t id ≡ Some i
 only_slot t distinct id i h = go (find t id) refl
   where
-    go : (s : Slot) → find t id ≡ s → s ≡ Slot.At i
-    go (Slot.At k) e = ap (λ (n : ℕ). Slot.At n) (distinct id k i (find_at t id k e) h)
-    go Slot.Nowhere e = absurd (find_nowhere t id e i h)
+    go : (s : Slot) → find t id ≡ s → s ≡ Some i
+    go (Some k) e = ap (λ (n : ℕ). Some n) (distinct id k i (find_at t id k e) h)
+    go None e = absurd (find_nowhere t id e i h)
 
 -- The test for a slot found: where it is true there is one.
-pub found_true : (s : Slot) → is_found s ≡ true → (i : ℕ) × (s ≡ Slot.At i)
-found_true (Slot.At i) e = (i, refl)
-found_true Slot.Nowhere e = let z : ◌≡◌ {A = ℕ} 0 1 = cc in absurd (omega arith)
+pub found_true : (s : Slot) → is_found s ≡ true → (i : ℕ) × (s ≡ Some i)
+found_true (Some i) e = (i, refl)
+found_true None e = let z : ◌≡◌ {A = ℕ} 0 1 = cc in absurd (omega arith)
 
 -- Where it is false there is none.
-pub found_false : (s : Slot) → is_found s ≡ false → s ≡ Slot.Nowhere
-found_false (Slot.At i) e = let z : ◌≡◌ {A = ℕ} 0 1 = cc in absurd (omega arith)
-found_false Slot.Nowhere e = refl
+pub found_false : (s : Slot) → is_found s ≡ false → s ≡ None
+found_false (Some i) e = let z : ◌≡◌ {A = ℕ} 0 1 = cc in absurd (omega arith)
+found_false None e = refl

@@ -1,9 +1,8 @@
 -- While a request is spent, a step tells nothing of it.
-use Rattle.std.specs.Prelude.{◌≡◌, refl, List, true, false, ℕ, ◌<◌}
+use Rattle.std.specs.Prelude.{◌≡◌, refl, List, true, false, ℕ, ◌<◌, Some, None}
 use Rattle.std.proofs.Common.{ap, sym, ◌∙◌, subst, arith}
 use Rattle.connection.specs.declared.request.Due.{Due}
 use Rattle.connection.specs.declared.state.Table.{Table}
-use Rattle.connection.specs.declared.state.Slot.{Slot}
 use Rattle.connection.specs.Event.{Event}
 use Rattle.connection.specs.Request.{Held, Ruled, is_spent, faulted, aborted, turned, on_header}
 use Rattle.connection.specs.Slots.{request_at, held_at, find}
@@ -17,9 +16,9 @@ use Rattle.connection.proofs.Laws.Ways.{Nameless, Way, concerned, by_way}
 use Rattle.connection.proofs.Laws.Rules.{by_rule}
 
 -- Of which request does an event speak that is none of an active request's?
-nameless_inactive : (t : Table) (e : Event) (R : ℕ) → 0 < R → Nameless t e → event_id e ≡ R → find t R ≡ Slot.Nowhere
+nameless_inactive : (t : Table) (e : Event) (R : ℕ) → 0 < R → Nameless t e → event_id e ≡ R → find t R ≡ None
 nameless_inactive t Event.None R r q d = absurd (omega arith)
-nameless_inactive t (Event.Refuse id status) R r q d = subst (λ k. find t k ≡ Slot.Nowhere) d q
+nameless_inactive t (Event.Refuse id status) R r q d = subst (λ k. find t k ≡ None) d q
 nameless_inactive t (Event.Query conns reqs mpxs) R r q d = absurd (omega arith)
 nameless_inactive t (Event.Unknown kind) R r q d = absurd (omega arith)
 nameless_inactive t (Event.Open _ _ _) R r q d = elim q [ ]
@@ -55,15 +54,15 @@ DueLive st i =
     → is_spent (request_at st.conn.table i).state.life ≡ false
 
 -- Where R is spent, and content is due to it only if it were not, a step tells nothing of R.
-pub spent_step : (st : State) (store piece : List ℕ) (R i : ℕ) → 0 < R → find st.conn.table R ≡ Slot.At i → is_spent (request_at st.conn.table i).state.life ≡ true → DueLive st i
+pub spent_step : (st : State) (store piece : List ℕ) (R i : ℕ) → 0 < R → find st.conn.table R ≡ Some i → is_spent (request_at st.conn.table i).state.life ≡ true → DueLive st i
     → event_id (stepped st store piece).event ≡ R → ⊥
 unfolding closes on_active of_request request_at
 spent_step st store piece R i r found spent live = by_way (λ (s : Stepped). event_id s.event ≡ R → ⊥) st store piece (λ n e. omega arith) go
   where
-    same_slot : (j : ℕ) → find st.conn.table R ≡ Slot.At j → j ≡ i
+    same_slot : (j : ℕ) → find st.conn.table R ≡ Some j → j ≡ i
     same_slot j e = cc (e, found)
 
-    active : find st.conn.table R ≡ Slot.Nowhere → ⊥
+    active : find st.conn.table R ≡ None → ⊥
     active e = let z : ◌≡◌ {A = ℕ} 0 1 = cc (e, found) in omega arith
 
     due : Fits st.conn store → (d : Due) (j : ℕ) → (d ≡ Due.Skip → ⊥) → st.conn.frame.target ≡ due_to d j → 0 < st.conn.frame.position.content → (request_at st.conn.table j).id ≡ R → ⊥
@@ -90,4 +89,4 @@ spent_step st store piece R i r found spent live = by_way (λ (s : Stepped). eve
     go fits used _ (Way.Feeds Due.Params j bytes p k low aim some) d = omega arith
     go fits used _ (Way.Feeds Due.Stdin j bytes p k low aim some) d = due fits Due.Stdin j (λ x. let z : ◌≡◌ {A = ℕ} 0 1 = cc in omega arith) aim some d
     go fits used _ (Way.Feeds Due.Data j bytes p k low aim some) d = due fits Due.Data j (λ x. let z : ◌≡◌ {A = ℕ} 0 1 = cc in omega arith) aim some d
-    go fits used _ (Way.Takes id role keep f k low idle) d = active (subst (λ w. find st.conn.table w ≡ Slot.Nowhere) d idle)
+    go fits used _ (Way.Takes id role keep f k low idle) d = active (subst (λ w. find st.conn.table w ≡ None) d idle)

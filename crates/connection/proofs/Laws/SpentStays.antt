@@ -1,5 +1,6 @@
 -- A step leaves a spent request in its slot, with its id and its life, unless it closes the connection.
-use Rattle.std.specs.Prelude.{◌≡◌, refl, List, Bool, true, ℕ, ◌+◌, ◌≤◌, length, eqb, leb}
+use Rattle.connection.specs.Slots.{Slot}
+use Rattle.std.specs.Prelude.{◌≡◌, refl, List, Bool, true, ℕ, ◌+◌, ◌≤◌, length, eqb, leb, Some, None}
 use Rattle.std.proofs.Common.{ap, sym, ◌∙◌, subst, arith, eqb-true}
 use Rattle.std.proofs.lemmas.Bool.{eqb-false}
 use Rattle.wire.specs.Test.{by_test}
@@ -8,7 +9,6 @@ use Rattle.connection.specs.declared.request.Request.{Request}
 use Rattle.connection.specs.declared.request.Role.{Role}
 use Rattle.connection.specs.declared.request.Due.{Due}
 use Rattle.connection.specs.declared.state.Table.{Table}
-use Rattle.connection.specs.declared.state.Slot.{Slot}
 use Rattle.connection.specs.Sizes.{SLOTS, AREA}
 use Rattle.connection.specs.Request.{Held, is_spent, on_header, grown, on_content, opened}
 use Rattle.connection.specs.Slots.{request_at, held_at, put_request, take_slot, free_slot_of, find}
@@ -22,7 +22,7 @@ use Rattle.connection.proofs.Laws.Ways.{Way, concerned, by_way}
 
 -- The id R is found in slot i as before, and the request there has the same life.
 pub record SameLife (t : Table) (R i : ℕ) (u : Table) : Type 0 where
-  pub found : find u R ≡ Slot.At i
+  pub found : find u R ≡ Some i
   pub life : (request_at u i).state.life ≡ (request_at t i).state.life
 
 -- a request with the id and the life of another
@@ -31,7 +31,7 @@ pub record Like (r q : Request) : Type 0 where
   pub life : q.state.life ≡ r.state.life
 
 -- A request put into slot j, with the id of the one that it held; and with its life, if it is R's slot.
-pub put_same_life : (t : Table) (R i j : ℕ) (r : Request) → Sized t → find t R ≡ Slot.At i → r.id ≡ (request_at t j).id → (j ≡ i → r.state.life ≡ (request_at t j).state.life)
+pub put_same_life : (t : Table) (R i j : ℕ) (r : Request) → Sized t → find t R ≡ Some i → r.id ≡ (request_at t j).id → (j ≡ i → r.state.life ≡ (request_at t j).state.life)
     → SameLife t R i (put_request t j r)
 put_same_life t R i j r sized found id life =
     record {
@@ -64,7 +64,7 @@ unfolding opened
 opened_id id role keep = refl
 
 -- an id is found where it was after another's slot is taken
-find_take : (t : Table) (R i k : ℕ) (r : Request) → Sized t → Distinct t → find t R ≡ Slot.At i → find t r.id ≡ Slot.Nowhere → (i ≡ k → ⊥) → find (take_slot t k r) R ≡ Slot.At i
+find_take : (t : Table) (R i k : ℕ) (r : Request) → Sized t → Distinct t → find t R ≡ Some i → find t r.id ≡ None → (i ≡ k → ⊥) → find (take_slot t k r) R ≡ Some i
 unfolding request_at
 find_take t R i k r sized distinct found idle other = go (find (take_slot t k r) R) refl
   where
@@ -79,9 +79,9 @@ find_take t R i k r sized distinct found idle other = go (find (take_slot t k r)
           has_id = ap (λ (x : Request). x.id) (other_of_take t k i r other) ∙ own.has_id;
         }
 
-    go : (s : Slot) → find (take_slot t k r) R ≡ s → s ≡ Slot.At i
-    go Slot.Nowhere e = absurd (find_nowhere (take_slot t k r) R e i stays_held)
-    go (Slot.At j) e =
+    go : (s : Slot) → find (take_slot t k r) R ≡ s → s ≡ Some i
+    go None e = absurd (find_nowhere (take_slot t k r) R e i stays_held)
+    go (Some j) e =
         let h = find_at (take_slot t k r) R j e in
         by_test (eqb j k)
         (λ q.
@@ -91,7 +91,7 @@ find_take t R i k r sized distinct found idle other = go (find (take_slot t k r)
         absurd (omega arith))
         (λ q.
         let ne = eqb-false j k q in
-        ap (λ (n : ℕ). Slot.At n)
+        ap (λ (n : ℕ). Some n)
         (distinct R j i
         (record {
           low = h.low;
@@ -101,7 +101,7 @@ find_take t R i k r sized distinct found idle other = go (find (take_slot t k r)
 
 -- A spent request, and a step that leaves the connection open: it is found in its slot as before, with its id and its
 -- life.
-pub spent_stays : (st : State) (store piece : List ℕ) (R i : ℕ) → Sized st.conn.table → find st.conn.table R ≡ Slot.At i
+pub spent_stays : (st : State) (store piece : List ℕ) (R i : ℕ) → Sized st.conn.table → find st.conn.table R ≡ Some i
     → is_spent (request_at st.conn.table i).state.life ≡ true → (stepped st store piece).state.conn.«open» ≡ true → SameLife st.conn.table R i (stepped st store piece).state.conn.table
 unfolding closes on_active of_request
 spent_stays st store piece R i sized found spent =
@@ -129,6 +129,6 @@ spent_stays st store piece R i sized found spent =
         let own = find_at t R i found in
         let other : i ≡ free_slot_of t → ⊥ = λ q. let z : ◌≡◌ {A = ℕ} 0 1 = cc (least_free SLOTS t.occupied low, own.slot_taken) in omega arith in
         record {
-          found = find_take t R i (free_slot_of t) r sized (shaped st.conn fits.shape).table.distinct found (subst (λ n. find t n ≡ Slot.Nowhere) (opened_id id role keep) idle) other;
+          found = find_take t R i (free_slot_of t) r sized (shaped st.conn fits.shape).table.distinct found (subst (λ n. find t n ≡ None) (opened_id id role keep) idle) other;
           life = ap (λ (x : Request). x.state.life) (other_of_take t (free_slot_of t) i r other);
         }

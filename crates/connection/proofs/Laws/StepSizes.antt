@@ -1,5 +1,6 @@
 -- The arrays of a state, the gathered bytes and the store keep their lengths in every step.
-use Rattle.std.specs.Prelude.{ℕ, ◌+◌, ◌<◌, ◌≡◌, true, length, take, ltb, leb, eqb}
+use Rattle.connection.specs.Slots.{Slot}
+use Rattle.std.specs.Prelude.{ℕ, ◌+◌, ◌<◌, ◌≡◌, true, length, take, ltb, leb, eqb, Some, None}
 use Rattle.std.proofs.Math.Path.{refl}
 use Rattle.std.proofs.Common.{◌∙◌, arith, leb-true, eqb-true, eq-eqb}
 use mathlib.Core.List.{List, [], ◌∷◌}
@@ -18,7 +19,6 @@ use Rattle.record_reader.specs.declared.Phase.{Phase}
 use Rattle.pair_list.specs.List.{well_formed, broken_at}
 use Rattle.connection.specs.declared.request.Role.{Role}
 use Rattle.connection.specs.declared.request.Due.{Due}
-use Rattle.connection.specs.declared.state.Slot.{Slot}
 use Rattle.connection.specs.declared.state.Target.{Target}
 use Rattle.connection.specs.declared.state.Frame.{Frame}
 use Rattle.connection.specs.Sizes.{SLOTS, AREA, STORE, QUERY}
@@ -127,8 +127,8 @@ module _ (st : State) (store : List ℕ) (s : Sizes st store) where
       (λ t. simp t (closes_keeps (Plain 11)))
     where
       go : (k : Slot) → find st.conn.table h.id ≡ k → Keeps (on_slot k (on_active st store h) (on_inactive st store h))
-      go (Slot.At i) e = active_keeps h i (find_at st.conn.table h.id i e).low
-      go Slot.Nowhere e = inactive_keeps h
+      go (Some i) e = active_keeps h i (find_at st.conn.table h.id i e).low
+      go None e = inactive_keeps h
 
   -- content
   opens_keeps : (id : ℕ) (b : BeginBody) (role : Role) (f : Frame) → length f.position.header ≡ 8 → length f.body ≡ 8 → Keeps (opens st store id b role f)

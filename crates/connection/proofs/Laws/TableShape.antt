@@ -1,12 +1,11 @@
 -- What keeps a table in shape: a request put back, a slot taken, a slot freed.
-use Rattle.std.specs.Prelude.{◌≡◌, refl, ℕ, ◌≤◌, ◌<◌, true, get_or, eqb}
+use Rattle.std.specs.Prelude.{◌≡◌, refl, ℕ, ◌≤◌, ◌<◌, true, get_or, eqb, None}
 use Rattle.std.proofs.Common.{sym, ap, ◌∙◌, arith, eqb-true}
 use Rattle.std.proofs.lemmas.Bool.{eqb-false}
 use Rattle.wire.specs.Test.{by_test}
 use Rattle.slot_word.specs.Word.{taken}
 use Rattle.connection.specs.declared.request.Request.{Request}
 use Rattle.connection.specs.declared.state.Table.{Table}
-use Rattle.connection.specs.declared.state.Slot.{Slot}
 use Rattle.connection.specs.Sizes.{SLOTS, AREA}
 use Rattle.connection.specs.Slots.{request_at, put_request, take_slot, free_slot, find}
 use Rattle.connection.proofs.Laws.SlotsLaws.{Sized, Holds, put_ids, put_occupied, request_of_put, request_of_other, request_of_take, other_of_take, taken_of_take_other, request_of_free, other_of_free, taken_of_free, taken_of_free_other, find_nowhere}
@@ -72,7 +71,7 @@ module _ (t : Table) (i : ℕ) (r : Request) (sized : Sized t) where
       }
 
   -- A slot taken for an id that is neither 0 nor active keeps the table in shape.
-  pub tidy_take : Tidy t → r.length ≤ AREA → (r.id ≡ 0 → ⊥) → find t r.id ≡ Slot.Nowhere → Tidy (take_slot t i r)
+  pub tidy_take : Tidy t → r.length ≤ AREA → (r.id ≡ 0 → ⊥) → find t r.id ≡ None → Tidy (take_slot t i r)
   tidy_take good fits some inactive =
       record {
         lengths = short t (take_slot t i r) i good (λ h. rw (request_of_take t i r sized h) fits) (λ j ne. other_of_take t i j r ne);

@@ -1,5 +1,6 @@
 -- How a step can end, case by case: one list of ways for all that is proved of every step.
-use Rattle.std.specs.Prelude.{◌≡◌, ℕ, ◌+◌, ◌-◌, ◌<◌, min, Bool, true, false, length, take, ltb, leb, eqb, if◌then◌else◌}
+use Rattle.connection.specs.Slots.{Slot}
+use Rattle.std.specs.Prelude.{◌≡◌, ℕ, ◌+◌, ◌-◌, ◌<◌, min, Bool, true, false, length, take, ltb, leb, eqb, if◌then◌else◌, Some, None}
 use Rattle.std.proofs.Math.Path.{refl}
 use mathlib.Core.List.{List, []}
 use Rattle.std.proofs.Common.{arith, ltb-true, eqb-true}
@@ -15,7 +16,6 @@ use Rattle.machine.specs.Cause.{Cause, Plain, At}
 use Rattle.connection.specs.declared.request.Role.{Role}
 use Rattle.connection.specs.declared.request.Due.{Due}
 use Rattle.connection.specs.declared.state.Table.{Table}
-use Rattle.connection.specs.declared.state.Slot.{Slot}
 use Rattle.connection.specs.declared.state.Target.{Target}
 use Rattle.connection.specs.declared.state.Frame.{Frame}
 use Rattle.connection.specs.declared.state.Conn.{Conn}
@@ -52,7 +52,7 @@ Nameless t (Event.Ready id n) = ⊥
 Nameless t (Event.Data id stream n) = ⊥
 Nameless t (Event.End id stream measure) = ⊥
 Nameless t (Event.Abort id) = ⊥
-Nameless t (Event.Refuse id status) = find t id ≡ Slot.Nowhere
+Nameless t (Event.Refuse id status) = find t id ≡ None
 Nameless t (Event.Fault id n) = ⊥
 Nameless t (Event.Query conns reqs mpxs) = Unit {0}
 Nameless t (Event.Unknown kind) = Unit {0}
@@ -86,11 +86,11 @@ gathering st g = record { conn = st.conn; gathered = g }
 pub data Way (st : State) (store : List ℕ) (k : Slot) : Left → Type 0 where
   Reads : (g : List ℕ) (f : Frame) (e : Event) → Nameless st.conn.table e → Way st store k (reads (gathering st g) store f e)
   Closes : (g : List ℕ) (cause : Cause) → is_close cause ≡ true → Way st store k (closes (gathering st g) store cause)
-  Rules : (h : Header) (i : ℕ) → k ≡ Slot.At i → find st.conn.table h.id ≡ Slot.At i → Way st store k (on_active st store h i)
-  Feeds : (due : Due) (i : ℕ) (bytes : List ℕ) (p : Position) → k ≡ Slot.At i → i < SLOTS → st.conn.frame.target ≡ due_to due i → 0 < st.conn.frame.position.content
+  Rules : (h : Header) (i : ℕ) → k ≡ Some i → find st.conn.table h.id ≡ Some i → Way st store k (on_active st store h i)
+  Feeds : (due : Due) (i : ℕ) (bytes : List ℕ) (p : Position) → k ≡ Some i → i < SLOTS → st.conn.frame.target ≡ due_to due i → 0 < st.conn.frame.position.content
       → Way st store k (of_request st store due i bytes p)
-  Takes : (id : ℕ) (role : Role) (keep : Bool) (f : Frame) → k ≡ Slot.At (free_slot_of st.conn.table) → free_slot_of st.conn.table < SLOTS
-      → find st.conn.table id ≡ Slot.Nowhere
+  Takes : (id : ℕ) (role : Role) (keep : Bool) (f : Frame) → k ≡ Some (free_slot_of st.conn.table) → free_slot_of st.conn.table < SLOTS
+      → find st.conn.table id ≡ None
       → Way st store k
       (record {
         conn = open_with (take_slot st.conn.table (free_slot_of st.conn.table) (opened id role keep)) f;
@@ -135,18 +135,18 @@ module _ (st : State) (store : List ℕ) where
       (λ t. Way.Closes st.gathered (Plain 11) refl)
     where
       go : (k : Slot) → find st.conn.table h.id ≡ k → Way st store k (on_slot k (on_active st store h) (on_inactive st store h))
-      go (Slot.At i) e = Way.Rules h i refl e
-      go Slot.Nowhere e = way_inactive Slot.Nowhere h
+      go (Some i) e = Way.Rules h i refl e
+      go None e = way_inactive None h
 
   -- ---- content
-  way_opens : (id : ℕ) (b : BeginBody) (role : Role) (f : Frame) → find st.conn.table id ≡ Slot.Nowhere → Way st store (Slot.At (free_slot_of st.conn.table)) (opens st store id b role f)
+  way_opens : (id : ℕ) (b : BeginBody) (role : Role) (f : Frame) → find st.conn.table id ≡ None → Way st store (Some (free_slot_of st.conn.table)) (opens st store id b role f)
   unfolding opens
   way_opens id b role f idle =
       fork (ltb (free_slot_of st.conn.table) SLOTS)
       (λ t. Way.Takes id role b.keep f refl (ltb-true (free_slot_of st.conn.table) SLOTS t) idle)
       (λ t. Way.Reads st.gathered f _ idle)
 
-  way_begun : (id : ℕ) (b : BeginBody) (f : Frame) → find st.conn.table id ≡ Slot.Nowhere → Way st store (Slot.At (free_slot_of st.conn.table)) (begun st store id b f)
+  way_begun : (id : ℕ) (b : BeginBody) (f : Frame) → find st.conn.table id ≡ None → Way st store (Some (free_slot_of st.conn.table)) (begun st store id b f)
   unfolding begun
   way_begun id b f idle =
       fork (eqb b.role RESPONDER) (λ t. way_opens id b Role.Responder f idle)
@@ -154,7 +154,7 @@ module _ (st : State) (store : List ℕ) where
       fork (eqb b.role AUTHORIZER) (λ q. way_opens id b Role.Authorizer f idle)
       (λ q. fork (eqb b.role FILTER) (λ r. way_opens id b Role.Filter f idle) (λ r. Way.Reads st.gathered f _ idle)))
 
-  way_begin : (id : ℕ) (bytes : List ℕ) (p : Position) → find st.conn.table id ≡ Slot.Nowhere → Way st store (Slot.At (free_slot_of st.conn.table)) (of_begin st store id bytes p)
+  way_begin : (id : ℕ) (bytes : List ℕ) (p : Position) → find st.conn.table id ≡ None → Way st store (Some (free_slot_of st.conn.table)) (of_begin st store id bytes p)
   unfolding of_begin
   way_begin id bytes p idle = fork (eqb p.content 0) (λ t. way_begun id _ _ idle) (λ t. Way.Reads st.gathered _ Event.None tt)
 
@@ -165,18 +165,18 @@ module _ (st : State) (store : List ℕ) where
 -- ---- a step
 -- the slot that content is for: a BEGIN body's is the one that an opening takes
 abbrev pub slot_for : Target → Table → Slot
-slot_for Target.Skip t = Slot.Nowhere
-slot_for (Target.Begin id) t = Slot.At (free_slot_of t)
-slot_for Target.Query t = Slot.Nowhere
-slot_for (Target.Params i) t = Slot.At i
-slot_for (Target.Stdin i) t = Slot.At i
-slot_for (Target.Data i) t = Slot.At i
+slot_for Target.Skip t = None
+slot_for (Target.Begin id) t = Some (free_slot_of t)
+slot_for Target.Query t = None
+slot_for (Target.Params i) t = Some i
+slot_for (Target.Stdin i) t = Some i
+slot_for (Target.Data i) t = Some i
 
 -- the slot that the bytes of a phase are about
 abbrev pub slot_in : Phase → Conn → Slot
 slot_in Phase.Content c = slot_for c.frame.target c.table
-slot_in Phase.Padding c = Slot.Nowhere
-slot_in Phase.Part c = Slot.Nowhere
+slot_in Phase.Padding c = None
+slot_in Phase.Part c = None
 slot_in (Phase.Whole h) c = find c.table h.id
 
 -- The slot that a step is about: of content the slot that it is for, of a header the slot of its id.
@@ -200,7 +200,7 @@ way_target : (target : Target) (st : State) (store bytes : List ℕ) (p : Positi
     → Aimed target st.conn.table n left → Way st store (slot_for target st.conn.table) (on_target target st store bytes p)
 way_target Target.Skip st store bytes p n left e some a = Way.Reads st.gathered _ Event.None tt
 way_target (Target.Begin id) st store bytes p n left e some a = way_begin st store id bytes p a.inactive
-way_target Target.Query st store bytes p n left e some a = way_query st store Slot.Nowhere bytes p
+way_target Target.Query st store bytes p n left e some a = way_query st store None bytes p
 way_target (Target.Params i) st store bytes p n left e some a = Way.Feeds Due.Params i bytes p refl a.slot.low e some
 way_target (Target.Stdin i) st store bytes p n left e some a = Way.Feeds Due.Stdin i bytes p refl a.low e some
 way_target (Target.Data i) st store bytes p n left e some a = Way.Feeds Due.Data i bytes p refl a.low e some

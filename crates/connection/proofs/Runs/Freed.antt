@@ -1,12 +1,11 @@
 -- What a finish that is not refused leaves: its request is found nowhere.
-use Rattle.std.specs.Prelude.{◌≡◌, refl, ◌⊎◌, List, Bool, true, false, ℕ, length, eqb}
+use Rattle.std.specs.Prelude.{◌≡◌, refl, ◌⊎◌, List, Bool, true, false, ℕ, length, eqb, Some, None}
 use Rattle.std.proofs.Common.{ap, sym, ◌∙◌, inl, inr, arith, eq-eqb, eqb-true}
 use Rattle.std.proofs.Math.Option.{none}
 use Rattle.std.proofs.lemmas.Bool.{eqb-false}
 use Rattle.wire.specs.Test.{by_test}
 use Rattle.wire.specs.Buffer.{zeros}
 use Rattle.slot_word.specs.Word.{taken}
-use Rattle.connection.specs.declared.state.Slot.{Slot}
 use Rattle.connection.specs.declared.state.Table.{Table}
 use Rattle.connection.specs.declared.state.Conn.{Conn}
 use Rattle.connection.specs.Sizes.{STORE}
@@ -28,7 +27,7 @@ use Rattle.connection.proofs.Runs.CallShape.{free_holds}
 pub record Admitted (c : Conn) (store : List ℕ) (id : ℕ) : Type 0 where
   pub fits : Fits c store
   pub slot : ℕ
-  pub found : find c.table id ≡ Slot.At slot
+  pub found : find c.table id ≡ Some slot
 
 -- Where no row holds, these hold.
 pub lent_admitted : (c : Conn) (store : List ℕ) (id : ℕ) → C.lent_refusal c store id ≡ 0 → Admitted c store id
@@ -111,20 +110,20 @@ finish_refused c store id status buffer e =
     (λ t. simp t (refl, refl))
 
 -- ---- where its request is then
-freed_nowhere : (t : Table) (i id : ℕ) → Distinct t → find t id ≡ Slot.At i → find (free_slot t i) id ≡ Slot.Nowhere
+freed_nowhere : (t : Table) (i id : ℕ) → Distinct t → find t id ≡ Some i → find (free_slot t i) id ≡ None
 freed_nowhere t i id distinct e =
     nowhere_find (free_slot t i) id (λ j h. let w = free_holds t i id j h in w.other (distinct id j i w.held (find_at t id i e)))
 
 -- A table with no requests.
-pub empty_nowhere : (id : ℕ) → find no_requests id ≡ Slot.Nowhere
+pub empty_nowhere : (id : ℕ) → find no_requests id ≡ None
 unfolding find_from holds_id taken
 empty_nowhere id = refl
 
-finish_frees : (c : Conn) (store : List ℕ) (id : ℕ) (w : C.Finished) → Done c store id w → find w.conn.table id ≡ Slot.Nowhere
+finish_frees : (c : Conn) (store : List ℕ) (id : ℕ) (w : C.Finished) → Done c store id w → find w.conn.table id ≡ None
 unfolding C.released
 finish_frees c store id w d = go d.way
   where
-    go : Kept c store d.admitted.slot w ⊎ Shut store w → find w.conn.table id ≡ Slot.Nowhere
+    go : Kept c store d.admitted.slot w ⊎ Shut store w → find w.conn.table id ≡ None
     go (inl k) = rw k.conn (freed_nowhere c.table d.admitted.slot id (shaped c d.admitted.fits.shape).table.distinct d.admitted.found)
     go (inr k) = rw k.conn (empty_nowhere id)
 
@@ -132,7 +131,7 @@ finish_frees c store id w d = go d.way
 -- or closes: no slot has its id, and it is observed no more. No premise on the memory: a finish that is not refused
 -- says enough of it.
 pub finished_nowhere : (m : Memory) (R status : ℕ) (buffer : List ℕ) → (C.finish m.state.conn m.store R status buffer).refusal ≡ 0
-    → (find (memory_after m (CallFor R (ForFinish status buffer))).state.conn.table R ≡ Slot.Nowhere)
+    → (find (memory_after m (CallFor R (ForFinish status buffer))).state.conn.table R ≡ None)
     × (request_of R (memory_after m (CallFor R (ForFinish status buffer))) ≡ none)
 unfolding memory_after called request_of
 finished_nowhere m R status buffer e =

@@ -1,6 +1,7 @@
 -- What holds of every memory of a run: free areas are zero, areas are zero beyond their lists, a closed connection
 -- keeps nothing, and nothing is refused by 2 or 9.
-use Rattle.std.specs.Prelude.{◌≡◌, refl, List, [], ◌∷◌, ◌++◌, Bool, true, false, ◌⊎◌, ℕ, ◌-◌, ◌<◌, length, drop, eqb}
+use Rattle.connection.specs.Slots.{Slot}
+use Rattle.std.specs.Prelude.{◌≡◌, refl, List, [], ◌∷◌, ◌++◌, Bool, true, false, ◌⊎◌, ℕ, ◌-◌, ◌<◌, length, drop, eqb, Some, None}
 use Rattle.std.proofs.Common.{ap, sym, ◌∙◌, subst, inl, inr, arith, eq-eqb}
 use Rattle.wire.specs.Test.{by_test}
 use Rattle.wire.specs.Buffer.{zeros}
@@ -8,7 +9,6 @@ use Rattle.slot_word.specs.Word.{taken}
 use Rattle.machine.specs.Timeline.{Item}
 use Rattle.machine.specs.Shape.{ItemsOk, ItemsEnd, ItemsMore, SlotOk, WellShaped}
 use Rattle.machine.proofs.ShapeKept.{shape_after, shape_fresh, items_all}
-use Rattle.connection.specs.declared.state.Slot.{Slot}
 use Rattle.connection.specs.Sizes.{SLOTS, AREA, STORE}
 use Rattle.connection.specs.Slots.{request_at, area_at, find}
 use Rattle.connection.specs.Step.{Stepped, closed_conn, step_refusal, started}
@@ -111,10 +111,10 @@ closed_call : (m : Memory) (id : ℕ) (a : Argument) → Steady m → ClosedClea
 closed_call m id a z c = by_test m.state.conn.«open» (λ o. when_open o (find m.state.conn.table id) refl) when_closed_lem
   where
     when_open : m.state.conn.«open» ≡ true → (s : Slot) → find m.state.conn.table id ≡ s → ClosedClean (called m id a).memory
-    when_open o (Slot.At i) e =
+    when_open o (Some i) e =
         subst (λ (r : CallResult). ClosedClean r.memory)
         (sym (found_result m id i a (lent_found m z id i o e) (call_found m z id i o e) (slot_found m.state.conn id i e))) (closed_result m i a o z)
-    when_open o Slot.Nowhere e =
+    when_open o None e =
         subst (λ (r : CallResult). ClosedClean r.memory) (sym (refused_call m id 2 a (lent_absent m z id o e) (call_absent m z id o e))) c
 
     when_closed_lem : m.state.conn.«open» ≡ false → ClosedClean (called m id a).memory
@@ -151,13 +151,13 @@ refusals m z =
   where
     lent_open : (id : ℕ) → m.state.conn.«open» ≡ true → (s : Slot) → find m.state.conn.table id ≡ s
         → (C.lent_refusal m.state.conn m.store id ≡ 0) ⊎ ((C.lent_refusal m.state.conn m.store id ≡ 1) ⊎ (C.lent_refusal m.state.conn m.store id ≡ 3))
-    lent_open id o (Slot.At i) e = inl (lent_found m z id i o e)
-    lent_open id o Slot.Nowhere e = inr (inr (lent_absent m z id o e))
+    lent_open id o (Some i) e = inl (lent_found m z id i o e)
+    lent_open id o None e = inr (inr (lent_absent m z id o e))
 
     call_open : (id : ℕ) → m.state.conn.«open» ≡ true → (s : Slot) → find m.state.conn.table id ≡ s
         → (C.call_refusal m.state.conn id ≡ 0) ⊎ ((C.call_refusal m.state.conn id ≡ 1) ⊎ (C.call_refusal m.state.conn id ≡ 3))
-    call_open id o (Slot.At i) e = inl (call_found m z id i o e)
-    call_open id o Slot.Nowhere e = inr (inr (call_absent m z id o e))
+    call_open id o (Some i) e = inl (call_found m z id i o e)
+    call_open id o None e = inr (inr (call_absent m z id o e))
 
 -- ---- every run
 -- What holds after any run from a start.

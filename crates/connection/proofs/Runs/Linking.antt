@@ -1,5 +1,6 @@
 -- What a step leaves is what the machine comes to: frames, closes, and a whole header.
-use Rattle.std.specs.Prelude.{◌≡◌, Bool, take, eqb, ltb, if◌then◌else◌}
+use Rattle.connection.specs.Slots.{Slot}
+use Rattle.std.specs.Prelude.{◌≡◌, Bool, take, eqb, ltb, if◌then◌else◌, Some, None}
 use Rattle.std.proofs.Math.Path.{refl, ap, ap₂, subst}
 use Rattle.std.proofs.Common.{sym, ◌∙◌, arith, ne_eqb}
 use mathlib.Core.List.{List, [], ◌∷◌, map}
@@ -21,7 +22,6 @@ use Rattle.machine.specs.Timeline.{header_version, header_type, header_id, heade
 use Rattle.machine.specs.Machine.{Asks, Breaks, WrongBegin, NewBegin, PassedOver, QueryTooLong, Notices, Gathers, Skip, Reading, Open, Closed, Observation, NoticeEvent, CloseEvent, Effect, with_left, query_whole, query_header, management_header, inactive_header, target_at, header_decided, header_found, header_routed, header_versioned, as_list}
 use Rattle.connection.specs.declared.request.Due.{Due}
 use Rattle.connection.specs.declared.state.Table.{Table}
-use Rattle.connection.specs.declared.state.Slot.{Slot}
 use Rattle.connection.specs.declared.state.Target.{Target as Aim}
 use Rattle.connection.specs.declared.state.Frame.{Frame}
 use Rattle.connection.specs.Sizes.{AREA, STORE, QUERY}
@@ -208,8 +208,8 @@ module _ (t : Table) (f : Frame) (gathered store : List ℕ) (b : ℕ) where
       links_found : (s : Slot) → find t id ≡ s
           → Links (on_slot s (on_active open_at store (header_of h)) (on_inactive open_at store (header_of h))) b (header_found receiver (found_as t store s) (loaded_slots t store) h)
       unfolding header_found
-      links_found (Slot.At i) e = links_active i (find_at t id i e)
-      links_found Slot.Nowhere e = links_inactive
+      links_found (Some i) e = links_active i (find_at t id i e)
+      links_found None e = links_inactive
 
       -- Rules 1 to 10.
       pub links_judged : Links (judged open_at store (header_of h)) b (header_versioned receiver (header_version h =? 1) (loaded_slots t store) h)

@@ -1,5 +1,6 @@
 -- A call is the machine's item of that call.
-use Rattle.std.specs.Prelude.{◌≡◌, List, [], ◌∷◌, Bool, ℕ, zero, suc, length, take, eqb, if◌then◌else◌}
+use Rattle.connection.specs.Slots.{Slot}
+use Rattle.std.specs.Prelude.{◌≡◌, List, [], ◌∷◌, Bool, ℕ, zero, suc, length, take, eqb, if◌then◌else◌, Some, None}
 use Rattle.std.proofs.Math.Path.{refl, ap, ap₂}
 use Rattle.std.proofs.Common.{sym, ◌∙◌, subst, append-nil, arith, eq-eqb, ne_eqb, eqb-true}
 use Rattle.std.proofs.Math.Option.{none, some}
@@ -12,7 +13,6 @@ use Rattle.machine.specs.Slots.{HeldBy}
 use Rattle.machine.specs.Timeline.{RequestCall, CountCall, CallItem}
 use Rattle.machine.specs.Machine.{Stays, Leaves, Closes, Target, Reading, Slots, Connection, Open, Closed, CallAnswer, Effect, target_without, reading_without, call_decided, request_called, on_item, state_after, observations, as_list}
 use Rattle.connection.specs.declared.state.Table.{Table}
-use Rattle.connection.specs.declared.state.Slot.{Slot}
 use Rattle.connection.specs.declared.state.Target.{Target as Aim}
 use Rattle.connection.specs.declared.state.Frame.{Frame}
 use Rattle.connection.specs.declared.state.Conn.{Conn}
@@ -51,19 +51,19 @@ module _ (m : Memory) (z : Steady m) (id : ℕ) where
   unfolding C.call_refusal
   call_closed e = simp (z.shape, e)
 
-  pub lent_absent : m.state.conn.«open» ≡ true → find m.state.conn.table id ≡ Slot.Nowhere → C.lent_refusal m.state.conn m.store id ≡ 3
+  pub lent_absent : m.state.conn.«open» ≡ true → find m.state.conn.table id ≡ None → C.lent_refusal m.state.conn m.store id ≡ 3
   unfolding C.lent_refusal
   lent_absent e f = simp (eq-eqb (length m.store) STORE z.sizes.full, z.shape, e, f)
 
-  pub call_absent : m.state.conn.«open» ≡ true → find m.state.conn.table id ≡ Slot.Nowhere → C.call_refusal m.state.conn id ≡ 3
+  pub call_absent : m.state.conn.«open» ≡ true → find m.state.conn.table id ≡ None → C.call_refusal m.state.conn id ≡ 3
   unfolding C.call_refusal
   call_absent e f = simp (z.shape, e, f)
 
-  pub lent_found : (i : ℕ) → m.state.conn.«open» ≡ true → find m.state.conn.table id ≡ Slot.At i → C.lent_refusal m.state.conn m.store id ≡ 0
+  pub lent_found : (i : ℕ) → m.state.conn.«open» ≡ true → find m.state.conn.table id ≡ Some i → C.lent_refusal m.state.conn m.store id ≡ 0
   unfolding C.lent_refusal
   lent_found i e f = simp (eq-eqb (length m.store) STORE z.sizes.full, z.shape, e, f)
 
-  pub call_found : (i : ℕ) → m.state.conn.«open» ≡ true → find m.state.conn.table id ≡ Slot.At i → C.call_refusal m.state.conn id ≡ 0
+  pub call_found : (i : ℕ) → m.state.conn.«open» ≡ true → find m.state.conn.table id ≡ Some i → C.call_refusal m.state.conn id ≡ 0
   unfolding C.call_refusal
   call_found i e f = simp (z.shape, e, f)
 
@@ -90,11 +90,11 @@ none_closed : (m : Memory) (id : ℕ) → m.state.conn.«open» ≡ false → re
 unfolding request_of
 none_closed m id e = rw e
 
-none_absent : (m : Memory) (id : ℕ) → find m.state.conn.table id ≡ Slot.Nowhere → request_of id m ≡ none
+none_absent : (m : Memory) (id : ℕ) → find m.state.conn.table id ≡ None → request_of id m ≡ none
 unfolding request_of
 none_absent m id f = by_test m.state.conn.«open» (λ e. rw (e, f)) (λ e. rw e)
 
-some_found : (m : Memory) (id i : ℕ) → m.state.conn.«open» ≡ true → find m.state.conn.table id ≡ Slot.At i
+some_found : (m : Memory) (id i : ℕ) → m.state.conn.«open» ≡ true → find m.state.conn.table id ≡ Some i
     → request_of id m ≡ some (held_at m.state.conn.table m.store i)
 unfolding request_of
 some_found m id i e f = rw (e, f)
@@ -134,7 +134,7 @@ module _ (t : Table) (f : Frame) (gathered store : List ℕ) (z : Steady (memory
   abbrev reading : Reading receiver
   reading = loaded_reading f gathered
 
-  module _ (i : ℕ) (found : find t id ≡ Slot.At i) where
+  module _ (i : ℕ) (found : find t id ≡ Some i) where
     -- the request
     abbrev own : Held
     own = held_at t store i
@@ -176,7 +176,7 @@ module _ (t : Table) (f : Frame) (gathered store : List ℕ) (z : Steady (memory
         }
 
     -- finish
-    freed_absent : find (free_slot t i) id ≡ Slot.Nowhere
+    freed_absent : find (free_slot t i) id ≡ None
     freed_absent =
         nowhere_find (free_slot t i) id
         (λ j g. let k = free_holds t i id j g in k.other ((shaped (open_with t f) z.shape).table.distinct id j i k.held holds))
@@ -230,7 +230,7 @@ result_at m i (ForFinish status buffer) =
     (C.finishes m.state.conn m.store i (request_at m.state.conn.table i).state.keep (Of.finish_in (request_at m.state.conn.table i) status buffer))
 
 -- the slot of an id that is found
-pub slot_found : (c : Conn) (id i : ℕ) → find c.table id ≡ Slot.At i → C.slot_of c id ≡ i
+pub slot_found : (c : Conn) (id i : ℕ) → find c.table id ≡ Some i → C.slot_of c id ≡ i
 slot_found c id i e = rw e
 
 -- A call of an id that is found.
@@ -242,7 +242,7 @@ found_result m id i (ForSay output bytes buffer) l c s = rw (c, s)
 found_result m id i (ForEnd output buffer) l c s = rw (c, s)
 found_result m id i (ForFinish status buffer) l c s = rw (l, s)
 
-agrees_found : (t : Table) (f : Frame) (gathered store : List ℕ) → Steady (memory_at t f gathered store) → (id i : ℕ) (a : Argument) → find t id ≡ Slot.At i
+agrees_found : (t : Table) (f : Frame) (gathered store : List ℕ) → Steady (memory_at t f gathered store) → (id i : ℕ) (a : Argument) → find t id ≡ Some i
     → Agrees (memory_at t f gathered store) id a (result_at (memory_at t f gathered store) i a)
     (call_decided receiver (receive_call a (held_at t store i)) i (held_at t store i) id a (loaded_slots t store) (loaded_reading f gathered))
 unfolding result_at receive_call
@@ -259,12 +259,12 @@ agrees_open : (t : Table) (f : Frame) (gathered store : List ℕ) → Steady (me
     → Agrees (memory_at t f gathered store) id a (called (memory_at t f gathered store) id a)
     (request_called receiver (found_as t store s) id a (loaded_slots t store) (loaded_reading f gathered))
 unfolding request_called loaded_when
-agrees_open t f gathered store z id a (Slot.At i) e =
+agrees_open t f gathered store z id a (Some i) e =
     let m = memory_at t f gathered store in
     subst (λ (r : CallResult). Agrees m id a r (call_decided receiver (receive_call a (held_at t store i)) i (held_at t store i) id a (loaded_slots t store) (loaded_reading f gathered)))
     (sym (found_result m id i a (lent_found m z id i refl e) (call_found m z id i refl e) (slot_found (open_with t f) id i e)))
     (agrees_found t f gathered store z id i a e)
-agrees_open t f gathered store z id a Slot.Nowhere e =
+agrees_open t f gathered store z id a None e =
     let m = memory_at t f gathered store in
     subst (λ (r : CallResult). Agrees m id a r (Open (loaded_slots t store) (loaded_reading f gathered), some (CallAnswer id a (refused 3 a) none none)))
     (sym (refused_call m id 2 a (lent_absent m z id refl e) (call_absent m z id refl e)))

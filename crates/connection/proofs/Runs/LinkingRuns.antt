@@ -1,5 +1,6 @@
 -- A run of the receiver is the machine's run of its timeline.
-use Rattle.std.specs.Prelude.{◌≡◌, refl, List, [], ◌∷◌, ◌++◌, Bool, true, false, ℕ, zero, suc, length, take, eqb}
+use Rattle.connection.specs.Slots.{Slot}
+use Rattle.std.specs.Prelude.{◌≡◌, refl, List, [], ◌∷◌, ◌++◌, Bool, true, false, ℕ, zero, suc, length, take, eqb, Some, None}
 use Rattle.std.proofs.Common.{ap, ap₂, sym, ◌∙◌, arith, eq-eqb}
 use Rattle.std.proofs.Math.Option.{none, some}
 use Rattle.wire.specs.Test.{by_test}
@@ -9,7 +10,6 @@ use Rattle.machine.specs.Machine.{AtHeader, Open, Closed, fresh, Target, state_a
 use Rattle.machine.proofs.RunLaws.{state_append, observations_append}
 use Rattle.machine.proofs.Isolation as Generic
 use Rattle.connection.specs.declared.state.Table.{Table}
-use Rattle.connection.specs.declared.state.Slot.{Slot}
 use Rattle.connection.specs.Sizes.{SLOTS, STORE, QUERY}
 use Rattle.connection.specs.Slots.{request_at, area_at, held_at, find, on_slot, no_requests}
 use Rattle.connection.specs.Step.{no_frame, started}
@@ -87,8 +87,8 @@ start_steady gathered store size full =
 -- ---- the request of an id
 found_some : (t : Table) (store : List ℕ) (s : Slot) → request_found receiver (found_as t store s) ≡ on_slot s (λ i. some (held_at t store i)) none
 unfolding request_found
-found_some t store (Slot.At i) = refl
-found_some t store Slot.Nowhere = refl
+found_some t store (Some i) = refl
+found_some t store None = refl
 
 -- It is the machine's.
 pub request_loaded : (R : ℕ) (m : Memory) → request_in receiver R (loaded_of m) ≡ request_of R m

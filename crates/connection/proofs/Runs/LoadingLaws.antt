@@ -1,5 +1,6 @@
 -- What holds of the slots as they are loaded: the slot of an id, the lowest free slot, a request and its area put back.
-use Rattle.std.specs.Prelude.{◌≡◌, refl, List, ◌∷◌, Bool, true, false, ℕ, zero, suc, ◌+◌, ◌-◌, ◌%◌, ◌/◌, ◌≤◌, ◌<◌, eqb, ltb, if◌then◌else◌}
+use Rattle.connection.specs.Slots.{Slot}
+use Rattle.std.specs.Prelude.{◌≡◌, refl, List, ◌∷◌, Bool, true, false, ℕ, zero, suc, ◌+◌, ◌-◌, ◌%◌, ◌/◌, ◌≤◌, ◌<◌, eqb, ltb, if◌then◌else◌, Some, None}
 use Rattle.std.proofs.Common.{ap, sym, ◌∙◌, arith, eqb-true, lt-ltb, le-ltb}
 use Rattle.std.proofs.Math.Nat.{sub-zero, sub_self}
 use lib.ListN.{length, get_or, set}
@@ -12,7 +13,6 @@ use Rattle.slot_word.proofs.WordLaws.{least_free, least_below}
 use Rattle.machine.specs.Slots.{Vacant, HeldBy, Lookup, Absent, FoundAt, NoVacancy, VacancyAt, lookup, lookup_further, first_vacancy, vacancy_further, slot_at}
 use Rattle.connection.specs.declared.request.Request.{Request}
 use Rattle.connection.specs.declared.state.Table.{Table}
-use Rattle.connection.specs.declared.state.Slot.{Slot}
 use Rattle.connection.specs.Sizes.{SLOTS, AREA, STORE}
 use Rattle.connection.specs.Request.{Held}
 use Rattle.connection.specs.Slots.{request_at, area_at, held_at, put_request, put_area, take_slot, free_slot, free_slot_of, holds_id, find_from, find}
@@ -100,31 +100,31 @@ loaded_free t store i full h =
 -- ---- the slot of an id
 -- a slot found, counted from slot i on
 abbrev found_from : Table → List ℕ → ℕ → Slot → Lookup Held
-found_from t store i (Slot.At j) = FoundAt (j - i) (held_at t store j)
-found_from t store i Slot.Nowhere = Absent
+found_from t store i (Some j) = FoundAt (j - i) (held_at t store j)
+found_from t store i None = Absent
 
 -- it is not below i
 abbrev NotBelow : ℕ → Slot → Type 0
-NotBelow i (Slot.At j) = i ≤ j
-NotBelow i Slot.Nowhere = Unit {0}
+NotBelow i (Some j) = i ≤ j
+NotBelow i None = Unit {0}
 
 below_suc : (i : ℕ) (s : Slot) → NotBelow (i + 1) s → NotBelow i s
-below_suc i (Slot.At j) h = omega arith
-below_suc i Slot.Nowhere h = tt
+below_suc i (Some j) h = omega arith
+below_suc i None h = tt
 
 not_below : (n : ℕ) (ids : List ℕ) (occupied id i : ℕ) → NotBelow i (find_from n ids occupied id i)
 unfolding find_from
 not_below zero ids occupied id i = tt
 not_below (suc n) ids occupied id i = go (holds_id ids occupied id i) (below_suc i (find_from n ids occupied id (i + 1)) (not_below n ids occupied id (i + 1)))
   where
-    go : (b : Bool) → NotBelow i (find_from n ids occupied id (i + 1)) → NotBelow i (if b then Slot.At i else find_from n ids occupied id (i + 1))
+    go : (b : Bool) → NotBelow i (find_from n ids occupied id (i + 1)) → NotBelow i (if b then Some i else find_from n ids occupied id (i + 1))
     go true h = omega arith
     go false h = h
 
 further_from : (t : Table) (store : List ℕ) (i : ℕ) (s : Slot) → NotBelow (i + 1) s → lookup_further (found_from t store (i + 1) s) ≡ found_from t store i s
 unfolding lookup_further
-further_from t store i (Slot.At j) h = let e : suc (j - (i + 1)) ≡ j - i = omega arith in ap (λ m. FoundAt m (held_at t store j)) e
-further_from t store i Slot.Nowhere h = refl
+further_from t store i (Some j) h = let e : suc (j - (i + 1)) ≡ j - i = omega arith in ap (λ m. FoundAt m (held_at t store j)) e
+further_from t store i None h = refl
 
 lookup_from : (n : ℕ) (t : Table) (store : List ℕ) (id i : ℕ)
     → lookup id (elements (slot_of t store) i n) ≡ found_from t store i (find_from n t.ids t.occupied id i)
@@ -141,19 +141,19 @@ lookup_from (suc n) t store id i =
     go : (a b : Bool) → eqb (get_or t.ids i 0) id ≡ b
         → lookup_further (lookup id (elements (slot_of t store) (suc i) n)) ≡ found_from t store i (find_from n t.ids t.occupied id (i + 1))
         → lookup id (loaded_slot a (request_at t i) (area_at store i) ∷ elements (slot_of t store) (suc i) n)
-        ≡ found_from t store i (if (if a then b else false) then Slot.At i else find_from n t.ids t.occupied id (i + 1))
+        ≡ found_from t store i (if (if a then b else false) then Some i else find_from n t.ids t.occupied id (i + 1))
     go true true e h = rw (e, sub_self i)
     go true false e h = rw e h
     go false b e h = h
 
 -- the slot found, with its request
 abbrev pub found_as : Table → List ℕ → Slot → Lookup Held
-found_as t store (Slot.At i) = FoundAt i (held_at t store i)
-found_as t store Slot.Nowhere = Absent
+found_as t store (Some i) = FoundAt i (held_at t store i)
+found_as t store None = Absent
 
 from_first : (t : Table) (store : List ℕ) (s : Slot) → found_from t store 0 s ≡ found_as t store s
-from_first t store (Slot.At j) = rw (sub-zero j)
-from_first t store Slot.Nowhere = refl
+from_first t store (Some j) = rw (sub-zero j)
+from_first t store None = refl
 
 -- To look an id up is to find its slot.
 pub lookup_loaded : (t : Table) (store : List ℕ) (id : ℕ) → lookup id (loaded_slots t store) ≡ found_as t store (find t id)

@@ -1,12 +1,11 @@
 -- In a run `value` has at most one match.
-use Rattle.std.specs.Prelude.{◌≡◌, false, ℕ, eqb}
+use Rattle.std.specs.Prelude.{◌≡◌, false, ℕ, eqb, Some}
 use mathlib.Core.List.{List, Memᴰ}
 use Rattle.std.proofs.Common.{arith, eqb-true}
 use Rattle.wire.specs.Test.{by_test}
 use Rattle.pairs.specs.Pair.{name_of, value_of}
 use Rattle.pairs.specs.declared.pair.Pair.{Pair}
 use Rattle.pair_list.specs.List.{pairs_from, first_named}
-use Rattle.pair_list.specs.declared.Found.{Found}
 use Rattle.pair_repeats.proofs.RepeatsLaws.{named_once}
 use Rattle.connection.specs.Request.{Held, list_of}
 use Rattle.connection.specs.RequestCalls as Of
@@ -20,7 +19,7 @@ use Rattle.connection.proofs.Runs.WellFormedLists.{ListOk, lists_well_formed}
 
 -- a request whose list can be read is past PARAMS and not faulted, so a pair of its list is the only one with its name
 one_match : (h : Held) (name : List ℕ) (q : Pair) → no_list h.request ≡ false → ListOk h
-    → Memᴰ q (pairs_from (list_of h) 0).pairs → name_of (list_of h) q ≡ name → first_named (list_of h) name ≡ Found.At q
+    → Memᴰ q (pairs_from (list_of h) 0).pairs → name_of (list_of h) q ≡ name → first_named (list_of h) name ≡ Some q
 one_match h name q n ok =
     by_test (in_params h.request.state.turn)
     (λ t. let z : ◌≡◌ {A = ℕ} 0 1 = cc (simp t at n) in absurd (omega arith))
@@ -39,7 +38,7 @@ at_slot r id e =
 
 -- A pair that matches: it is the first one found by its name, and its value is what value answers, for every fallback.
 pub record Matches (r : WholeRun) (id : ℕ) (name : List ℕ) (q : Pair) : Type 0 where
-  pub found : first_named (list_of (asked r id)) name ≡ Found.At q
+  pub found : first_named (list_of (asked r id)) name ≡ Some q
   pub answered : (fallback : List ℕ) → C.value (ending r).state.conn (ending r).store id name fallback ≡ value_of (list_of (asked r id)) q
 
 -- After any run from a start, every pair of the request's list that has the name asked for is the one whose value is

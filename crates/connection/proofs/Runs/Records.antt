@@ -1,6 +1,7 @@
 -- Where a run stands, by the records that its used bytes make: an open run is between two records just where its used
 -- bytes split into records without a rest.
-use Rattle.std.specs.Prelude.{◌≡◌, Bool, true, false, ℕ, ◌≤◌, length, take, eqb, ltb, if◌then◌else◌}
+use Rattle.connection.specs.Slots.{Slot}
+use Rattle.std.specs.Prelude.{◌≡◌, Bool, true, false, ℕ, ◌≤◌, length, take, eqb, ltb, if◌then◌else◌, Some, None}
 use Rattle.std.proofs.Math.Path.{refl}
 use Rattle.std.proofs.Common.{ap, sym, ◌∙◌, subst, arith}
 use mathlib.Core.List.{List, [], ◌∷◌}
@@ -18,7 +19,6 @@ use Rattle.pair_list.specs.List.{well_formed, broken_at}
 use Rattle.machine.specs.Timeline.{item_bytes}
 use Rattle.machine.proofs.TimelineLaws.{bytes_of_items}
 use Rattle.connection.specs.declared.request.Role.{Role}
-use Rattle.connection.specs.declared.state.Slot.{Slot}
 use Rattle.connection.specs.declared.state.Target.{Target as Aim}
 use Rattle.connection.specs.declared.state.Frame.{Frame}
 use Rattle.connection.specs.declared.state.Conn.{Conn}
@@ -74,8 +74,8 @@ module _ (st : State) (store : List ℕ) where
       (stands_closes p (Plain 11))
     where
       go : (s : Slot) → StandsAt (after_header h) (on_slot s (on_active st store h) (on_inactive st store h)).conn
-      go (Slot.At i) = λ o. refl
-      go Slot.Nowhere =
+      go (Some i) = λ o. refl
+      go None =
           stands_if (after_header h) (eqb h.kind BEGIN_REQUEST) _ _
           (stands_if (after_header h) (eqb h.content 8) _ _ (λ o. refl) (stands_closes (after_header h) (Plain 12))) (λ o. refl)
 
@@ -161,10 +161,10 @@ pub call_position : (m : Memory) (id : ℕ) (a : Argument) → Steady m → m.st
 call_position m id a z o = go (find m.state.conn.table id) refl
   where
     go : (s : Slot) → find m.state.conn.table id ≡ s → StandsAt m.state.conn.frame.position (called m id a).memory.state.conn
-    go (Slot.At i) e =
+    go (Some i) e =
         subst (λ (r : CallResult). StandsAt m.state.conn.frame.position r.memory.state.conn)
         (sym (found_result m id i a (lent_found m z id i o e) (call_found m z id i o e) (slot_found m.state.conn id i e))) (call_result m i a)
-    go Slot.Nowhere e =
+    go None e =
         subst (λ (r : CallResult). StandsAt m.state.conn.frame.position r.memory.state.conn)
         (sym (refused_call m id 2 a (lent_absent m z id o e) (call_absent m z id o e))) (λ p. refl)
 

@@ -1,13 +1,12 @@
 -- The proof of Shuffle. That no request can tell two shuffles apart is isolation twice, through the run of its own
 -- items alone (`Theorem.mixed_differently`). What purging leaves of an interleaving is shown in the crate `machine`.
-use Rattle.std.specs.Prelude.{◌≡◌, List, ℕ, ◌<◌}
+use Rattle.std.specs.Prelude.{◌≡◌, List, ℕ, ◌<◌, None}
 use Rattle.std.proofs.Common.{ap, sym, ◌∙◌}
 use Rattle.std.proofs.Math.Option.{none}
 use Rattle.wire.specs.Test.{by_test}
 use Rattle.machine.specs.Timeline.{purge}
 use Rattle.machine.specs.Interleaving.{Part, AllWhole, all_items, own_of}
 use Rattle.machine.proofs.InterleavingLaws.{own_is_left, neighbours}
-use Rattle.connection.specs.declared.state.Slot.{Slot}
 use Rattle.connection.specs.Slots.{find}
 use Rattle.connection.proofs.Laws.SlotsLaws.{nowhere_find}
 use Rattle.connection.proofs.Laws.ShapeLaws.{shaped}
@@ -23,7 +22,7 @@ zero_nowhere : (m : Memory) → Steady m → request_of 0 m ≡ none
 unfolding request_of
 zero_nowhere m z =
     let t = m.state.conn.table in
-    let e : find t 0 ≡ Slot.Nowhere = nowhere_find t 0 (shaped m.state.conn z.shape).table.ids in
+    let e : find t 0 ≡ None = nowhere_find t 0 (shaped m.state.conn z.shape).table.ids in
     by_test m.state.conn.«open» (λ o. simp (o, e)) (λ o. simp o)
 
 zero_never : (A : WholeRun) → request_of 0 (ending A) ≡ none

@@ -1,8 +1,8 @@
 -- In a run, nothing is told of a request that is spent (faulted or aborted).
-use Rattle.std.specs.Prelude.{◌≡◌, refl, List, Bool, true, false, ℕ, ◌<◌, if◌then◌else◌}
+use Rattle.connection.specs.Slots.{Slot}
+use Rattle.std.specs.Prelude.{◌≡◌, refl, List, Bool, true, false, ℕ, ◌<◌, if◌then◌else◌, Some, None}
 use Rattle.std.proofs.Common.{sym, subst, arith}
 use Rattle.std.proofs.Math.Option.{none, some}
-use Rattle.connection.specs.declared.state.Slot.{Slot}
 use Rattle.connection.specs.Request.{Held, is_spent}
 use Rattle.connection.specs.Slots.{held_at, find, on_slot}
 use Rattle.connection.specs.Run.{Memory, request_of, step_of, event_id, WholeRun, ending}
@@ -13,7 +13,7 @@ use Rattle.connection.proofs.Runs.DueLive.{due_live}
 pub record ActiveAt (R : ℕ) (m : Memory) (h : Held) : Type 0 where
   pub is_open : m.state.conn.«open» ≡ true
   pub slot : ℕ
-  pub found : find m.state.conn.table R ≡ Slot.At slot
+  pub found : find m.state.conn.table R ≡ Some slot
   pub same : held_at m.state.conn.table m.store slot ≡ h
 
 -- Where a request is observed, it is active.
@@ -23,8 +23,8 @@ active_at R m h e = go m.state.conn.«open» refl (find m.state.conn.table R) re
   where
     go : (o : Bool) → m.state.conn.«open» ≡ o → (s : Slot) → find m.state.conn.table R ≡ s
         → (if o then on_slot s (λ i. some (held_at m.state.conn.table m.store i)) none else none) ≡ some h → ActiveAt R m h
-    go true o (Slot.At i) s d = record { is_open = o; slot = i; found = s; same = cc }
-    go true o Slot.Nowhere s d = let z : ◌≡◌ {A = ℕ} 0 1 = cc in absurd (omega arith)
+    go true o (Some i) s d = record { is_open = o; slot = i; found = s; same = cc }
+    go true o None s d = let z : ◌≡◌ {A = ℕ} 0 1 = cc in absurd (omega arith)
     go false o s f d = let z : ◌≡◌ {A = ℕ} 0 1 = cc in absurd (omega arith)
 
 -- While R is spent, no step tells anything of R: no second fault or abort, no ready, no end, no data.

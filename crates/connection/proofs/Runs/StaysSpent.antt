@@ -1,12 +1,11 @@
 -- A spent request stays spent until it is finished.
-use Rattle.std.specs.Prelude.{◌≡◌, refl, ◌⊎◌, List, [], ◌∷◌, true, ℕ, eqb}
+use Rattle.std.specs.Prelude.{◌≡◌, refl, ◌⊎◌, List, [], ◌∷◌, true, ℕ, eqb, Some}
 use Rattle.std.proofs.Math.Path.{ap, subst}
 use Rattle.std.proofs.Common.{sym, ◌∙◌, inl, inr, arith}
 use Rattle.std.proofs.Math.Option.{some}
 use borrow.Author.Tests.{eqb-true, eqb-false}
 use Rattle.wire.specs.Test.{by_test}
 use Rattle.connection.specs.declared.request.Request.{Request}
-use Rattle.connection.specs.declared.state.Slot.{Slot}
 use Rattle.connection.specs.declared.state.Conn.{Conn}
 use Rattle.connection.specs.declared.answer.Output.{Output}
 use Rattle.connection.specs.Request.{Held, is_spent}
@@ -58,7 +57,7 @@ unfolding Of.end_in Of.ended_on
 end_like r output buffer = writes_like _ _ _ r buffer (record { id = refl; life = refl })
 
 module _ (R : ℕ) (h : Held) (spent : is_spent h.request.state.life ≡ true) where
-  still : (m : Memory) (i : ℕ) → m.state.conn.«open» ≡ true → find m.state.conn.table R ≡ Slot.At i → (request_at m.state.conn.table i).state.life ≡ h.request.state.life → StillSpent R h m
+  still : (m : Memory) (i : ℕ) → m.state.conn.«open» ≡ true → find m.state.conn.table R ≡ Some i → (request_at m.state.conn.table i).state.life ≡ h.request.state.life → StillSpent R h m
   unfolding request_of
   still m i o f l =
       record {
@@ -68,7 +67,7 @@ module _ (R : ℕ) (h : Held) (spent : is_spent h.request.state.life ≡ true) w
         same_life = l;
       }
 
-  module _ (m : Memory) (sized : Sized m.state.conn.table) (i : ℕ) (is_open : m.state.conn.«open» ≡ true) (found : find m.state.conn.table R ≡ Slot.At i)
+  module _ (m : Memory) (sized : Sized m.state.conn.table) (i : ℕ) (is_open : m.state.conn.«open» ≡ true) (found : find m.state.conn.table R ≡ Some i)
       (life : (request_at m.state.conn.table i).state.life ≡ h.request.state.life) where
     -- a step
     still_step : (piece : List ℕ) → (step_of m piece).state.conn.«open» ≡ true → StillSpent R h (memory_after m (StepOver piece))
@@ -84,7 +83,7 @@ module _ (R : ℕ) (h : Held) (spent : is_spent h.request.state.life ≡ true) w
         still _ i is_open k.found (k.life ∙ life)
 
     -- a finish of another request
-    still_freed : (j id : ℕ) → Distinct m.state.conn.table → find m.state.conn.table id ≡ Slot.At j → (id ≡ R → ⊥) → (w : C.Finished) → Kept m.state.conn m.store j w
+    still_freed : (j id : ℕ) → Distinct m.state.conn.table → find m.state.conn.table id ≡ Some j → (id ≡ R → ⊥) → (w : C.Finished) → Kept m.state.conn m.store j w
         → StillSpent R h (finished_by m w).memory
     unfolding C.released request_at
     still_freed j id d e apart w k =
@@ -92,7 +91,7 @@ module _ (R : ℕ) (h : Held) (spent : is_spent h.request.state.life ≡ true) w
         let own = find_at t R i found in
         let other : i ≡ j → ⊥ = λ q. apart (sym (find_at t id j e).has_id ∙ subst (λ n. (request_at t n).id ≡ R) q own.has_id) in
         let kept = other_of_free t j i other in
-        let there : find (free_slot t j) R ≡ Slot.At i =
+        let there : find (free_slot t j) R ≡ Some i =
         only_slot (free_slot t j) (λ k a b x y. d k a b (free_holds t j k a x).held (free_holds t j k b y).held) R i
         (record { low = own.low; slot_taken = taken_of_free_other t j i other ∙ own.slot_taken; has_id = ap (λ (x : Request). x.id) kept ∙ own.has_id }) in
         still (finished_by m w).memory i (ap (λ (c : Conn). c.«open») k.conn ∙ is_open) (ap (λ (c : Conn). find c.table R) k.conn ∙ there)

@@ -1,5 +1,5 @@
 -- In a run the list of a request whose PARAMS have ended, and that is not faulted, is well formed and repeats no name.
-use Rattle.std.specs.Prelude.{◌≡◌, refl, List, [], ◌∷◌, Bool, true, false, ℕ, suc, ◌+◌, ◌≤◌, ◌<◌, length, take, eqb, leb, if◌then◌else◌}
+use Rattle.std.specs.Prelude.{None, ◌≡◌, refl, List, [], ◌∷◌, Bool, true, false, ℕ, suc, ◌+◌, ◌≤◌, ◌<◌, length, take, eqb, leb, if◌then◌else◌}
 use Rattle.std.proofs.Common.{ap, sym, ◌∙◌, subst, arith}
 use Rattle.std.proofs.Math.Option.{Option, none}
 use Rattle.wire.specs.Test.{by_test}
@@ -65,7 +65,7 @@ not_faulted Life.Live e = refl
 not_faulted Life.Faulted e = true_false e
 not_faulted Life.Aborted e = refl
 
-good : (list : List ℕ) → params_fault list ≡ none → Good list
+good : (list : List ℕ) → params_fault list ≡ None → Good list
 unfolding params_fault
 good list e =
     by_test (well_formed list)

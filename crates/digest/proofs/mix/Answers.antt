@@ -4,4 +4,4 @@ use Rattle.digest.proofs.mix.Goals as goal
 
 pub returns : goal.returns
 unfolding mixed
-returns c = (simp c.told_weight-x.ensures.0, omega arith)
+returns c = (simp c.told_weight.ensures.0, omega arith)

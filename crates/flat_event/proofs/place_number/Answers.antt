@@ -1,8 +1,12 @@
-use mathlib.Core.Path.{refl}
+use Rattle.std.specs.Prelude.{ℕ, Option, Some, None, unwrap_or}
+use mathlib.Core.Path.{◌≡◌, refl, ◌∙◌}
+use Rattle.codes.specs.Place.{cause_of}
+use Rattle.flat_event.specs.Flat.{place_of}
 use Rattle.flat_event.proofs.place_number.Goals as goal
 
-pub returns-in-Nowhere : goal.returns-in-Nowhere
-returns-in-Nowhere c = λ n. rw c.in-Nowhere.is refl
+place_or_none : (n : ℕ) (place : Option ℕ) → unwrap_or place 0 ≡ place_of (cause_of n place)
+place_or_none n None = refl
+place_or_none n (Some p) = refl
 
-pub returns-in-At : goal.returns-in-At
-returns-in-At c = λ n. rw c.in-At.is refl
+pub returns : goal.returns
+returns c = λ n. c.unwrap_or.ensures ∙ place_or_none n c.args.place

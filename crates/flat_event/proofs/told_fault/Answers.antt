@@ -7,4 +7,4 @@ pub returns : goal.returns
 returns c =
     let number = fault_number c.args.fault in
     let place = c.place_number-place.ensures number ∙ ap place_of c.fault_place.ensures in
-    c.told.ensures ∙ simp (c.fault_number.ensures, place)
+    simp (c.fault_number.ensures, place)

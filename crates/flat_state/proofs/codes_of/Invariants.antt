@@ -1,5 +1,3 @@
-use Prim.Native.Nat.{◌-◌}
-use Rattle.connection.specs.Sizes.{SLOTS}
 use Rattle.flat_state.specs.Flat.{roles_of, turns_of, lives_of}
 use Rattle.flat_state.proofs.LoopLaws.{Made}
 use Rattle.flat_state.proofs.codes_of.Given as goal
@@ -7,6 +5,3 @@ use Rattle.flat_state.proofs.codes_of.Given as goal
 abbrev pub invariant-loop-i : goal.invariant-loop-i
 invariant-loop-i l = let s = l.t.standings in
     Made l.roles (roles_of s) l.i × Made l.turns (turns_of s) l.i × Made l.lives (lives_of s) l.i
-
-abbrev pub decreases-loop-i : goal.decreases-loop-i
-decreases-loop-i l = SLOTS - l.i

@@ -20,7 +20,7 @@ loop-i-preserved c =
     let turns : length c.args.turns ≡ SLOTS = search rules in
     let lives : length c.args.lives ≡ SLOTS = search rules in
     let at_i = standing_at_lem c.args.roles c.args.turns c.args.lives c.loop-i.i no_standing (omega arith) (omega arith) (omega arith) in
-    made_next no_standing _ c.loop-i.invariant c.loop-i-test.true (c.standing_of-standing.ensures ∙ sym at_i)
+    made_next no_standing _ c.loop-i.invariant (omega arith) (c.standing_of.ensures ∙ sym at_i)
 
 pub returns : goal.returns
-returns c = made_all c.loop-i.invariant c.loop-i-test.false
+returns c = made_all c.loop-i.invariant (omega arith)

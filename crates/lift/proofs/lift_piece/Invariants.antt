@@ -1,8 +1,5 @@
 use Rattle.std.proofs.Common.{◌≡◌, ◌≤◌, length}
 use Rattle.lift.proofs.lift_piece.Given as goal
 
-abbrev pub invariant-loop-turns : goal.invariant-loop-turns
-invariant-loop-turns l = (l.from ≤ length l.piece) × (l.at ≤ length l.out) × (length l.store ≡ length l.initial.store) × (length l.out ≡ length l.initial.out)
-
-abbrev pub decreases-loop-turns : goal.decreases-loop-turns
-decreases-loop-turns l = l.turns
+abbrev pub invariant-loop : goal.invariant-loop
+invariant-loop l = (l.from ≤ length l.piece) × (l.at ≤ length l.out) × (length l.store ≡ length l.initial.store) × (length l.out ≡ length l.initial.out)

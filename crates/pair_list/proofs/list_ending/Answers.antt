@@ -1,33 +1,20 @@
-use mathlib.Core.Path.{refl, sym, ap, ◌∙◌}
-use native.Mathlib.Omega.{arith}
+use mathlib.Core.Path.{sym, ap, ◌∙◌}
 use Rattle.pair_list.specs.List.{Pairs, ending_of}
-use Rattle.pairs.proofs.PairLaws.{pair_in_lem}
-use Rattle.pair_list.proofs.ListLaws.{pairs_next, pairs_end, pairs_none}
+use Rattle.pairs.proofs.PairLaws.{end_past}
+use Rattle.pair_list.proofs.ListLaws.{pairs_next, pairs_end, pairs_malformed}
 use Rattle.pair_list.proofs.list_ending.Goals as goal
 
-pub loop-at-init : goal.loop-at-init
-loop-at-init c = (omega arith, refl)
+pub loop-next-preserved : goal.loop-next-preserved
+loop-next-preserved c =
+    c.loop-next.invariant ∙ ap (λ (ps : Pairs). ps.ending) (pairs_next _ _ _ _ (sym c.read_pair.ensures ∙ c.in-Pair.is))
 
-pub returns-in_default : goal.returns-in_default
+pub returns-in-End : goal.returns-in-End
 unfolding ending_of
-returns-in_default c =
+returns-in-End c =
     let s = c.args.list.now in
-    let e = pairs_none s c.loop-at.at (omega arith) (λ p next e. c.in_default.not-Pair p next (c.read_pair-read.ensures ∙ e)) in
-    sym (c.loop-at.invariant.1 ∙ ap (λ (ps : Pairs). ps.ending) e)
+    sym (c.loop-next.invariant ∙ ap (λ (ps : Pairs). ps.ending) (pairs_end s c.loop-next.at (end_past s c.loop-next.at (sym c.read_pair.ensures ∙ c.in-End.is))))
 
-pub loop-at-smaller : goal.loop-at-smaller
-loop-at-smaller c =
-    let s = c.args.list.now in
-    omega (arith, pair_in_lem s c.loop-at.at _ _ (sym c.read_pair-read.ensures ∙ c.in-Pair.is))
-
-pub loop-at-preserved : goal.loop-at-preserved
-loop-at-preserved c =
-    let s = c.args.list.now in
-    let q = sym c.read_pair-read.ensures ∙ c.in-Pair.is in
-    ((pair_in_lem s c.loop-at.at _ _ q).within, c.loop-at.invariant.1 ∙ ap (λ (ps : Pairs). ps.ending) (pairs_next s c.loop-at.at _ _ q))
-
-pub returns : goal.returns
+pub returns-in-Malformed : goal.returns-in-Malformed
 unfolding ending_of
-returns c =
-    let s = c.args.list.now in
-    sym (c.loop-at.invariant.1 ∙ ap (λ (ps : Pairs). ps.ending) (pairs_end s c.loop-at.at (omega arith)))
+returns-in-Malformed c =
+    sym (c.loop-next.invariant ∙ ap (λ (ps : Pairs). ps.ending) (pairs_malformed _ _ _ (sym c.read_pair.ensures ∙ c.in-Malformed.is)))

@@ -1,11 +1,11 @@
 use mathlib.Core.Path.{◌≡◌}
-use Prim.Native.Nat.{◌≤◌, ◌-◌}
+use Prim.Native.Nat.{◌-◌}
 use lib.ListN.{length}
 use Rattle.pair_list.specs.List.{pairs_from}
 use Rattle.pair_list.proofs.list_ending.Given as goal
 
-abbrev pub invariant-loop-at : goal.invariant-loop-at
-invariant-loop-at l = (l.at ≤ length l.list) × ((pairs_from l.list 0).ending ≡ (pairs_from l.list l.at).ending)
+abbrev pub invariant-loop-next : goal.invariant-loop-next
+invariant-loop-next l = (pairs_from l.list 0).ending ≡ (pairs_from l.list l.at).ending
 
-abbrev pub decreases-loop-at : goal.decreases-loop-at
-decreases-loop-at l = length l.list - l.at
+abbrev pub decreases-loop-next : goal.decreases-loop-next
+decreases-loop-next l = length l.list - l.at

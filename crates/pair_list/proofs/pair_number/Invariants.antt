@@ -1,11 +1,11 @@
 use mathlib.Core.Path.{◌≡◌}
-use Prim.Native.Nat.{◌≤◌, ◌-◌}
+use Prim.Native.Nat.{◌-◌}
 use lib.ListN.{length}
 use Rattle.pair_list.specs.List.{pairs_from, number_in}
 use Rattle.pair_list.proofs.pair_number.Given as goal
 
-abbrev pub invariant-loop-at : goal.invariant-loop-at
-invariant-loop-at l = (l.at ≤ length l.list) × (number_in (pairs_from l.list 0).pairs l.k ≡ number_in (pairs_from l.list l.at).pairs l.left)
+abbrev pub invariant-loop-pair : goal.invariant-loop-pair
+invariant-loop-pair l = number_in (pairs_from l.list 0).pairs l.k ≡ number_in (pairs_from l.list l.at).pairs l.left
 
-abbrev pub decreases-loop-at : goal.decreases-loop-at
-decreases-loop-at l = length l.list - l.at
+abbrev pub decreases-loop-pair : goal.decreases-loop-pair
+decreases-loop-pair l = length l.list - l.at

@@ -4,8 +4,8 @@ use lib.ListN.{length}
 use Rattle.pair_repeats.proofs.KeysLaws.{Filling}
 use Rattle.pair_repeats.proofs.fill_keys.Given as goal
 
-abbrev pub invariant-loop-at : goal.invariant-loop-at
-invariant-loop-at l = (length l.keys ≡ length l.initial.keys) × (l.n ≤ length l.keys) × (l.at ≤ length l.list) × Filling l.list l.keys l.at l.n
+abbrev pub invariant-loop-pair : goal.invariant-loop-pair
+invariant-loop-pair l = (length l.keys ≡ length l.initial.keys) × (l.count ≤ length l.keys) × Filling l.list l.keys l.at l.count
 
-abbrev pub decreases-loop-at : goal.decreases-loop-at
-decreases-loop-at l = length l.list - l.at
+abbrev pub decreases-loop-pair : goal.decreases-loop-pair
+decreases-loop-pair l = length l.list - l.at

@@ -12,8 +12,8 @@ pub record Round (list keys : List ℕ) (n at i : ℕ) : Type 0 where
   pub filled : Filled list at keys i n
   pub left : repeats_in list (pairs_from list 0).pairs ≡ repeats_in list (pairs_from list at).pairs
 
-abbrev pub invariant-loop-at : goal.invariant-loop-at
-invariant-loop-at l = (l.i ≤ l.at) × (l.at ≤ length l.list) × (Filled l.list 0 l.keys 0 l.n → Round l.list l.keys l.n l.at l.i)
+abbrev pub invariant-loop-pair : goal.invariant-loop-pair
+invariant-loop-pair l = (l.i ≤ l.at) × (Filled l.list 0 l.keys 0 l.n → Round l.list l.keys l.n l.at l.i)
 
-abbrev pub decreases-loop-at : goal.decreases-loop-at
-decreases-loop-at l = length l.list - l.at
+abbrev pub decreases-loop-pair : goal.decreases-loop-pair
+decreases-loop-pair l = length l.list - l.at

@@ -17,17 +17,17 @@ overflow_add-size-2 c = omega (arith, c.shared_slice_known-4-1.given 6)
 
 pub says-said-requires : goal.says-said-requires
 says-said-requires c =
-    let part : take (8 + c.least.result - 8) (drop 8 c.args.bytes.now) ≡ take (two c.args.bytes.now 4) (drop 8 c.args.bytes.now) =
-    content_part c.args.bytes.now (two c.args.bytes.now 4) (8 + c.least.result) (omega (arith, c.least.ensures, c.number_of_two-n.ensures)) in
+    let part : take (8 + c.min.result - 8) (drop 8 c.args.bytes.now) ≡ take (two c.args.bytes.now 4) (drop 8 c.args.bytes.now) =
+    content_part c.args.bytes.now (two c.args.bytes.now 4) (8 + c.min.result) (omega (arith, c.min.ensures, c.number_of_two-n.ensures)) in
     let k : length (take (two c.args.bytes.now 4) (drop 8 c.args.bytes.now)) ≤ two c.args.bytes.now 4 = omega (arith, length-take (two c.args.bytes.now 4) (drop 8 c.args.bytes.now)) in
     (c.requires.0, c.requires.1, c.if-bytes-lt8.false, rw (part) k)
 
 pub returns : goal.returns
 returns c =
-    let part : take (8 + c.least.result - 8) (drop 8 c.args.bytes.now) ≡ take (two c.args.bytes.now 4) (drop 8 c.args.bytes.now) =
-    content_part c.args.bytes.now (two c.args.bytes.now 4) (8 + c.least.result) (omega (arith, c.least.ensures, c.number_of_two-n.ensures)) in
+    let part : take (8 + c.min.result - 8) (drop 8 c.args.bytes.now) ≡ take (two c.args.bytes.now 4) (drop 8 c.args.bytes.now) =
+    content_part c.args.bytes.now (two c.args.bytes.now 4) (8 + c.min.result) (omega (arith, c.min.ensures, c.number_of_two-n.ensures)) in
     let comes = rw (part) at c.says-said.ensures in
-    let passes = rw (part, c.number_of_two-n.ensures) at c.pass-next.ensures in
-    reads_record c.args.table c.args.store.now _ c.args.bytes.now c.args.left c.says-said.result c.pass-next.result
+    let passes = rw (part, c.number_of_two-n.ensures) at c.pass.ensures in
+    reads_record c.args.table c.args.store.now _ c.args.bytes.now c.args.left c.says-said.result c.pass.result
     c.if-bytes-lt8.false
     comes passes

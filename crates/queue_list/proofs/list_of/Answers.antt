@@ -1,3 +1,4 @@
+use native.Mathlib.Omega.{arith}
 use mathlib.Core.Path.{◌∙◌, sym, ap, refl}
 use Rattle.connection.specs.RequestCalls.{Walk}
 use Rattle.queue_list.specs.Places.{queue_list_place}
@@ -8,7 +9,7 @@ pub returns-then-is_barred : goal.returns-then-is_barred
 unfolding queue_list_place
 returns-then-is_barred c =
     let t = sym c.is_barred.ensures ∙ c.if-is_barred.true in
-    ((λ gathered marks queue. sym (ap (λ (w : Walk). w.list) (walk_barred _ _ t))), simp t (record { block = refl; place = refl }))
+    ((λ gathered marks queue. sym (ap (λ (w : Walk). w.list) (walk_barred _ _ t))), simp t (record { block = refl; place = omega arith }))
 
 pub returns : goal.returns
 unfolding queue_list_place

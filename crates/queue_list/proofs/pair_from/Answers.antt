@@ -1,10 +1,12 @@
+use Rattle.std.specs.Prelude.{length}
+use Rattle.wire.specs.Test.{by_test}
+use Rattle.queue_admit.specs.Admission.{is_barred}
 use Rattle.queue_list.specs.Places.{queue_read_from}
 use Rattle.queue_list.proofs.pair_from.Goals as goal
 
-pub returns-then-is_barred : goal.returns-then-is_barred
-unfolding queue_read_from
-returns-then-is_barred c = simp (← c.is_barred.ensures, c.if-is_barred.true)
-
 pub returns : goal.returns
 unfolding queue_read_from
-returns c = simp (← c.is_barred.ensures, c.if-is_barred.false, c.pair_from.ensures)
+returns c =
+    by_test (is_barred c.args.waits.now c.args.c.table.occupied (length c.args.store.now))
+    (λ t. simp (c.and.ensures, c.heeded.ensures, t))
+    (λ t. simp (c.and.ensures, c.heeded.ensures, t) c.pair_from.ensures)

@@ -1,13 +1,12 @@
-use mathlib.Core.Path.{◌∙◌, sym}
+use Rattle.std.specs.Prelude.{length}
+use Rattle.queue_admit.specs.Admission.{is_barred}
+use Rattle.std.proofs.Common.{sym, ◌∙◌}
+use Rattle.wire.specs.Test.{by_test}
 use Rattle.queue_list.proofs.ListLaws.{source_barred, source_free}
 use Rattle.queue_list.proofs.value_source.Goals as goal
 
-pub returns-then-is_barred : goal.returns-then-is_barred
-returns-then-is_barred c =
-    let t = sym c.is_barred.ensures ∙ c.if-is_barred.true in
-    λ gathered marks queue. sym (source_barred _ _ _ t)
-
 pub returns : goal.returns
 returns c =
-    let t = sym c.is_barred.ensures ∙ c.if-is_barred.false in
-    λ gathered marks queue. c.value_source.ensures ∙ sym (source_free _ _ _ t)
+    λ gathered marks queue. by_test (is_barred c.args.waits.now c.args.c.table.occupied (length c.args.store.now))
+    (λ t. simp (c.and.ensures, c.heeded.ensures, t) (sym (source_barred _ _ _ t)))
+    (λ t. simp (c.and.ensures, c.heeded.ensures, t) (c.value_source.ensures ∙ sym (source_free _ _ _ t)))

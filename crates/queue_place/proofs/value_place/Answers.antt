@@ -1,63 +1,51 @@
-use Rattle.queue_place.proofs.LiesLaws.{value_barred, value_refused, value_lies_lem, value_absent}
 use Prim.Native.Nat.{◌-◌}
 use native.Mathlib.Omega.{arith}
-use mathlib.Core.Path.{sym, ap, subst, ◌∙◌}
+use mathlib.Core.Path.{sym, subst, ◌∙◌}
 use lib.ListN.{drop, length-take}
+use Rattle.std.proofs.lemmas.Result.{err_from_is_err_and}
 use Rattle.pair_list.proofs.ListLaws.{first_within}
-use Rattle.call_list.specs.Listing.{listed_by}
 use Rattle.call_list.proofs.Laws.{Within, listing_within}
+use Rattle.queue_place.proofs.LiesLaws.{value_barred, value_refused, value_lies_lem, value_absent}
 use Rattle.queue_place.proofs.value_place.Goals as goal
+use Rattle.queue_place.proofs.value_place.Goals.{In_ok-from}
+
+-- the list lies in the store
+inside : (c : In_ok-from) → Within c.args.store.now (record { refusal = 0; from = c.in_ok-from.from; to = c.in_ok-from.to })
+inside c = subst (Within c.args.store.now) (sym c.in_ok-from.ensures) (listing_within c.args.c c.args.store.now c.args.id)
 
 pub returns-then-is_barred : goal.returns-then-is_barred
 returns-then-is_barred c =
     let t = sym c.is_barred.ensures ∙ c.if-is_barred.true in
     λ gathered marks queue. sym (value_barred _ _ _ t)
 
+pub returns-in_err-from : goal.returns-in_err-from
+returns-in_err-from c =
+    let t = sym c.is_barred.ensures ∙ c.if-is_barred.false in
+    let p = err_from_is_err_and c.from_residual.result c.from_residual.ensures.1 in
+    rw (p.1, p.2) (λ gathered marks queue. sym (value_refused _ _ _ _ t (sym c.in_err-from.ensures)))
+
 pub slice_bounds-first_named-count : goal.slice_bounds-first_named-count
-slice_bounds-first_named-count c =
-    let inside : Within c.args.store.now (record { refusal = 0; from = c.in-At.a; to = c.in-At.e }) =
-    let e = sym c.list_at-listed.ensures ∙ ap listed_by c.in-At.is in
-    subst (Within c.args.store.now) e (listing_within c.args.c c.args.store.now c.args.id) in
-    omega (arith, inside)
+slice_bounds-first_named-count c = omega (arith, inside (goal.at.slice_bounds-first_named-count c).In_ok-from)
 
 pub slice_bounds-first_named-start : goal.slice_bounds-first_named-start
-slice_bounds-first_named-start c =
-    let inside : Within c.args.store.now (record { refusal = 0; from = c.in-At.a; to = c.in-At.e }) =
-    let e = sym c.list_at-listed.ensures ∙ ap listed_by c.in-At.is in
-    subst (Within c.args.store.now) e (listing_within c.args.c c.args.store.now c.args.id) in
-    omega (arith, inside)
+slice_bounds-first_named-start c = omega (arith, inside (goal.at.slice_bounds-first_named-start c).In_ok-from)
 
 pub slice_bounds-first_named-end : goal.slice_bounds-first_named-end
-slice_bounds-first_named-end c =
-    let inside : Within c.args.store.now (record { refusal = 0; from = c.in-At.a; to = c.in-At.e }) =
-    let e = sym c.list_at-listed.ensures ∙ ap listed_by c.in-At.is in
-    subst (Within c.args.store.now) e (listing_within c.args.c c.args.store.now c.args.id) in
-    omega (arith, inside)
+slice_bounds-first_named-end c = omega (arith, inside (goal.at.slice_bounds-first_named-end c).In_ok-from)
 
 pub overflow_add-result : goal.overflow_add-result
 overflow_add-result c =
-    let inside : Within c.args.store.now (record { refusal = 0; from = c.in-At.a; to = c.in-At.e }) =
-    let e = sym c.list_at-listed.ensures ∙ ap listed_by c.in-At.is in
-    subst (Within c.args.store.now) e (listing_within c.args.c c.args.store.now c.args.id) in
-    let f = first_within _ _ _ (sym c.first_named-found.ensures ∙ c.in-At-found.is) in
-    omega (arith, inside, f, length-take (c.in-At.e - c.in-At.a) (drop c.in-At.a c.args.store.now))
+    let f = first_within _ _ _ (sym c.first_named.ensures ∙ c.in-Some.is) in
+    omega (arith, inside (goal.at.overflow_add-result c).In_ok-from, f, length-take (c.in_ok-from.to - c.in_ok-from.from) (drop c.in_ok-from.from c.args.store.now))
 
-pub returns-in-Refused : goal.returns-in-Refused
-returns-in-Refused c =
+pub returns-in-Some : goal.returns-in-Some
+returns-in-Some c =
     let t = sym c.is_barred.ensures ∙ c.if-is_barred.false in
-    let l = sym c.list_at-listed.ensures ∙ ap listed_by c.in-Refused.is in
-    λ gathered marks queue. sym (value_refused _ _ _ c.in-Refused.why t l)
+    let f = sym c.first_named.ensures ∙ c.in-Some.is in
+    λ gathered marks queue. sym (value_lies_lem _ _ _ _ t (sym c.in_ok-from.ensures) _ _ f)
 
-pub returns-in-At-found : goal.returns-in-At-found
-returns-in-At-found c =
+pub returns-in-None : goal.returns-in-None
+returns-in-None c =
     let t = sym c.is_barred.ensures ∙ c.if-is_barred.false in
-    let l = sym c.list_at-listed.ensures ∙ ap listed_by c.in-At.is in
-    let f = sym c.first_named-found.ensures ∙ c.in-At-found.is in
-    λ gathered marks queue. sym (value_lies_lem _ _ _ _ t l _ _ f)
-
-pub returns-in-Nothing : goal.returns-in-Nothing
-returns-in-Nothing c =
-    let t = sym c.is_barred.ensures ∙ c.if-is_barred.false in
-    let l = sym c.list_at-listed.ensures ∙ ap listed_by c.in-At.is in
-    let f = sym c.first_named-found.ensures ∙ c.in-Nothing.is in
-    λ gathered marks queue. sym (value_absent _ _ _ _ t l _ f)
+    let f = sym c.first_named.ensures ∙ c.in-None.is in
+    λ gathered marks queue. sym (value_absent _ _ _ _ t (sym c.in_ok-from.ensures) _ f)

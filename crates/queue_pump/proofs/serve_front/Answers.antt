@@ -9,11 +9,11 @@ use Rattle.queue.specs.Calls.{beside}
 use mathlib.Core.Path.{refl}
 use Rattle.queue_pump.proofs.serve_front.Goals as goal
 
-pub returns-then-count-eq0 : goal.returns-then-count-eq0
-returns-then-count-eq0 c =
+pub returns-then-n-eq0 : goal.returns-then-n-eq0
+returns-then-n-eq0 c =
     let m : Memory → QueueMemory = λ memory. beside memory c.args.waits.now c.args.marks.now c.args.queue.now in
     front_served (λ w. ServesNothing) c.args.waits.now c.args.marks.now c.args.queue.now m c.args.i c.args.id Ends.None c.requires.2 c.in-None.is
-    (λ memory. none_served memory c.args.waits.now c.args.marks.now c.args.queue.now c.args.i c.requires.2 c.in-None.is c.if-count-eq0.true c.requires.3)
+    (λ memory. none_served memory c.args.waits.now c.args.marks.now c.args.queue.now c.args.i c.requires.2 c.in-None.is c.if-n-eq0.true c.requires.3)
     (nothing_served m c.args.i c.args.id c.args.out.now c.args.at)
 
 pub returns-in-Out : goal.returns-in-Out
@@ -36,8 +36,8 @@ returns-in-ErrOut c =
     front_served (serve_end Output.Stderr Ends.Out) c.args.waits.now c.args.marks.now c.args.queue.now (λ memory. beside memory c.serve_end-in-ErrOut.new.waits c.args.marks.now c.args.queue.now) c.args.i c.args.id Ends.ErrOut c.requires.2 c.in-ErrOut.is (λ memory. refl)
     (c.serve_end-in-ErrOut.ensures c.args.marks.now c.args.queue.now)
 
-pub returns-else-count-eq0 : goal.returns-else-count-eq0
-returns-else-count-eq0 c =
+pub returns-else-n-eq0 : goal.returns-else-n-eq0
+returns-else-n-eq0 c =
     front_served serve_longest c.args.waits.now c.args.marks.now c.args.queue.now (λ memory. beside memory c.serve_data.new.waits c.serve_data.new.marks c.serve_data.new.queue) c.args.i c.args.id Ends.None c.requires.2 c.in-None.is
-    (λ memory. longest_served memory c.args.waits.now c.args.marks.now c.args.queue.now c.args.i c.requires.2 c.if-count-eq0.false)
+    (λ memory. longest_served memory c.args.waits.now c.args.marks.now c.args.queue.now c.args.i c.requires.2 c.if-n-eq0.false)
     c.serve_data.ensures

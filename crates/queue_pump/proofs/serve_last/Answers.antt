@@ -9,10 +9,10 @@ use Prim.Native.Nat.{ℕ}
 use mathlib.Core.Path.{sym, ap, ◌∙◌}
 use Rattle.queue_pump.proofs.serve_last.Goals as goal
 
-pub returns-then-state : goal.returns-then-state
-returns-then-state c =
+pub returns-then-r : goal.returns-then-r
+returns-then-r c =
     λ gathered marks queue. last_kept (lent c.args.c gathered c.args.store.now c.args.waits.now marks queue) c.args.i c.args.r c.args.status c.requires.0 c.end_body-body.ensures
-    (slot_released c.args.c gathered c.args.store.now c.args.waits.now marks queue c.args.i c.if-state.true c.release-conn.ensures
+    (slot_released c.args.c gathered c.args.store.now c.args.waits.now marks queue c.args.i c.if-r.true c.release.ensures
     (part_back c.args.store.now c.args.i c.clear.new.out ∙ ap (put_area c.args.store.now c.args.i) (c.clear.ensures ∙ ap (λ (x : List ℕ). zeros (length x)) (sym (part_lent c.args.store.now c.args.i))))
     (c.forget_slot.ensures c.requires.0.low))
     c.write_record-next.ensures
@@ -20,5 +20,5 @@ returns-then-state c =
 pub returns : goal.returns
 returns c =
     λ gathered marks queue. last_kept (lent c.args.c gathered c.args.store.now c.args.waits.now marks queue) c.args.i c.args.r c.args.status c.requires.0 c.end_body-body.ensures
-    (slot_closed c.args.c gathered c.args.store.now c.args.waits.now marks queue c.args.i c.if-state.false c.closed-conn.ensures c.clear-2.ensures c.keep_waits.ensures)
+    (slot_closed c.args.c gathered c.args.store.now c.args.waits.now marks queue c.args.i c.if-r.false c.closed.ensures c.clear-2.ensures c.keep_waits.ensures)
     c.write_record-next.ensures

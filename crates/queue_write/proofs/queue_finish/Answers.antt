@@ -11,22 +11,22 @@ use Rattle.queue_write.proofs.queue_finish.Goals as goal
 
 pub returns-then-is_leaving : goal.returns-then-is_leaving
 returns-then-is_leaving c =
-    let here : (gathered store queue : List ℕ) → Through (lent c.args.c gathered store c.args.waits.now c.args.marks.now queue) c.args.id c.in-At.i =
-    λ gathered store queue. let a = c.args in through_at (lent a.c gathered store a.waits.now a.marks.now queue) a.id c.in-At.i (ap admitted_by (sym c.in-At.is) ∙ c.admit_waits-admitted.ensures) in
+    let here : (gathered store queue : List ℕ) → Through (lent c.args.c gathered store c.args.waits.now c.args.marks.now queue) c.args.id c.in-Ok.slot =
+    λ gathered store queue. let a = c.args in through_at (lent a.c gathered store a.waits.now a.marks.now queue) a.id c.in-Ok.slot c.in-Ok.ensures in
     λ gathered store queue. let a = c.args in
     ap (λ (w : Queueing). queued_by w gathered store a.waits.now a.marks.now queue) c.refused-then-is_leaving.ensures
     ∙ finish_leaving a.c gathered store a.waits.now a.marks.now queue a.id a.app_status (here gathered store queue) (sym c.is_leaving.ensures ∙ c.if-is_leaving.true)
 
-pub returns-in-Refused : goal.returns-in-Refused
-returns-in-Refused c =
+pub returns-in-Err : goal.returns-in-Err
+returns-in-Err c =
     λ gathered store queue. let a = c.args in
     ap (λ (w : Queueing). queued_by w gathered store a.waits.now a.marks.now queue) c.refused.ensures
-    ∙ finish_barred a.c gathered store a.waits.now a.marks.now queue a.id a.app_status c.in-Refused.why (ap admitted_by (sym c.in-Refused.is) ∙ c.admit_waits-admitted.ensures)
+    ∙ finish_barred a.c gathered store a.waits.now a.marks.now queue a.id a.app_status c.in-Err.why c.in-Err.ensures
 
 pub returns-else-is_leaving : goal.returns-else-is_leaving
 returns-else-is_leaving c =
-    let here : (gathered store queue : List ℕ) → Through (lent c.args.c gathered store c.args.waits.now c.args.marks.now queue) c.args.id c.in-At.i =
-    λ gathered store queue. let a = c.args in through_at (lent a.c gathered store a.waits.now a.marks.now queue) a.id c.in-At.i (ap admitted_by (sym c.in-At.is) ∙ c.admit_waits-admitted.ensures) in
+    let here : (gathered store queue : List ℕ) → Through (lent c.args.c gathered store c.args.waits.now c.args.marks.now queue) c.args.id c.in-Ok.slot =
+    λ gathered store queue. let a = c.args in through_at (lent a.c gathered store a.waits.now a.marks.now queue) a.id c.in-Ok.slot c.in-Ok.ensures in
     λ gathered store queue. let a = c.args in
     ap (λ (w : Queueing). queued_by w gathered store c.wait_finish.new.waits c.wait_finish.new.marks queue) c.put_back.ensures
     ∙ finish_waits a.c gathered store a.waits.now a.marks.now queue a.id a.app_status (here gathered store queue) (sym c.is_leaving.ensures ∙ c.if-is_leaving.false)

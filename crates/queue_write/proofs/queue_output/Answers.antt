@@ -1,18 +1,18 @@
-use Prim.Native.Nat.{ℕ, ◌+◌}
+use Prim.Native.Nat.{ℕ, ◌+◌, ◌<◌}
 use mathlib.Core.Path.{◌≡◌, refl, sym, ap, ◌∙◌}
 use mathlib.Core.List.{List}
 use lib.ListN.{length}
 use Rattle.wire.specs.Test.{◌≤?◌}
-use Rattle.call_admit.specs.Admission.{admitted_by}
-use Rattle.request_output.specs.Answer.{check_number}
 use Rattle.queue_slot.specs.declared.Numbers.{Numbers}
+use Rattle.connection.specs.Sizes.{SLOTS}
 use Rattle.queue.specs.declared.answer.Queueing.{Queueing}
-use Rattle.queue.specs.Numbers.{count_at, last_at}
+use Rattle.queue.specs.Numbers.{count_at}
 use Rattle.queue.specs.Calls.{lent}
 use Rattle.queue.specs.Answer.{queued_by}
 use Rattle.queue_admit.proofs.AdmissionLaws.{Through, through_at}
-use Rattle.queue_write.proofs.Laws.{say_unsized, say_barred, say_ended, say_no_room, say_waits, room_for}
+use Rattle.queue_write.proofs.Laws.{say_unsized, say_refused, say_checked_full, say_checked, room_for}
 use Rattle.queue_write.proofs.queue_output.Goals as goal
+use Rattle.queue_write.proofs.queue_output.Goals.{After-has_room}
 
 pub returns-then-queue-ne-QUEUE : goal.returns-then-queue-ne-QUEUE
 returns-then-queue-ne-QUEUE c =
@@ -20,49 +20,37 @@ returns-then-queue-ne-QUEUE c =
     ap (λ (w : Queueing). queued_by w gathered store a.waits.now a.marks.now a.queue.now) c.refused.ensures
     ∙ say_unsized a.c gathered store a.waits.now a.marks.now a.queue.now a.id a.output a.bytes.now c.if-queue-ne-QUEUE.true
 
+pub returns-in-Err : goal.returns-in-Err
+returns-in-Err c =
+    λ gathered store. let a = c.args in
+    ap (λ (w : Queueing). queued_by w gathered store a.waits.now a.marks.now a.queue.now) c.refused-in-Err.ensures
+    ∙ say_refused a.c gathered store a.waits.now a.marks.now a.queue.now a.id a.output a.bytes.now c.if-queue-ne-QUEUE.false c.in-Err.why c.in-Err.ensures
+
+-- the slot is one of the table
+low : (c : After-has_room) (gathered store : List ℕ) → c.in-Ok.slot < SLOTS
+low c gathered store =
+    let a = c.args in
+    (through_at (lent a.c gathered store a.waits.now a.marks.now a.queue.now) a.id c.in-Ok.slot c.in-Ok.ensures.0).low
+
+-- and the code's test of room is that of what waits there
+room_is : (c : After-has_room) → (gathered store : List ℕ) → (count_at c.args.waits.now c.in-Ok.slot + length c.args.bytes.now ≤? 1024) ≡ c.has_room.result
+room_is c gathered store =
+    ap (λ (n : Numbers). n.count + length c.args.bytes.now ≤? 1024) (sym (c.numbers_at.ensures.0 (low c gathered store))) ∙ sym (c.has_room.ensures c.args.bytes.now refl)
+
 pub returns-then-not-has_room : goal.returns-then-not-has_room
 returns-then-not-has_room c =
-    let here : (gathered store : List ℕ) → Through (lent c.args.c gathered store c.args.waits.now c.args.marks.now c.args.queue.now) c.args.id c.in-At.i =
-    λ gathered store. let a = c.args in through_at (lent a.c gathered store a.waits.now a.marks.now a.queue.now) a.id c.in-At.i (ap admitted_by (sym c.in-At.is) ∙ c.admit_waits-admitted.ensures) in
-    let leaves : (gathered store : List ℕ) → c.numbers_at-n.result.last ≡ last_at c.args.waits.now c.in-At.i =
-    λ gathered store. ap (λ (n : Numbers). n.last) (c.numbers_at-n.ensures.0 (here gathered store).low) in
-    let counts : (gathered store : List ℕ) → (count_at c.args.waits.now c.in-At.i + length c.args.bytes.now ≤? 1024) ≡ (c.numbers_at-n.result.count + length c.args.bytes.now ≤? 1024) =
-    λ gathered store. ap (λ (n : Numbers). n.count + length c.args.bytes.now ≤? 1024) (sym (c.numbers_at-n.ensures.0 (here gathered store).low)) in
     λ gathered store. let a = c.args in
     ap (λ (w : Queueing). queued_by w gathered store a.waits.now a.marks.now a.queue.now) c.refused-then-not-has_room.ensures
-    ∙ say_no_room a.c gathered store a.waits.now a.marks.now a.queue.now a.id a.output a.bytes.now c.if-queue-ne-QUEUE.false (here gathered store) c.request_at-request.ensures (leaves gathered store)
-    (ap check_number (sym c.in-Passed.is) ∙ c.stream_check-check.ensures)
-    (counts gathered store ∙ sym (c.has_room.ensures a.bytes.now refl) ∙ c.if-not-has_room.true)
-
-pub returns-in-Refused : goal.returns-in-Refused
-returns-in-Refused c =
-    λ gathered store. let a = c.args in
-    ap (λ (w : Queueing). queued_by w gathered store a.waits.now a.marks.now a.queue.now) c.refused-in-Refused.ensures
-    ∙ say_barred a.c gathered store a.waits.now a.marks.now a.queue.now a.id a.output a.bytes.now c.if-queue-ne-QUEUE.false c.in-Refused.why (ap admitted_by (sym c.in-Refused.is) ∙ c.admit_waits-admitted.ensures)
-
-pub returns-in-Refused-check : goal.returns-in-Refused-check
-returns-in-Refused-check c =
-    let here : (gathered store : List ℕ) → Through (lent c.args.c gathered store c.args.waits.now c.args.marks.now c.args.queue.now) c.args.id c.in-At.i =
-    λ gathered store. let a = c.args in through_at (lent a.c gathered store a.waits.now a.marks.now a.queue.now) a.id c.in-At.i (ap admitted_by (sym c.in-At.is) ∙ c.admit_waits-admitted.ensures) in
-    let leaves : (gathered store : List ℕ) → c.numbers_at-n.result.last ≡ last_at c.args.waits.now c.in-At.i =
-    λ gathered store. ap (λ (n : Numbers). n.last) (c.numbers_at-n.ensures.0 (here gathered store).low) in
-    λ gathered store. let a = c.args in
-    ap (λ (w : Queueing). queued_by w gathered store a.waits.now a.marks.now a.queue.now) c.refused-in-Refused-check.ensures
-    ∙ say_ended a.c gathered store a.waits.now a.marks.now a.queue.now a.id a.output a.bytes.now c.if-queue-ne-QUEUE.false (here gathered store) c.request_at-request.ensures (leaves gathered store) c.in-Refused-check.why (ap check_number (sym c.in-Refused-check.is) ∙ c.stream_check-check.ensures)
+    ∙ say_checked_full a.c gathered store a.waits.now a.marks.now a.queue.now a.id a.output a.bytes.now c.if-queue-ne-QUEUE.false c.in-Ok.slot c.in-Ok.request c.in-Ok.ensures
+    (room_is (goal.at.returns-then-not-has_room c).After-has_room gathered store ∙ c.if-not-has_room.true)
 
 pub returns-else-not-has_room : goal.returns-else-not-has_room
 returns-else-not-has_room c =
-    let here : (gathered store : List ℕ) → Through (lent c.args.c gathered store c.args.waits.now c.args.marks.now c.args.queue.now) c.args.id c.in-At.i =
-    λ gathered store. let a = c.args in through_at (lent a.c gathered store a.waits.now a.marks.now a.queue.now) a.id c.in-At.i (ap admitted_by (sym c.in-At.is) ∙ c.admit_waits-admitted.ensures) in
-    let leaves : (gathered store : List ℕ) → c.numbers_at-n.result.last ≡ last_at c.args.waits.now c.in-At.i =
-    λ gathered store. ap (λ (n : Numbers). n.last) (c.numbers_at-n.ensures.0 (here gathered store).low) in
-    let counts : (gathered store : List ℕ) → (count_at c.args.waits.now c.in-At.i + length c.args.bytes.now ≤? 1024) ≡ (c.numbers_at-n.result.count + length c.args.bytes.now ≤? 1024) =
-    λ gathered store. ap (λ (n : Numbers). n.count + length c.args.bytes.now ≤? 1024) (sym (c.numbers_at-n.ensures.0 (here gathered store).low)) in
     λ gathered store. let a = c.args in
-    let room = counts gathered store ∙ sym (c.has_room.ensures a.bytes.now refl) ∙ c.if-not-has_room.false in
+    let here = (goal.at.returns-else-not-has_room c).After-has_room in
+    let room = room_is here gathered store ∙ c.if-not-has_room.false in
     ap (λ (w : Queueing). queued_by w gathered store c.wait_data.new.waits c.wait_data.new.marks c.wait_data.new.queue) c.put_back.ensures
-    ∙ say_waits a.c gathered store a.waits.now a.marks.now a.queue.now a.id a.output a.bytes.now c.if-queue-ne-QUEUE.false (here gathered store) c.request_at-request.ensures (leaves gathered store)
-    (ap check_number (sym c.in-Passed.is) ∙ c.stream_check-check.ensures)
+    ∙ say_checked a.c gathered store a.waits.now a.marks.now a.queue.now a.id a.output a.bytes.now c.if-queue-ne-QUEUE.false c.in-Ok.slot c.in-Ok.request c.in-Ok.ensures
     room
-    (c.said_on-said.ensures a.bytes.now refl)
-    (λ memory. c.wait_data.ensures memory (here gathered store).low c.if-queue-ne-QUEUE.false (room_for memory a.waits.now a.marks.now a.queue.now _ a.bytes.now room))
+    (c.said_on.ensures a.bytes.now refl)
+    (λ memory. c.wait_data.ensures memory (low here gathered store) c.if-queue-ne-QUEUE.false (room_for memory a.waits.now a.marks.now a.queue.now _ a.bytes.now room))

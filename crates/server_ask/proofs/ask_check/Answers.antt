@@ -1,13 +1,15 @@
-use mathlib.Core.Path.{sym, ap, ◌∙◌}
-use Rattle.server_admit.specs.Admission.{check_number}
+use Rattle.std.proofs.Common.{sym, ◌∙◌}
+use Rattle.std.proofs.lemmas.Result.{err_from_is_err_and}
 use Rattle.server_admit.proofs.AdmissionLaws.{passed}
 use Rattle.server_ask.proofs.Laws.{rows_refused, rows_own}
 use Rattle.server_ask.proofs.ask_check.Goals as goal
 
-pub returns-in-Refused : goal.returns-in-Refused
-returns-in-Refused c = sym (rows_refused c.args.c c.args.list.now c.args.room c.in-Refused.why (ap check_number (sym c.in-Refused.is) ∙ c.check_state-checked.ensures))
+pub returns-in_err-check_state : goal.returns-in_err-check_state
+returns-in_err-check_state c =
+    let p = err_from_is_err_and c.from_residual.result c.from_residual.ensures.1 in
+    rw (p.1, p.2)
+    (sym (rows_refused c.args.c c.args.list.now c.args.room c.in_err-check_state.field-0.0 c.in_err-check_state.ensures))
 
-pub returns-in-Passed : goal.returns-in-Passed
-returns-in-Passed c =
-    c.own_check.ensures
-    ∙ rows_own c.args.c c.args.list.now c.args.room (passed c.args.c (ap check_number (sym c.in-Passed.is) ∙ c.check_state-checked.ensures))
+pub returns : goal.returns
+returns c =
+    c.own_check.ensures ∙ rows_own c.args.c c.args.list.now c.args.room (passed c.args.c c.in_ok-check_state.ensures)

@@ -10,10 +10,10 @@ pub returns-then-is_management : goal.returns-then-is_management
 unfolding owner_in
 returns-then-is_management c = simp (← c.is_management.ensures, c.if-is_management.true, ne_eqb _ _ c.if-id-eq0.false)
 
-pub returns-in-At : goal.returns-in-At
+pub returns-in-Some : goal.returns-in-Some
 unfolding owner_in
-returns-in-At c = simp (← c.is_management.ensures, c.if-is_management.false, ← c.find_from-slot.ensures, c.in-At.is)
+returns-in-Some c = simp (← c.is_management.ensures, c.if-is_management.false, ← c.find_from.ensures, c.in-Some.is)
 
-pub returns-in-Nowhere : goal.returns-in-Nowhere
+pub returns-in-None : goal.returns-in-None
 unfolding owner_in
-returns-in-Nowhere c = simp (← c.is_management.ensures, c.if-is_management.false, ← c.find_from-slot.ensures, c.in-Nowhere.is)
+returns-in-None c = simp (← c.is_management.ensures, c.if-is_management.false, ← c.find_from.ensures, c.in-None.is)

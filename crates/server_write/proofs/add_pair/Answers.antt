@@ -6,13 +6,13 @@ use Rattle.server_admit.specs.Admission.{admitted_by}
 use Rattle.server_write.proofs.Laws.{call_refused, call_through}
 use Rattle.server_write.proofs.add_pair.Goals as goal
 
-pub returns-in-Refused : goal.returns-in-Refused
-returns-in-Refused c =
+pub returns-in-Err : goal.returns-in-Err
+returns-in-Err c =
     ap (λ (w : ServerWritten). written_by w c.args.out.now) c.refused.ensures
-    ∙ call_refused c.args.c c.args.id (APair c.args.name.now c.args.value.now) c.args.out.now c.in-Refused.why (ap admitted_by (sym c.in-Refused.is) ∙ c.admit-admitted.ensures)
+    ∙ call_refused c.args.c c.args.id (APair c.args.name.now c.args.value.now) c.args.out.now c.in-Err.why (ap admitted_by (sym c.in-Err.is) ∙ c.admit.ensures)
 
-pub returns-in-At : goal.returns-in-At
-returns-in-At c =
-    ap (λ (w : ServerWritten). written_by w c.pair_in-said.new.out) c.put_back.ensures
-    ∙ call_through c.args.c c.args.id (APair c.args.name.now c.args.value.now) c.args.out.now c.pair_in-said.result c.in-At.i (ap admitted_by (sym c.in-At.is) ∙ c.admit-admitted.ensures)
-    c.request_at.ensures c.pair_in-said.ensures
+pub returns-in-Ok : goal.returns-in-Ok
+returns-in-Ok c =
+    ap (λ (w : ServerWritten). written_by w c.pair_in.new.out) c.put_back.ensures
+    ∙ call_through c.args.c c.args.id (APair c.args.name.now c.args.value.now) c.args.out.now c.pair_in.result c.in-Ok.i (ap admitted_by (sym c.in-Ok.is) ∙ c.admit.ensures)
+    c.request_at.ensures c.pair_in.ensures

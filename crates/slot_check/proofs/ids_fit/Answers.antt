@@ -20,5 +20,5 @@ returns c =
     let n = c.reach-n in
     let k = c.keys_of-found in
     λ lengths short.
-    rw (k.ensures.1, c.any_repeats-same.ensures)
+    rw (k.ensures.1, c.any_repeats.ensures)
     (quick_row a.ids.now lengths a.occupied short n.result n.ensures k.result.keys k.ensures.0)

@@ -6,6 +6,3 @@ use Rattle.slot_table.proofs.find_from.Given as goal
 
 abbrev pub invariant-loop-i : goal.invariant-loop-i
 invariant-loop-i l = find_from (SLOTS - l.from) l.ids l.occupied l.id l.from ≡ find_from (SLOTS - l.i) l.ids l.occupied l.id l.i
-
-abbrev pub decreases-loop-i : goal.decreases-loop-i
-decreases-loop-i l = SLOTS - l.i

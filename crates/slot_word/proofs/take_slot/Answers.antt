@@ -13,6 +13,6 @@ returns-then-i-lt16 c =
     let fit : 2 ^ a.i < 65536 = pow-lt c.if-i-lt16.true in
     simp (lt-ltb _ _ c.if-i-lt16.true, one-mul, mod-eq_of_lt fit) (or_bit a.i a.occupied)
 
-pub returns : goal.returns
+pub returns-else-i-lt16 : goal.returns-else-i-lt16
 unfolding with_slot
-returns c = simp (le-ltb _ _ c.if-i-lt16.false)
+returns-else-i-lt16 c = simp (le-ltb _ _ c.if-i-lt16.false)

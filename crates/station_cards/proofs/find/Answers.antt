@@ -18,21 +18,18 @@ past : (b : ℕ) (xs : List ℕ) (i : ℕ) → i ≡ length xs → index_of b (d
 unfolding index_of
 past b xs i e = rw (e, drop-length xs)
 
-pub loop-i-init : goal.loop-i-init
-loop-i-init c = (omega arith, omega arith)
-
-pub returns-then-text-i : goal.returns-then-text-i
-returns-then-text-i c =
-    let h = here c.args.byte c.args.text.now c.loop-i.i (omega arith) c.if-text-i.true in
-    omega (arith, c.loop-i.invariant.1, h)
+pub returns-then-own-byte-clause-place : goal.returns-then-own-byte-clause-place
+returns-then-own-byte-clause-place c =
+    let h = here c.args.byte c.args.text.now c.loop-i.i (omega arith) c.if-own-byte.true in
+    omega (arith, c.loop-i.invariant, h)
 
 pub loop-i-preserved : goal.loop-i-preserved
 loop-i-preserved c =
-    let h = next c.args.byte c.args.text.now c.loop-i.i (omega arith) c.if-text-i.false in
+    let h = next c.args.byte c.args.text.now c.loop-i.i (omega arith) c.if-own-byte.false in
     let one : c.loop-i.i + 1 ≡ suc c.loop-i.i = omega arith in
-    (omega arith, rw one (omega (arith, c.loop-i.invariant.1, h)))
+    rw one (omega (arith, c.loop-i.invariant, h))
 
-pub returns : goal.returns
-returns c =
+pub returns-clause-place : goal.returns-clause-place
+returns-clause-place c =
     let h = past c.args.byte c.args.text.now c.loop-i.i (omega arith) in
-    omega (arith, c.loop-i.invariant.1, h)
+    omega (arith, c.loop-i.invariant, h)

@@ -1,5 +1,6 @@
-use mathlib.Core.Path.{sym, ◌∙◌}
+use mathlib.Core.Path.{◌≡◌, sym, ◌∙◌}
 use native.Mathlib.Omega.{arith}
+use lib.ListN.{length}
 use Rattle.wire.proofs.CompareLaws.{compared_long, compared_start, compared_next, compared_differs, compared_end}
 use Rattle.wire.proofs.compare.Goals as goal
 
@@ -11,19 +12,20 @@ returns-then-a-b c =
 pub loop-i-init : goal.loop-i-init
 loop-i-init c =
     let a = c.args in
-    (omega arith, c.if-a-b.false, compared_start a.a.now a.b.now c.if-a-b.false)
+    (c.if-a-b.false, compared_start a.a.now a.b.now c.if-a-b.false)
 
 pub returns-then-a-i : goal.returns-then-a-i
 returns-then-a-i c =
     let a = c.args in
-    sym (c.loop-i.invariant.2 ∙ compared_differs a.a.now a.b.now c.loop-i.i (omega arith) (omega arith) c.if-a-i.true)
+    sym (c.loop-i.invariant.1 ∙ compared_differs a.a.now a.b.now c.loop-i.i (omega arith) (omega arith) c.if-a-i.true)
 
 pub loop-i-preserved : goal.loop-i-preserved
 loop-i-preserved c =
     let a = c.args in
-    (omega arith, c.loop-i.invariant.1, c.loop-i.invariant.2 ∙ compared_next a.a.now a.b.now c.loop-i.i (omega arith) (omega arith) c.if-a-i.false)
+    (c.loop-i.invariant.0, c.loop-i.invariant.1 ∙ compared_next a.a.now a.b.now c.loop-i.i (omega arith) (omega arith) c.if-a-i.false)
 
 pub returns : goal.returns
 returns c =
     let a = c.args in
-    sym (c.loop-i.invariant.2 ∙ compared_end a.a.now a.b.now c.loop-i.i (omega arith) (omega arith))
+    let all : c.loop-i.i ≡ length a.a.now = omega arith in
+    sym (c.loop-i.invariant.1 ∙ rw all (compared_end a.a.now a.b.now (length a.a.now) (omega arith) (omega arith)))

@@ -15,5 +15,5 @@ pub returns : goal.returns
 unfolding exported_count
 returns c =
     let k = known_by c.is_known.ensures c.if-not-is_known.false in
-    c.flat_count.ensures ∙ ap flat_count (c.active_count-n.ensures [] [] [] [])
+    c.flat_count.ensures ∙ ap flat_count (c.active_count.ensures [] [] [] [])
     ∙ simp (k, c.from_flat-c.ensures)

@@ -15,5 +15,5 @@ pub returns : goal.returns
 unfolding exported_list
 returns c =
     let k = known_by c.is_known.ensures c.if-not-is_known.false in
-    c.flat_place.ensures ∙ ap flat_place (c.list_place-place.ensures [] [] [])
+    c.flat_place.ensures ∙ ap flat_place (c.list_place.ensures [] [] [])
     ∙ simp (k, c.from_flat-c.ensures)

@@ -15,5 +15,5 @@ pub returns : goal.returns
 unfolding exported_pair_at
 returns c =
     let k = known_by c.is_known.ensures c.if-not-is_known.false in
-    c.flat_numbered.ensures ∙ ap flat_numbered (c.pair_at-n.ensures [] [] [])
+    c.flat_numbered.ensures ∙ ap flat_numbered (c.pair_at.ensures [] [] [])
     ∙ simp (k, c.from_flat-c.ensures)

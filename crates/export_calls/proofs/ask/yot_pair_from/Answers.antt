@@ -14,5 +14,5 @@ pub returns : goal.returns
 unfolding exported_pair_from
 returns c =
     let k = known_by c.is_known.ensures c.if-not-is_known.false in
-    c.flat_read_from.ensures ∙ ap flat_read_from c.pair_from-r.ensures
+    c.flat_read_from.ensures ∙ ap flat_read_from c.pair_from.ensures
     ∙ simp (k, c.from_flat-c.ensures)

@@ -15,5 +15,5 @@ pub returns : goal.returns
 unfolding exported_request
 returns c =
     let k = known_by c.is_known.ensures c.if-not-is_known.false in
-    c.flat_request.ensures ∙ ap flat_request (c.request_of-a.ensures [] [] [] [])
+    c.flat_request.ensures ∙ ap flat_request (c.request_of.ensures [] [] [] [])
     ∙ simp (k, c.from_flat-c.ensures)

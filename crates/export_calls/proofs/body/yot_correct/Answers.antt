@@ -9,5 +9,5 @@ pub returns : goal.returns
 unfolding exported_correct
 returns c =
     let tenths = to_z-of_z w32 c.args.tenths c.ranges.tenths in
-    c.flat_corrected.ensures ∙ ap flatCorrected c.correct-c.ensures
+    c.flat_corrected.ensures ∙ ap flatCorrected c.correct.ensures
     ∙ simp (c.calibration_of-calibration.ensures, tenths)

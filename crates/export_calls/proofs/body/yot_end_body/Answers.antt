@@ -14,4 +14,4 @@ pub returns : goal.returns
 unfolding exported_end_body
 returns c =
     let k = known_by c.is_known_reader.ensures c.if-not-is_known_reader.false in
-    c.flat_ended.ensures ∙ ap flatEnded c.end_body-e.ensures ∙ simp (k, c.from_flat_reader-r.ensures)
+    c.flat_ended.ensures ∙ ap flatEnded c.end_body.ensures ∙ simp (k, c.from_flat_reader.ensures)

@@ -14,4 +14,4 @@ pub returns : goal.returns
 unfolding exported_read
 returns c =
     let k = known_by c.is_known_reader.ensures c.if-not-is_known_reader.false in
-    c.flat_read.ensures ∙ ap flatRead c.read_reading-q.ensures ∙ simp (k, c.from_flat_reader-r.ensures)
+    c.flat_read.ensures ∙ ap flatRead c.read_reading.ensures ∙ simp (k, c.from_flat_reader.ensures)

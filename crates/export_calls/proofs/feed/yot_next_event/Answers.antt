@@ -12,4 +12,4 @@ returns-then-not-is_known c =
 pub returns : goal.returns
 returns c =
     let k = known_by c.is_known.ensures c.if-not-is_known.false in
-    feeds queue_next _ _ _ _ _ c.next_event-s.result k c.from_flat-c.ensures (c.next_event-s.ensures.0 [] []) c.next_event-s.ensures.1 c.flat_stepped.ensures
+    feeds queue_next _ _ _ _ _ c.next_event.result k c.from_flat-c.ensures (c.next_event.ensures.0 [] []) c.next_event.ensures.1 c.flat_stepped.ensures

@@ -12,4 +12,4 @@ returns-then-not-is_known c =
 pub returns : goal.returns
 returns c =
     let k = known_by c.is_known.ensures c.if-not-is_known.false in
-    feeds queue_step _ _ _ _ _ c.step-s.result k c.from_flat-c.ensures (c.step-s.ensures.0 [] []) c.step-s.ensures.1 c.flat_stepped.ensures
+    feeds queue_step _ _ _ _ _ c.step.result k c.from_flat-c.ensures (c.step.ensures.0 [] []) c.step.ensures.1 c.flat_stepped.ensures

@@ -15,5 +15,5 @@ pub returns : goal.returns
 unfolding exported_end
 returns c =
     let k = known_by c.are_known.ensures c.if-not-are_known.false in
-    leaves_output c.end_output-w.result (c.end_output-w.ensures [] [] [] []) c.flat_written.ensures
-    ∙ simp (k, c.from_flat-c.ensures, c.output_of-output.ensures)
+    leaves_output c.end_output.result (c.end_output.ensures [] [] [] []) c.flat_written.ensures
+    ∙ simp (k, c.from_flat-c.ensures, c.output_of.ensures)

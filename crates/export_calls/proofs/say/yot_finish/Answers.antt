@@ -15,5 +15,5 @@ pub returns : goal.returns
 unfolding exported_finish
 returns c =
     let k = known_by c.is_known.ensures c.if-not-is_known.false in
-    leaves_finish c.from_flat-c.result _ c.finish-f.result (c.finish-f.ensures.0 [] [] []) c.finish-f.ensures.1 c.flat_finished.ensures
+    leaves_finish c.from_flat-c.result _ c.finish.result (c.finish.ensures.0 [] [] []) c.finish.ensures.1 c.flat_finished.ensures
     ∙ simp (k, c.from_flat-c.ensures)

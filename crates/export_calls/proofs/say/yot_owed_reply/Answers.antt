@@ -14,5 +14,5 @@ pub returns : goal.returns
 unfolding exported_reply
 returns c =
     let k = known_by c.is_known_event.ensures c.if-not-is_known_event.false in
-    leaves_reply c.owed_reply-w.result c.owed_reply-w.ensures c.flat_wrote.ensures
-    ∙ simp (k, c.from_flat_event-e.ensures)
+    leaves_reply c.owed_reply.result c.owed_reply.ensures c.flat_wrote.ensures
+    ∙ simp (k, c.from_flat_event.ensures)

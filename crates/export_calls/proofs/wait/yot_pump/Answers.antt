@@ -15,5 +15,5 @@ pub returns : goal.returns
 unfolding exported_pump
 returns c =
     let k = known_by c.is_known.ensures c.if-not-is_known.false in
-    leaves_turn c.pump-p.result (c.pump-p.ensures []) c.flat_pumped.ensures
+    leaves_turn c.pump.result (c.pump.ensures []) c.flat_pumped.ensures
     ∙ simp (k, c.from_flat-c.ensures)

@@ -15,5 +15,5 @@ pub returns : goal.returns
 unfolding exported_queue_end
 returns c =
     let k = known_by c.are_known.ensures c.if-not-are_known.false in
-    leaves_end c.queue_end-q.result (c.queue_end-q.ensures [] [] []) c.flat_queued.ensures
-    ∙ simp (k, c.from_flat-c.ensures, c.output_of-output.ensures)
+    leaves_end c.queue_end.result (c.queue_end.ensures [] [] []) c.flat_queued.ensures
+    ∙ simp (k, c.from_flat-c.ensures, c.output_of.ensures)

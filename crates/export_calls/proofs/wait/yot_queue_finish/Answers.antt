@@ -15,5 +15,5 @@ pub returns : goal.returns
 unfolding exported_queue_finish
 returns c =
     let k = known_by c.is_known.ensures c.if-not-is_known.false in
-    leaves_end c.queue_finish-q.result (c.queue_finish-q.ensures [] [] []) c.flat_queued.ensures
+    leaves_end c.queue_finish.result (c.queue_finish.ensures [] [] []) c.flat_queued.ensures
     ∙ simp (k, c.from_flat-c.ensures)

@@ -15,5 +15,5 @@ pub returns : goal.returns
 unfolding exported_queue_output
 returns c =
     let k = known_by c.are_known.ensures c.if-not-are_known.false in
-    leaves_data c.queue_output-q.result (c.queue_output-q.ensures [] []) c.flat_queued.ensures
-    ∙ simp (k, c.from_flat-c.ensures, c.output_of-output.ensures)
+    leaves_data c.queue_output.result (c.queue_output.ensures [] []) c.flat_queued.ensures
+    ∙ simp (k, c.from_flat-c.ensures, c.output_of.ensures)

@@ -1,6 +1,6 @@
 use native.Mathlib.Omega.{arith}
-use mathlib.Core.Path.{ap, ◌∙◌}
-use Prim.Native.Nat.{ℕ, ◌/◌}
+use mathlib.Core.Path.{ap, subst, ◌∙◌}
+use Prim.Native.Nat.{ℕ, ◌-◌, ◌/◌, ◌^◌, ◌<◌, ◌≤◌, max}
 use Rattle.host.proofs.Powers.{twice_less, left_after_one, left_after_next, more_left, none_left}
 use Rattle.host.proofs.number.digit_count.Goals as goal
 
@@ -20,13 +20,14 @@ loop-left-preserved c =
       λ _. more_left n b l.k (omega arith) (omega arith),
     )
 
-pub returns-then-k-width : goal.returns-then-k-width
-returns-then-k-width c =
-    let a = c.args in
-    (omega arith, none_left a.n a.base c.loop-left.k a.width (omega arith) (omega arith) (omega arith), omega arith)
-
-pub returns-else-k-width : goal.returns-else-k-width
-returns-else-k-width c =
+pub returns : goal.returns
+returns c =
     let a = c.args in
     let l = c.loop-left in
-    (omega arith, none_left a.n a.base l.k l.k (omega arith) (omega arith) (omega arith), λ more. l.invariant.3 (omega arith))
+    let some : 0 < l.k = l.invariant.0 in
+    let big = l.invariant.3 in
+    rw c.max.ensures (
+      omega arith,
+      none_left a.n a.base l.k (max l.k a.width) (omega arith) (omega arith) (omega arith),
+      λ more. subst (λ (k : ℕ). a.base ^ (k - 1) ≤ a.n) (omega arith) (big (omega arith)),
+    )

@@ -10,7 +10,7 @@ few : (width n k : ℕ) → n ≤ 18446744073709551615 → width ≤ 16 → IsDi
 few width n k h narrow fewest = fewest_within 16 width n k 16 (omega arith) fewest narrow (omega arith)
 
 pub put_digits-requires-clause-room : goal.put_digits-requires-clause-room
-put_digits-requires-clause-room c = omega (arith, few c.width_between.result c.args.n c.digit_count-k.result (omega arith) (omega arith) c.digit_count-k.ensures)
+put_digits-requires-clause-room c = omega (arith, few c.min.result c.args.n c.digit_count-k.result (omega arith) (omega arith) c.digit_count-k.ensures)
 
 pub returns-clause-count : goal.returns-clause-count
-returns-clause-count c = prefix_within _ _ (omega (arith, few c.width_between.result c.args.n c.digit_count-k.result (omega arith) (omega arith) c.digit_count-k.ensures))
+returns-clause-count c = prefix_within _ _ (omega (arith, few c.min.result c.args.n c.digit_count-k.result (omega arith) (omega arith) c.digit_count-k.ensures))

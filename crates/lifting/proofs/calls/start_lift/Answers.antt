@@ -5,5 +5,5 @@ use Rattle.lifting.proofs.calls.start_lift.Goals as goal
 
 pub returns : goal.returns
 returns c =
-    ap (λ (s : Started). lift_started_from s c.args.id) c.start_for-s.ensures
+    ap (λ (s : Started). lift_started_from s c.args.id) c.start_for-started.ensures
     ∙ started_lift c.args.gathered.now c.args.store.now c.args.id

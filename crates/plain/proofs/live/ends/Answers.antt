@@ -8,7 +8,7 @@ pub returns : goal.returns
 unfolding ends
 returns c =
     λ list x l.
-    rw (c.changed.ensures, c.next_turn.ensures)
+    rw (c.changed.ensures, c.next_turn-turn.ensures)
     (record {
       tells = λ rs. refl;
       request = rw (take_at list _ _ l.whole, l.live);

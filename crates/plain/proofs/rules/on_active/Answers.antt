@@ -19,8 +19,8 @@ slice_bounds-on_live-end c =
     let each = c.requires.0.each c.args.i (omega (arith, c.requires.0.taken)) in
     omega (arith, each, c.requires.0.taken)
 
-pub on_live-c-requires : goal.on_live-c-requires
-on_live-c-requires c =
+pub on_live-change-requires : goal.on_live-change-requires
+on_live-change-requires c =
     let e = entry_at c.args.table c.args.i in
     let z : c.args.i * 4096 + e.length - c.args.i * 4096 ≡ e.length = omega arith in
     let live = own_live c.args.table c.requires.0 c.args.store.now c.args.x.now c.requires.1 c.args.i c.requires.2
@@ -32,10 +32,8 @@ returns c =
     let e = entry_at c.args.table c.args.i in
     let here = c.args.i * 4096 + e.length in
     let z : here - c.args.i * 4096 ≡ e.length = omega arith in
-    let b = rw z at c.on_live-c.ensures in
-    let y : length (take c.on_live-c.result.kept c.args.x.now) ≡ c.on_live-c.result.kept = length-take-le c.on_live-c.result.kept c.args.x.now b.kept in
-    let whole : c.on_live-c.result.kept - 0 ≡ c.on_live-c.result.kept = omega arith in
-    let put = rw whole at c.copy_into.ensures in
-    let room = copied_room c.args.store.now here (take c.on_live-c.result.kept c.args.x.now) (omega (arith, y, b.low, c.requires.0.taken)) in
-    rw (c.comes_to-2.ensures, c.with_entry.ensures, put ∙ room)
-    (active_live c.args.table c.requires.0 c.args.store.now c.args.x.now c.requires.1 c.args.i c.requires.2 c.args.kind c.args.n c.on_live-c.result c.if-e.false b)
+    let b = rw z at c.on_live-change.ensures in
+    let y : length (take c.on_live-change.result.kept c.args.x.now) ≡ c.on_live-change.result.kept = length-take-le c.on_live-change.result.kept c.args.x.now b.kept in
+    let room = copied_room c.args.store.now here (take c.on_live-change.result.kept c.args.x.now) (omega (arith, y, b.low, c.requires.0.taken)) in
+    rw (c.comes_to-2.ensures, c.with_entry.ensures, c.copy_into.ensures ∙ room)
+    (active_live c.args.table c.requires.0 c.args.store.now c.args.x.now c.requires.1 c.args.i c.requires.2 c.args.kind c.args.n c.on_live-change.result c.if-e.false b)

@@ -15,11 +15,11 @@ pub returns-then-x-n : goal.returns-then-x-n
 unfolding on_query
 returns-then-x-n c = λ rs. simp (le-ltb _ _ c.if-n-gt512.false, lt-ltb _ _ c.if-x-n.true)
 
-pub returns-in_default : goal.returns-in_default
+pub returns : goal.returns
 unfolding on_query
-returns-in_default c =
+returns c =
     let ended : ending_of c.args.x.now ≡ Ending.End =
-    sym c.list_ending-ending.ensures ∙ c.in_default.is in
+    sym c.list_ending.ensures ∙ c.in_default.is in
     λ rs.
     let short = le-ltb _ _ c.if-n-gt512.false in
     let whole = le-ltb _ _ c.if-x-n.false in
@@ -28,15 +28,15 @@ returns-in_default c =
 pub overflow_cast-at : goal.overflow_cast-at
 overflow_cast-at c =
     let broken : ending_of c.args.x.now ≡ Ending.Malformed c.in-Malformed.place =
-    sym c.list_ending-ending.ensures ∙ c.in-Malformed.is in
+    sym c.list_ending.ensures ∙ c.in-Malformed.is in
     let p = ending_place _ _ (broken) in
     omega (arith, c.requires)
 
-pub returns : goal.returns
+pub returns-in-Malformed : goal.returns-in-Malformed
 unfolding on_query
-returns c =
+returns-in-Malformed c =
     let broken : ending_of c.args.x.now ≡ Ending.Malformed c.in-Malformed.place =
-    sym c.list_ending-ending.ensures ∙ c.in-Malformed.is in
+    sym c.list_ending.ensures ∙ c.in-Malformed.is in
     λ rs.
     let p = broken_formed _ _ (broken) in
     let short = le-ltb _ _ c.if-n-gt512.false in

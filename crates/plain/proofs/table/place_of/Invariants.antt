@@ -1,4 +1,4 @@
-use Prim.Native.Nat.{ℕ, ◌+◌, ◌-◌, ◌≤◌}
+use Prim.Native.Nat.{ℕ, ◌+◌}
 use mathlib.Core.Path.{◌≡◌}
 use mathlib.Core.List.{List}
 use lib.ListN.{drop}
@@ -7,8 +7,5 @@ use Rattle.plain.specs.Code.{requests_of}
 use Rattle.plain.proofs.table.place_of.Given as goal
 
 abbrev pub invariant-loop-i : goal.invariant-loop-i
-invariant-loop-i l = (l.i ≤ l.count) × ((store : List ℕ)
-    → place_of (requests_of l.table store) l.id ≡ l.i + place_of (drop l.i (requests_of l.table store)) l.id)
-
-abbrev pub decreases-loop-i : goal.decreases-loop-i
-decreases-loop-i l = l.count - l.i
+invariant-loop-i l = (store : List ℕ)
+    → place_of (requests_of l.table store) l.id ≡ l.i + place_of (drop l.i (requests_of l.table store)) l.id

@@ -1,4 +1,0 @@
-use Rattle.server_part.proofs.aborted.Goals as goal
-
-pub returns : goal.returns
-returns c = simp c.with_life.ensures
