@@ -1,4 +1,6 @@
 // The questions: they change nothing.
+ghost use Rattle.std.specs.Prelude.{◌≤◌, length};
+
 use crate::command::Question;
 use crate::correction::tell_correct;
 use connection::answer::Refusal;
@@ -109,10 +111,24 @@ fn tell_counts(page: &mut Page, m: &Memory, slot: usize) -> io::Result<()> {
     page.end_line()
 }
 
+// How many bytes are zero: a sum without a branch, so that a compiler takes many bytes at a time.
+fn zero_count(bytes: &[u8]) -> usize
+    ensures { result ≤ length bytes.now }
+{
+    let mut zeros = 0;
+    for b in bytes {
+        zeros += usize::from(*b == 0);
+    }
+    zeros
+}
+
 // How many bytes of the store are not zero, and where the first and the last of them lie.
 fn tell_store(page: &mut Page, store: &[u8]) -> io::Result<()> {
-    let set = store.iter().filter(|b| **b != 0).count();
+    let set = store.len() - zero_count(store);
     page.put_number(b"store ", set as u64)?;
+    if set == 0 {
+        return page.end_line();
+    }
     if let Some(first) = store.iter().position(|b| *b != 0) {
         page.put_number(b" ", first as u64)?;
     }

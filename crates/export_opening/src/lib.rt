@@ -15,7 +15,8 @@ pub fn past(from: usize, n: usize, end: usize) -> usize
 }
 
 // A call that reads what came in. It is given as a type, so that a library of its own has just that one call: `step`
-// and `next_event` are measured apart, since a compiler makes other code of a call that stands beside others.
+// and `next_event` are measured apart, since a compiler makes other code of a call that stands beside others. No call
+// uses more than it is lent.
 pub trait Reads {
     fn read(
         conn: Conn,
@@ -23,7 +24,8 @@ pub trait Reads {
         gathered: &mut [u8; QUERY],
         waits: &mut [u16; WAITS],
         bytes: &[u8],
-    ) -> Stepped;
+    ) -> Stepped
+        ensures { result.used ≤ length bytes.now };
 }
 
 // How far an input is fed: the connection, the bytes used, where their piece ends, and the digest of what was told.
@@ -68,7 +70,7 @@ fn feed_to<R: Reads>(
             };
         }
         sum = mix(sum, read.result);
-        used = past(used, read.used, input.len());
+        used += read.used;
     }
     Feed {
         conn,

@@ -2,9 +2,8 @@
 // lent beside the state: they answer as without a queue, but for row 9, which is wider.
 #![tactic(auto)]
 
-ghost use Rattle.std.specs.Prelude.{◌≡◌, List, ℕ, length, Ok, Err, if◌then◌else◌};
+ghost use Rattle.std.specs.Prelude.{◌≡◌, List, ℕ, length, Some, None, if◌then◌else◌};
 ghost use Rattle.connection.specs.Sizes.{SLOTS};
-ghost use Rattle.connection.specs.declared.answer.Refusal.{Refusal};
 ghost use Rattle.call_count.specs.Answer.{counted_by};
 ghost use Rattle.call_request.specs.Answer.{request_by};
 ghost use Rattle.call_value.specs.Answer.{source_by, numbered_by};
@@ -31,26 +30,26 @@ use queue::sizes::WAITS;
 use queue_admit::is_barred;
 use wait_numbers::waits_fit;
 
-// Row 9's part on what waits, of a call that is not lent the store.
-fn fit(c: Conn, waits: &[u16; WAITS]) -> Result<(), Refusal>
-    ensures { result
-        ≡ (if waits_fit SLOTS waits.now c.table.occupied 0 then Ok tt else Err Refusal.OutOfShape) }
+// Row 9's part on what waits, of a call that is not lent the store: none where it is out of shape.
+fn fit(waits: &[u16; WAITS], occupied: u16) -> Option<()>
+    ensures { result ≡ (if waits_fit SLOTS waits.now occupied 0 then Some tt else None) }
 {
-    if waits_fit(waits, c.table.occupied) {
-        return Ok(());
+    if waits_fit(waits, occupied) {
+        return Some(());
     }
-    Err(Refusal::OutOfShape)
+    None
 }
 
-// The same of a call that is lent the store, if that has its size: before it comes row 2.
-fn heeded(c: Conn, waits: &[u16; WAITS], store: &[u8]) -> Result<(), Refusal>
+// The same of a call that is lent the store, if that has its size: before it comes row 2. The store is handed on, so
+// that nothing is read in it before.
+fn heeded<'a>(c: Conn, waits: &[u16; WAITS], store: &'a [u8]) -> Option<&'a [u8]>
     ensures { result
-        ≡ (if is_barred waits.now c.table.occupied (length store.now) then Err Refusal.OutOfShape else Ok tt) }
+        ≡ (if is_barred waits.now c.table.occupied (length store.now) then None else Some store.entry) }
 {
     if is_barred(waits, c.table.occupied, store.len()) {
-        return Err(Refusal::OutOfShape);
+        return None;
     }
-    Ok(())
+    Some(store)
 }
 
 // The value of the first pair with that name, as a part of the store; the fallback where there is none, and where
@@ -86,7 +85,10 @@ pub fn value_source(
     ensures { (gathered marks queue : List ℕ) → source_by result
         ≡ queue_source (lent c gathered store.now waits.now marks queue) id name.now }
 {
-    heeded(c, waits, store).and(source_alone(c, store, id, name))
+    let Some(heeded) = heeded(c, waits, store) else {
+        return Err(Refusal::OutOfShape);
+    };
+    source_alone(c, heeded, id, name)
 }
 
 // The pair of number k, counted from 0. Refusals 2, 9, 1, 3, 4, 7.
@@ -100,7 +102,8 @@ pub fn pair_at(
     ensures { (gathered marks queue : List ℕ) → numbered_by result
         ≡ queue_pair (lent c gathered store.now waits.now marks queue) id k }
 {
-    heeded(c, waits, store).and(pair_alone(c, store, id, k))
+    let whole = heeded(c, waits, store).ok_or(Refusal::OutOfShape)?;
+    pair_alone(c, whole, id, k)
 }
 
 // The list of the request that a call names, as the part of the store that it is; an empty part when refused.
@@ -152,7 +155,12 @@ pub fn pair_from(
 ) -> Result<Read, Refusal>
     ensures { read_by result ≡ queue_read_from c waits.now store.now id place }
 {
-    heeded(c, waits, store).and(from_alone(c, store, id, place))
+    from_alone(
+        c,
+        heeded(c, waits, store).ok_or(Refusal::OutOfShape)?,
+        id,
+        place,
+    )
 }
 
 // The request of an id: its id, the length of its list, and its state. From a queued finish until END is written it is
@@ -161,7 +169,9 @@ pub fn request_of(c: Conn, waits: &[u16; WAITS], id: u16) -> Result<Request, Ref
     ensures { (gathered store marks queue : List ℕ) → request_by result
         ≡ queue_request (lent c gathered store waits.now marks queue) id }
 {
-    fit(c, waits).and(request_alone(c, id))
+    let occupied = c.table.occupied;
+    fit(waits, occupied).ok_or(Refusal::OutOfShape)?;
+    request_alone(c, id)
 }
 
 // The number of active requests (rows 9 and 1).
@@ -169,5 +179,6 @@ pub fn active_count(c: Conn, waits: &[u16; WAITS]) -> Result<u32, Refusal>
     ensures { (gathered store marks queue : List ℕ) → counted_by result
         ≡ queue_count (lent c gathered store waits.now marks queue) }
 {
-    fit(c, waits).and(count_alone(c))
+    fit(waits, c.table.occupied).ok_or(Refusal::OutOfShape)?;
+    count_alone(c)
 }

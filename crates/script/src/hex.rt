@@ -1,7 +1,10 @@
 // Bytes in hex.
+ghost use Rattle.std.specs.Prelude.{◌<◌, IfSome};
 
 // What a digit stands for. A capital letter is none.
-fn digit_of(b: u8) -> Option<u8> {
+fn digit_of(b: u8) -> Option<u8>
+    ensures { IfSome result (λ d. d < 16) }
+{
     match b {
         b'0'..=b'9' => Some(b - b'0'),
         b'a'..=b'f' => Some(b - b'a' + 10),

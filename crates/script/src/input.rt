@@ -10,7 +10,7 @@ pub const LINE: usize = 140000;
 const PIECE: usize = 65536;
 
 // What was read of the input and not cut into lines yet lies in the piece between two places.
-#[derive(Drop)]
+#[derive(Clone, Copy)]
 pub struct Input<'a> {
     rt: &'a HostRuntime,
     piece: [u8; PIECE],

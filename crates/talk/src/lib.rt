@@ -6,7 +6,7 @@
 
 mod queued;
 
-ghost use Rattle.std.specs.Prelude.{◌≡◌, ◌<◌, ◌≤◌, List, ℕ, length};
+ghost use Rattle.std.specs.Prelude.{◌≡◌, ◌<◌, ◌≤◌, List, ℕ, length, min};
 ghost use Rattle.connection.specs.Slots.{no_requests};
 ghost use Rattle.connection.specs.Step.{no_frame, open_with, started};
 ghost use Rattle.conn_step.specs.Answer.{stepped_by};
@@ -183,6 +183,8 @@ impl Talk {
 // How much of a piece is read after a step that used so many bytes: all of it after one that was refused, which uses
 // none.
 fn used_of(piece: &[u8], used: usize) -> usize
+    ensures refused { used ≡ 0 → result ≡ length piece.now }
+    ensures read { 0 < used → result ≡ min used (length piece.now) }
     ensures within { result ≤ length piece.now }
     ensures forward { 0 < length piece.now → 0 < result }
 {

@@ -28,13 +28,16 @@ pub fn number_of_four(b3: u8, b2: u8, b1: u8, b0: u8) -> u32
     u32::from_be_bytes([b3, b2, b1, b0])
 }
 
-// Copies src into out at place `at`; where there is no room for all of it, nothing changes.
+// Copies src into out at place `at`; where there is no room for all of it, nothing changes. (A loop, since
+// `copy_from_slice` becomes a call of `memmove`, and libraries for C are to need `memcpy` and `memset` alone.)
 #[tactic(auto, using(crate::proofs::BufferLaws::copied_room, crate::proofs::BufferLaws::copied_none))]
 pub fn copy_into(out: &mut [u8], at: usize, src: &[u8])
     ensures { out.new ≡ copied out.old at src.now }
 {
     if at <= out.len() && src.len() <= out.len() - at {
-        out[at..at + src.len()].copy_from_slice(src);
+        for i in 0..src.len() {
+            out[at + i] = src[i];
+        }
     }
 }
 

@@ -1,12 +1,19 @@
-use Rattle.connection.specs.Sizes.{SLOTS}
-use Rattle.queue.specs.Calls.{waits_fit}
-use Rattle.std.proofs.Common.{sym, ◌∙◌}
-use Rattle.wire.specs.Test.{by_test}
+use Rattle.std.proofs.Common.{sym, ap, ◌∙◌}
+use Rattle.std.proofs.lemmas.Result.{err_from_is_err_and}
+use Rattle.connection.specs.RequestCalls.{RequestRefused}
+use Rattle.queue_list.proofs.BarLaws.{none_unfit, some_fit, err_none, ok_some}
 use Rattle.queue_list.proofs.ListLaws.{request_lost, request_alone}
 use Rattle.queue_list.proofs.request_of.Goals as goal
 
+pub returns-in_err-ok_or : goal.returns-in_err-ok_or
+returns-in_err-ok_or c =
+    let p = err_from_is_err_and c.from_residual.result c.from_residual.ensures.1 in
+    let e = err_none c.fit.result _ (sym c.ok_or.ensures.value ∙ c.in_err-ok_or.was) in
+    let t = none_unfit _ _ (sym e.0 ∙ c.fit.ensures) in
+    λ gathered store marks queue. rw (p.1, p.2) (ap RequestRefused e.1 ∙ sym (request_lost _ _ t))
+
 pub returns : goal.returns
 returns c =
-    λ gathered store marks queue. by_test (waits_fit SLOTS c.args.waits.now c.args.c.table.occupied 0)
-    (λ t. simp (c.and.ensures, c.fit.ensures, t) (c.request_of.ensures ∙ sym (request_alone _ _ t)))
-    (λ t. simp (c.and.ensures, c.fit.ensures, t) (sym (request_lost _ _ t)))
+    let s = ok_some c.fit.result _ (sym c.ok_or.ensures.value ∙ c.in_ok-ok_or.was) in
+    let t = some_fit _ _ _ (sym s ∙ c.fit.ensures) in
+    λ gathered store marks queue. c.request_of.ensures ∙ sym (request_alone _ _ t)

@@ -1,0 +1,12 @@
+use Rattle.std.proofs.Common.{◌≤◌, length, [], sym}
+use mathlib.Core.Path.{subst}
+use Rattle.connection.specs.Step.{Stepped}
+use Rattle.queue.specs.Calls.{lent}
+use Rattle.queue_read.proofs.ReadLaws.{step_inside}
+use Rattle.export_queue.proofs.StepsReads.read.Goals as goal
+
+pub returns : goal.returns
+returns c =
+    let a = c.args in
+    subst (λ (s : Stepped). s.used ≤ length a.bytes.now) (sym (c.step.ensures.0 [] []))
+    (step_inside (lent a.conn a.gathered.now a.store.now a.waits.now [] []) a.bytes.now)
